@@ -1,0 +1,38 @@
+-- Document 01, "Why a bound is too tight": "Sort the distinct memories downwards: class 1 is the largest. A job belongs
+-- to the last class whose memory still suffices."
+use Prim.Native.Nat.{ℕ, zero, suc}
+use mathlib.Core.Bool.{Bool, cond}
+use mathlib.Core.List.{List, [], _∷_}
+use lib.Dec.{leb, ltb, eqb}
+use Rattle.order.specs.Order.{Job, Order}
+use Rattle.sums.specs.Lists.{total, only, nth}
+
+-- x among falling numbers that are all distinct, at its place unless it is there already
+unfoldable pub insert : ℕ → List ℕ → List ℕ
+insert x [] = x ∷ []
+insert x (y ∷ ys) = cond (ltb y x) (x ∷ (y ∷ ys)) (cond (eqb x y) (y ∷ ys) (y ∷ insert x ys))
+
+-- the distinct numbers of a list, downwards
+unfoldable pub distinct : List ℕ → List ℕ
+distinct [] = []
+distinct (x ∷ xs) = insert x (distinct xs)
+
+-- the memory of class 1, of class 2, ..
+unfoldable pub classes : Order → List ℕ
+classes o = distinct (o .memories)
+
+-- how many of falling memories suffice for a need: the last that does is the need's class
+unfoldable pub lastThatSuffices : ℕ → List ℕ → ℕ
+lastThatSuffices need [] = 0
+lastThatSuffices need (m ∷ ms) = cond (leb need m) (suc (lastThatSuffices need ms)) 0
+
+-- the class of a job, from 1; a need of 0 belongs to the last class
+unfoldable pub classOf : Order → Job → ℕ
+classOf o job = lastThatSuffices (job .need) (classes o)
+
+-- the memory of class k, and how many processors have it
+unfoldable pub memoryOfClass : Order → ℕ → ℕ
+memoryOfClass o k = nth (classes o) k 0
+
+unfoldable pub processorsIn : Order → ℕ → ℕ
+processorsIn o k = total (o .memories) (λ m. only (eqb m (memoryOfClass o k)) 1)

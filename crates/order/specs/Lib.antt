@@ -1,0 +1,5 @@
+pub mod Order
+pub mod Class
+pub mod Refusals
+pub mod Table
+pub mod RefusalLaws

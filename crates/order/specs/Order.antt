@@ -1,0 +1,47 @@
+-- Document 01, "Order and file": an order is a list of processors and a list of jobs, numbered from 1 in input order.
+-- Times are whole minutes from a common start, minute 0.
+use Prim.Native.Nat.{ℕ, _≤_}
+use mathlib.Core.List.{List}
+use lib.IntN.{ℤ, pos, _+ℤ_}
+use lib.ListN.{length}
+use Rattle.sums.specs.Lists.{nth}
+
+-- a job: its working time, the minute by which it is due, the memory that it needs
+pub record Job : Type 0 where
+  pub time : ℕ
+  pub due : ℤ
+  pub need : ℕ
+
+-- an order: the memory of each processor, and the jobs
+pub record Order : Type 0 where
+  pub memories : List ℕ
+  pub jobs : List Job
+
+-- how many processors and jobs there are
+abbrev pub processorCount : Order → ℕ
+processorCount o = length (o .memories)
+
+abbrev pub jobCount : Order → ℕ
+jobCount o = length (o .jobs)
+
+-- k is the number of one of n things: they are numbered from 1
+abbrev pub Numbers : ℕ → ℕ → Type 0
+Numbers n k = (1 ≤ k) × (k ≤ n)
+
+-- the job and the memory that a number names; one that names none is never asked for
+abbrev pub noJob : Job
+noJob = record { time = 0; due = pos 0; need = 0 }
+
+abbrev pub jobOf : Order → ℕ → Job
+jobOf o j = nth (o .jobs) j noJob
+
+abbrev pub memoryOf : Order → ℕ → ℕ
+memoryOf o i = nth (o .memories) i 0
+
+-- "A job fits a processor whose memory is at least its need."
+abbrev pub Fits : Job → ℕ → Type 0
+Fits job memory = job .need ≤ memory
+
+-- "A job's end is its due time plus the bound." The bound may be any whole number, in the bound's range or not.
+unfoldable pub endOf : ℤ → Job → ℤ
+endOf bound job = job .due +ℤ bound

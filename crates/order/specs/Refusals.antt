@@ -1,0 +1,125 @@
+-- Document 01's refusal table. Each entry point judges by the rows that it uses, in the table's order, 12 before all:
+-- "Each is returned if its condition holds and that of no earlier one does, otherwise never."
+use Prim.Native.Nat.{ℕ, suc, _+_, _/_}
+use mathlib.Core.Path.{_≡_}
+use mathlib.Core.Bool.{Bool, true, false, cond, not, _&&_}
+use mathlib.Core.List.{List, [], _∷_, _++_}
+use lib.Dec.{leb, ltb, eqb}
+use lib.IntN.{ℤ, pos, negsuc}
+use lib.Signed.{leZ}
+use Rattle.order.specs.Order.{Job, Order, processorCount, jobCount}
+
+-- the most processors and jobs that an order may have
+pub record Limits : Type 0 where
+  pub processors : ℕ
+  pub jobs : ℕ
+
+abbrev pub limits : Limits
+limits = record { processors = 16; jobs = 48 }
+
+-- the most rows that the plan check takes, and the shortest and longest order file
+abbrev pub mostRows : ℕ
+mostRows = 3024
+
+abbrev pub shortestFile : ℕ
+shortestFile = 12
+
+abbrev pub longestFile : ℕ
+longestFile = 652
+
+-- what a row of the table finds: its condition does not hold, or it holds, and the refusal carries this number
+pub data Finding : Type 0 where
+  clear : Finding
+  holds : ℕ → Finding
+
+-- a row of the table: its number, and what it finds
+pub record TableRow : Type 0 where
+  pub number : ℕ
+  pub finding : Finding
+
+-- what a table answers: no row's condition holds, or a refusal with its number and the number that it carries
+pub data Verdict : Type 0 where
+  accepted : Verdict
+  refused : ℕ → ℕ → Verdict
+
+abbrev pub verdictOf : ℕ → Finding → Verdict → Verdict
+verdictOf number clear later = later
+verdictOf number (holds carried) later = refused number carried
+
+-- the first row whose condition holds
+unfoldable pub judge : List TableRow → Verdict
+judge [] = accepted
+judge (row ∷ rows) = verdictOf (row .number) (row .finding) (judge rows)
+
+-- a condition about no single job or processor: it carries 0
+abbrev pub whole : Bool → Finding
+whole true = holds 0
+whole false = clear
+
+-- a condition about single ones: it carries the number of the first for which it holds, counted from k + 1
+unfoldable pub firstAfter {ℓ} : {A : Type ℓ} → ℕ → (A → Bool) → List A → Finding
+firstAfter k test [] = clear
+firstAfter k test (x ∷ xs) = cond (test x) (holds (suc k)) (firstAfter (suc k) test xs)
+
+abbrev pub first {ℓ} : {A : Type ℓ} → (A → Bool) → List A → Finding
+first test xs = firstAfter 0 test xs
+
+-- "a time of 1 to 100,000, a due time of -1,000,000 to 1,000,000"
+abbrev pub timeInRange : ℕ → Bool
+timeInRange t = leb 1 t && leb t 100000
+
+abbrev pub dueInRange : ℤ → Bool
+dueInRange d = leZ (negsuc 999999) d && leZ d (pos 1000000)
+
+-- some memory is at least the need
+unfoldable pub fitsSome : ℕ → List ℕ → Bool
+fitsSome need [] = false
+fitsSome need (m ∷ ms) = cond (leb need m) true (fitsSome need ms)
+
+-- "A bound is a whole number of -10,000,000 to 10,000,000."
+abbrev pub boundInRange : ℤ → Bool
+boundInRange b = leZ (negsuc 9999999) b && leZ b (pos 10000000)
+
+abbrev pub row : ℕ → Finding → TableRow
+row number finding = record { number = number; finding = finding }
+
+-- rows 1 to 4, on the number of processors and of jobs
+abbrev pub countRows : Limits → ℕ → ℕ → List TableRow
+countRows most processors jobs =
+    row 1 (whole (eqb processors 0))
+    ∷ row 2 (whole (ltb (most .processors) processors))
+    ∷ row 3 (whole (eqb jobs 0))
+    ∷ row 4 (whole (ltb (most .jobs) jobs))
+    ∷ []
+
+-- rows 5 to 7: each carries the first job for which its condition holds
+abbrev pub jobRows : Order → List TableRow
+jobRows o =
+    row 5 (first (λ (job : Job). not (timeInRange (job .time))) (o .jobs))
+    ∷ row 6 (first (λ (job : Job). not (dueInRange (job .due))) (o .jobs))
+    ∷ row 7 (first (λ (job : Job). not (fitsSome (job .need) (o .memories))) (o .jobs))
+    ∷ []
+
+-- rows 1 to 7, the conditions on an order's processors and jobs
+abbrev pub orderRows : Limits → Order → List TableRow
+orderRows most o = countRows most (processorCount o) (jobCount o) ++ jobRows o
+
+-- row 8
+abbrev pub boundRow : ℤ → TableRow
+boundRow bound = row 8 (whole (not (boundInRange bound)))
+
+-- row 9: what is lent is below what is asked for, both in rows or both in bytes
+abbrev pub roomRow : ℕ → ℕ → TableRow
+roomRow lent asked = row 9 (whole (ltb lent asked))
+
+-- row 11: four numbers are a row, and one to three left over are one more
+abbrev pub rowsToCheckRow : ℕ → TableRow
+rowsToCheckRow numbers = row 11 (whole (ltb mostRows ((numbers + 3) / 4)))
+
+-- row 12, which precedes all others
+abbrev pub fileRow : Bool → TableRow
+fileRow good = row 12 (whole (not good))
+
+-- "An order is accepted if no condition on its processors or jobs holds, here rows 1 to 7."
+abbrev pub Accepted : Order → Type 0
+Accepted o = judge (orderRows limits o) ≡ accepted

@@ -1,0 +1,62 @@
+-- What the code's values stand for: the order of its struct, the number of each refusal and what it carries.
+use Prim.Native.Nat.{ℕ, zero, suc}
+use mathlib.Core.List.{List}
+use lib.IntN.{ℤ, pos}
+use lib.ListN.{length, getD}
+use Rattle.sums.specs.Lists.{tabulate}
+use Rattle.order.specs.Order.{Job, Order, noJob, processorCount, jobCount}
+use Rattle.order.specs.Refusals.{Limits, limits, Finding, clear, holds, Verdict, accepted, refused}
+use Rattle.order.specs.declared.Order.{Order as OrderTable}
+use Rattle.order.specs.declared.Refusal.{Refusal}
+use Rattle.order.specs.declared.Refusal.the-variants.{
+  NoProcessor, TooManyProcessors, NoJob, TooManyJobs, TimeOutOfRange, DueOutOfRange, FitsNoProcessor,
+  BoundOutOfRange, BufferTooShort, TooManyRows, BadFile,
+}
+use Rattle.order.specs.declared.Acceptance.{Acceptance}
+use Rattle.order.specs.declared.Acceptance.the-variants.{Accepted, Refused}
+
+-- job number j + 1 of a struct
+abbrev pub jobAt : OrderTable → ℕ → Job
+jobAt t j = record { time = getD (t .times) j 0; due = getD (t .dues) j (pos 0); need = getD (t .needs) j 0 }
+
+-- the order of a struct: as many processors and jobs as it counts, zeros behind the end of its arrays
+abbrev pub orderOf : OrderTable → Order
+orderOf t = record {
+  memories = tabulate (t .processors) (λ i. getD (t .memories) i 0);
+  jobs = tabulate (t .jobs) (jobAt t);
+}
+
+-- an order as a struct: 0 beyond the counts
+unfoldable pub tableOf : Order → OrderTable
+tableOf o = record {
+  processors = processorCount o;
+  memories = tabulate (limits .processors) (λ i. getD (o .memories) i 0);
+  jobs = jobCount o;
+  times = tabulate (limits .jobs) (λ j. getD (o .jobs) j noJob .time);
+  dues = tabulate (limits .jobs) (λ j. getD (o .jobs) j noJob .due);
+  needs = tabulate (limits .jobs) (λ j. getD (o .jobs) j noJob .need);
+}
+
+-- document 01's number of a refusal, and the job that it carries
+abbrev pub refusalTold : Refusal → Verdict
+refusalTold NoProcessor = refused 1 0
+refusalTold TooManyProcessors = refused 2 0
+refusalTold NoJob = refused 3 0
+refusalTold TooManyJobs = refused 4 0
+refusalTold (TimeOutOfRange job) = refused 5 job
+refusalTold (DueOutOfRange job) = refused 6 job
+refusalTold (FitsNoProcessor job) = refused 7 job
+refusalTold BoundOutOfRange = refused 8 0
+refusalTold BufferTooShort = refused 9 0
+refusalTold TooManyRows = refused 11 0
+refusalTold BadFile = refused 12 0
+
+-- the answer of acceptance
+abbrev pub acceptanceTold : Acceptance → Verdict
+acceptanceTold Accepted = accepted
+acceptanceTold (Refused refusal) = refusalTold refusal
+
+-- a number that stands for a finding: 0 where there is none, else the job
+abbrev pub findingOf : ℕ → Finding
+findingOf zero = clear
+findingOf (suc j) = holds (suc j)

@@ -1,0 +1,135 @@
+// Acceptance of an order: refusals 1 to 7, for every entry point. `first_bad_time`, `first_bad_due` and `first_unfit` serve
+// `accept` alone and have a `requires`.
+use super::Acceptance;
+use super::MOST_JOBS;
+use super::MOST_PROCESSORS;
+use super::Order;
+use super::Refusal;
+ghost use mathlib.Core.Path.{_≡_};
+ghost use Prim.Native.Nat.{ℕ, _≤_};
+ghost use mathlib.Core.Bool.{not};
+ghost use Rattle.sums.specs.Lists.{tabulate};
+ghost use lib.ListN.{getD};
+ghost use Rattle.order.specs.Order.{Job};
+ghost use Rattle.order.specs.Refusals.{judge, countRows, orderRows, limits, first, timeInRange, dueInRange, fitsSome};
+ghost use Rattle.order.specs.Table.{orderOf, acceptanceTold, findingOf};
+
+// Rows 1 to 4 of the table, on the counts alone.
+pub fn accept_counts(processors: u32, jobs: u32) -> Acceptance
+    ensures { λ r. ⌜ acceptanceTold r ≡ judge (countRows limits processors jobs) ⌝ }
+{
+    if processors == 0 {
+        return Acceptance::Refused(Refusal::NoProcessor);
+    }
+    if MOST_PROCESSORS < processors {
+        return Acceptance::Refused(Refusal::TooManyProcessors);
+    }
+    if jobs == 0 {
+        return Acceptance::Refused(Refusal::NoJob);
+    }
+    if MOST_JOBS < jobs {
+        return Acceptance::Refused(Refusal::TooManyJobs);
+    }
+    Acceptance::Accepted
+}
+
+// The first job whose time is not in range, or 0.
+fn first_bad_time(order: Order) -> u32
+    requires { ⌜ order .jobs ≤ 48 ⌝ }
+    ensures { λ r. ⌜ findingOf r ≡ first (λ (job : Job). not (timeInRange (job .time))) (orderOf order .jobs) ⌝ }
+{
+    let jobs = order.jobs as usize;
+    let mut j: usize = 0;
+    while j < jobs {
+        let time = order.times[j];
+        j += 1;
+        if time < 1 {
+            return j as u32;
+        }
+        if 100000 < time {
+            return j as u32;
+        }
+    }
+    0
+}
+
+// The first job whose due time is not in range, or 0.
+fn first_bad_due(order: Order) -> u32
+    requires { ⌜ order .jobs ≤ 48 ⌝ }
+    ensures { λ r. ⌜ findingOf r ≡ first (λ (job : Job). not (dueInRange (job .due))) (orderOf order .jobs) ⌝ }
+{
+    let jobs = order.jobs as usize;
+    let mut j: usize = 0;
+    while j < jobs {
+        let good = due_in_range(order.dues[j]);
+        j += 1;
+        if !good {
+            return j as u32;
+        }
+    }
+    0
+}
+
+fn due_in_range(due: i32) -> bool
+    ensures { λ r. ⌜ r ≡ dueInRange due ⌝ }
+{
+    if -1000000 <= due {
+        return due <= 1000000;
+    }
+    false
+}
+
+// Whether some processor has at least this memory.
+fn fits_some(order: Order, need: u32) -> bool
+    requires { ⌜ order .processors ≤ 16 ⌝ }
+    ensures { λ r. ⌜ r ≡ fitsSome need (orderOf order .memories) ⌝ }
+{
+    let processors = order.processors as usize;
+    let mut i: usize = 0;
+    while i < processors {
+        if need <= order.memories[i] {
+            return true;
+        }
+        i += 1;
+    }
+    false
+}
+
+// The first job that fits no processor, or 0.
+fn first_unfit(order: Order) -> u32
+    requires { ⌜ (order .processors ≤ 16) × (order .jobs ≤ 48) ⌝ }
+    ensures { λ r. ⌜ findingOf r ≡ first (λ (job : Job). not (fitsSome (job .need) (orderOf order .memories))) (orderOf order .jobs) ⌝ }
+{
+    let jobs = order.jobs as usize;
+    let mut j: usize = 0;
+    while j < jobs {
+        let fits = fits_some(order, order.needs[j]);
+        j += 1;
+        if !fits {
+            return j as u32;
+        }
+    }
+    0
+}
+
+// Rows 1 to 7 of the table.
+pub fn accept(order: Order) -> Acceptance
+    ensures { λ r. ⌜ acceptanceTold r ≡ judge (orderRows limits (orderOf order)) ⌝ }
+{
+    let Acceptance::Accepted = accept_counts(order.processors, order.jobs) else {
+        return accept_counts(order.processors, order.jobs);
+    };
+    let time = first_bad_time(order);
+    if 0 < time {
+        return Acceptance::Refused(Refusal::TimeOutOfRange(time));
+    }
+    let due = first_bad_due(order);
+    if 0 < due {
+        return Acceptance::Refused(Refusal::DueOutOfRange(due));
+    }
+    let need = first_unfit(order);
+    if 0 < need {
+        return Acceptance::Refused(Refusal::FitsNoProcessor(need));
+    }
+    Acceptance::Accepted
+}

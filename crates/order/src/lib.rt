@@ -1,0 +1,38 @@
+// What an order is (document 01, "Order and file"), and whether it is accepted.
+pub mod accept; // refusals 1 to 7
+pub mod deadline; // a job's end, cut off at minute 0
+
+// The limits on processors and jobs; the arrays below are as long.
+pub const MOST_PROCESSORS: u32 = 16;
+pub const MOST_JOBS: u32 = 48;
+
+// An order: counts, and a column for each number of a processor or a job. It stands for the list of as many as it counts,
+// zeros behind the end of an array.
+pub struct Order {
+    pub processors: u32,
+    pub memories: [u32; 16],
+    pub jobs: u32,
+    pub times: [u32; 48],
+    pub dues: [i32; 48],
+    pub needs: [u32; 48],
+}
+
+// Document 01's refusals but 10, which comes with its reason; where one carries a job, the job's number.
+pub enum Refusal {
+    NoProcessor,
+    TooManyProcessors,
+    NoJob,
+    TooManyJobs,
+    TimeOutOfRange(u32),
+    DueOutOfRange(u32),
+    FitsNoProcessor(u32),
+    BoundOutOfRange,
+    BufferTooShort,
+    TooManyRows,
+    BadFile,
+}
+
+pub enum Acceptance {
+    Accepted,
+    Refused(Refusal),
+}

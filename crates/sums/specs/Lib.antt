@@ -1,0 +1,4 @@
+pub mod Sum
+pub mod Gate
+pub mod Lists
+pub mod ListLaws

@@ -1,0 +1,35 @@
+-- Lists: what holds of each member, what holds of each two, sums over the members, a list given by its places.
+use Prim.Native.Nat.{ℕ, zero, suc, _+_}
+use mathlib.Core.Bool.{Bool, true, false}
+use mathlib.Core.List.{List, [], _∷_}
+use lib.ListN.{getD}
+
+-- P holds of each member
+abbrev pub All {ℓ} : {A : Type ℓ} → (A → Type 0) → List A → Type 0
+All P [] = Unit {0}
+All P (x ∷ xs) = P x × All P xs
+
+-- R holds of each member and each later one
+abbrev pub Pairwise {ℓ} : {A : Type ℓ} → (A → A → Type 0) → List A → Type 0
+Pairwise R [] = Unit {0}
+Pairwise R (x ∷ xs) = All (R x) xs × Pairwise R xs
+
+-- the sum of f over the members
+abbrev pub total {ℓ} : {A : Type ℓ} → List A → (A → ℕ) → ℕ
+total [] f = 0
+total (x ∷ xs) f = f x + total xs f
+
+-- x where the test is passed, else 0
+abbrev pub only : Bool → ℕ → ℕ
+only true x = x
+only false x = 0
+
+-- f 0, f 1, .. f (n - 1)
+abbrev pub tabulate {ℓ} : {A : Type ℓ} → ℕ → (ℕ → A) → List A
+tabulate zero f = []
+tabulate (suc n) f = f 0 ∷ tabulate n (λ i. f (suc i))
+
+-- the member with number k, counted from 1; d where there is none
+abbrev pub nth {ℓ} : {A : Type ℓ} → List A → ℕ → A → A
+nth xs zero d = d
+nth xs (suc k) d = getD xs k d

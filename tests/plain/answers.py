@@ -1,0 +1,85 @@
+"""What each entry point answers, as the lines of the expected outputs.
+
+Document 01: "The planner uses 1 to 10 (least lateness: not 8 and 10), the check
+1 to 8 and 11, the reader 1 to 7 and 12, the writer 1 to 7 and 9." "The lowest
+applicable number is given". Row 9 for the planner: "lent buffer too short:
+below q × (n + m - 1) rows"; one to three numbers left over are "in the planner
+no further row of the buffer".
+"""
+
+import least
+import order_file
+import order_text
+import orders
+import plan_check
+import reason
+import reason_large
+
+
+def refused(refusal):
+    return [f"refused {refusal.number} {refusal.carried}"]
+
+
+def read(data):
+    answer = order_file.read(data)
+    if isinstance(answer, orders.Refusal):
+        return refused(answer)
+    return [f"order {answer.m} {answer.n}"] + order_text.lines(answer)
+
+
+def check(order, bound, numbers):
+    answer = plan_check.answer(order, bound, numbers)
+    if isinstance(answer, orders.Refusal):
+        return refused(answer)
+    return ["yes" if answer else "no"]
+
+
+def write(order, room):
+    answer = order_file.write(order, room)
+    if isinstance(answer, orders.Refusal):
+        return refused(answer)
+    return [f"file {len(answer)} {answer.hex()}"]
+
+
+def planner_refusal(order, room, bound=None):
+    """Rows 1 to 7, then 8 (if there is a bound), then 9."""
+    refusal = orders.refusal(order)
+    if refusal:
+        return refusal
+    if bound is not None and not orders.bound_in_range(bound):
+        return orders.Refusal(8, 0)
+    if room // 4 < orders.rows_needed(order):
+        return orders.Refusal(9, 0)
+    return None
+
+
+def least_lateness(order, room):
+    refusal = planner_refusal(order, room)
+    if refusal:
+        return refused(refusal)
+    return [f"least {least.least(order)}"]
+
+
+def few_staircases(order):
+    """Can all staircases be gone through in no time?"""
+    return (len(set(order.memories)) <= 4
+            and len({job.due for job in order.jobs}) <= 8)
+
+
+def why_tight(order, bound):
+    """The reason, by going through all staircases where they are few."""
+    if few_staircases(order):
+        return reason.reason(order, bound)
+    return reason.reason(order, bound, reason_large.first_overfull)
+
+
+def plan(order, bound, room):
+    refusal = planner_refusal(order, room, bound)
+    if refusal:
+        return refused(refusal)
+    why = why_tight(order, bound)
+    if why is None:
+        return ["meets"]
+    if why.kind == "job":
+        return [f"tight job {why.values}"]
+    return ["tight stairs " + " ".join(map(str, why.values))]

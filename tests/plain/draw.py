@@ -1,0 +1,82 @@
+"""Drawn orders, always the same for the same seed.
+
+Document 01: "compared with a plain search over small orders". The orders have
+equal memories, equal jobs, ties in need, needs of 0 and of 4,294,967,295,
+negative due times and due times that are all equal.
+"""
+
+import orders
+
+MEMORIES = ((4,), (0,), (4294967295,), (4, 8), (0, 4294967295), (1, 2, 3),
+            (0, 1, 4294967295), (2, 4, 8), (4294967294, 4294967295))
+
+
+class Draw:
+    """Numbers from a seed: a linear congruence of 64 bits."""
+
+    def __init__(self, seed):
+        self.state = seed
+
+    def below(self, count):
+        self.state = (self.state * 6364136223846793005
+                      + 1442695040888963407) % (1 << 64)
+        return (self.state >> 20) % count
+
+    def between(self, low, high):
+        return low + self.below(high - low + 1)
+
+    def one_of(self, items):
+        return items[self.below(len(items))]
+
+    def shuffled(self, items):
+        items = list(items)
+        for place in range(len(items) - 1, 0, -1):
+            other = self.below(place + 1)
+            items[place], items[other] = items[other], items[place]
+        return items
+
+
+def need(draw, memories):
+    """A need that fits: a memory of the list, one beside it, or 0."""
+    memory = draw.one_of(memories)
+    near = draw.one_of((memory, memory, memory - 1, memory + 1, 0))
+    return min(max(near, 0), max(memories))
+
+
+def accepted(draw, m, n, time_most, due_span):
+    """An accepted order of m processors and n jobs."""
+    palette = draw.one_of(MEMORIES)
+    memories = [draw.one_of(palette) for _ in range(m)]
+    first = draw.one_of((0, 0, 1, -3, 3, -due_span))
+    span = draw.one_of((0, 1, 2, due_span))
+    jobs = []
+    for _ in range(n):
+        if jobs and draw.below(4) == 0:
+            jobs.append(draw.one_of(jobs))
+            continue
+        jobs.append((draw.between(1, time_most), first + draw.between(0, span),
+                     need(draw, memories)))
+    return orders.order(memories, jobs)
+
+
+def tiny(draw):
+    """Up to 3 processors and 4 jobs of times up to 3."""
+    return accepted(draw, draw.between(1, 3), draw.between(1, 4), 3, 5)
+
+
+def crowded(draw):
+    """Tiny with many jobs, so that staircases decide more often."""
+    return accepted(draw, draw.between(2, 3), 4, 3, 3)
+
+
+def middle(draw):
+    """Up to 5 processors and 8 jobs of times up to 20."""
+    return accepted(draw, draw.between(1, 5), draw.between(1, 8), 20, 25)
+
+
+def wide(draw, m, n, time_most, due_most):
+    """Memories, times and due times over a whole range."""
+    memories = [draw.between(0, 4294967295) for _ in range(m)]
+    jobs = [(draw.between(1, time_most), draw.between(-due_most, due_most),
+             draw.between(0, max(memories))) for _ in range(n)]
+    return orders.order(memories, jobs)

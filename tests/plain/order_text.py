@@ -1,0 +1,81 @@
+"""An order as text written by a person: one line a processor, one a job.
+
+    processor MEMORY
+    job TIME DUE NEED
+
+Blank lines, and everything from `#` to the end of a line, say nothing.
+Document 01: "Jobs and processors carry numbers from 1 in input order." Numbers
+may be out of the order's ranges, so that refused orders can be written too;
+they have to fit the bytes of the order file. "Base ten is meant".
+"""
+
+import re
+
+import orders
+
+WORD = (0, orders.WORD_MOST)
+SIGNED = (-2147483648, 2147483647)
+FIELDS = {
+    "processor": (("memory", WORD),),
+    "job": (("time", WORD), ("due time", SIGNED), ("need", WORD)),
+}
+COUNT_MOST = 65535
+
+
+class TextError(Exception):
+    """Text that is no order; the message names the line."""
+
+
+def number(word, name, limits, line):
+    """One number of a line, if it is one and fits its bytes in the file."""
+    if not re.fullmatch("-?[0-9]+", word):
+        raise TextError(f"line {line}: {name} '{word}' is not a whole number")
+    value = int(word)
+    if not limits[0] <= value <= limits[1]:
+        raise TextError(f"line {line}: {name} {value} does not fit the file: "
+                        f"{limits[0]} to {limits[1]}")
+    return value
+
+
+def numbers(words, line):
+    """The numbers of a line that begins with `processor` or `job`."""
+    kind, given = words[0], words[1:]
+    if kind not in FIELDS:
+        raise TextError(f"line {line}: a line begins with 'processor' or 'job', "
+                        f"not '{kind}'")
+    fields = FIELDS[kind]
+    if len(given) != len(fields):
+        wanted = ", ".join(name for name, _ in fields)
+        raise TextError(f"line {line}: after '{kind}' stand {len(fields)} "
+                        f"({wanted}), not {len(given)}")
+    return [number(word, name, limits, line)
+            for word, (name, limits) in zip(given, fields)]
+
+
+def parse(text):
+    """The order of a text."""
+    memories, jobs = [], []
+    for line, content in enumerate(text.split("\n"), 1):
+        words = content.split("#")[0].split()
+        if not words:
+            continue
+        values = numbers(words, line)
+        if words[0] == "processor":
+            memories.append(values[0])
+        else:
+            jobs.append(values)
+    for name, items in (("processors", memories), ("jobs", jobs)):
+        if len(items) > COUNT_MOST:
+            raise TextError(f"{len(items)} {name} do not fit the file: "
+                            f"at most {COUNT_MOST}")
+    return orders.order(memories, jobs)
+
+
+def lines(order):
+    """The lines of an order, processors first."""
+    return ([f"processor {memory}" for memory in order.memories]
+            + [f"job {job.time} {job.due} {job.need}" for job in order.jobs])
+
+
+def text(order):
+    return "".join(line + "\n" for line in lines(order))

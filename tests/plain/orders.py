@@ -1,0 +1,114 @@
+"""An order, its limits and refusals 1 to 7.
+
+Document 01: "A processor has a memory, 0 to 4,294,967,295. There are 1 to 16."
+"A job has a time of 1 to 100,000, a due time of -1,000,000 to 1,000,000 and a
+need of 0 to 4,294,967,295. There are 1 to 48. A job fits a processor whose
+memory is at least its need." "A bound is a whole number of -10,000,000 to
+10,000,000. A job's end is its due time plus the bound." "Jobs and processors
+carry numbers from 1 in input order."
+"""
+
+from collections import namedtuple
+
+WORD_MOST = 4294967295
+PROCESSORS_MOST = 16
+JOBS_MOST = 48
+TIME_LEAST, TIME_MOST = 1, 100000
+DUE_LEAST, DUE_MOST = -1000000, 1000000
+BOUND_LEAST, BOUND_MOST = -10000000, 10000000
+
+Job = namedtuple("Job", "time due need")
+Order = namedtuple("Order", "memories jobs m n")
+Refusal = namedtuple("Refusal", "number carried")
+
+
+def order(memories, jobs, m=None, n=None):
+    """An order of these lists. A count m or n beyond the list given stands for
+    the list of that many: the given ones, then zeros."""
+    memories = tuple(memories)
+    jobs = tuple(Job(*job) for job in jobs)
+    return Order(memories, jobs,
+                 len(memories) if m is None else m,
+                 len(jobs) if n is None else n)
+
+
+def fits(job, memory):
+    # "A job fits a processor whose memory is at least its need."
+    return memory >= job.need
+
+
+def end(job, bound):
+    # "A job's end is its due time plus the bound."
+    return job.due + bound
+
+
+def first_job(an_order, holds):
+    """The number of the first job for which this holds, else None."""
+    for number, job in enumerate(an_order.jobs, 1):
+        if holds(job):
+            return number
+    return None
+
+
+def no_processor(an_order):
+    return 0 if an_order.m == 0 else None
+
+
+def over_16_processors(an_order):
+    return 0 if an_order.m > PROCESSORS_MOST else None
+
+
+def no_job(an_order):
+    return 0 if an_order.n == 0 else None
+
+
+def over_48_jobs(an_order):
+    return 0 if an_order.n > JOBS_MOST else None
+
+
+def time_not_in_range(an_order):
+    return first_job(
+        an_order, lambda job: not TIME_LEAST <= job.time <= TIME_MOST)
+
+
+def due_not_in_range(an_order):
+    return first_job(
+        an_order, lambda job: not DUE_LEAST <= job.due <= DUE_MOST)
+
+
+def fits_no_processor(an_order):
+    return first_job(an_order, lambda job: not any(
+        fits(job, memory) for memory in an_order.memories))
+
+
+# Rows 1 to 7 of the refusal table, each with its condition. A condition gives
+# the number that the refusal carries (a job's, else 0), or None.
+ROWS = (
+    (1, no_processor),
+    (2, over_16_processors),
+    (3, no_job),
+    (4, over_48_jobs),
+    (5, time_not_in_range),
+    (6, due_not_in_range),
+    (7, fits_no_processor),
+)
+
+
+def refusal(an_order):
+    """None if the order is accepted, else "the lowest applicable number"."""
+    for number, condition in ROWS:
+        carried = condition(an_order)
+        if carried is not None:
+            return Refusal(number, carried)
+    return None
+
+
+def bound_in_range(bound):
+    return BOUND_LEAST <= bound <= BOUND_MOST
+
+
+def rows_needed(an_order):
+    # "With q distinct due times, n jobs and m processors there are at most
+    # q × (n + m - 1) rows."
+    distinct = len({job.due for job in an_order.jobs})
+    return distinct * (an_order.n + an_order.m - 1)

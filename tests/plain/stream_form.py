@@ -1,0 +1,107 @@
+"""The form of a stream of cases, as the test programs read it.
+
+A stream is a sequence of records; every number takes 4 bytes, little-endian
+(bounds and due times two's complement). A record begins with its kind:
+
+    0  end of the stream
+    1  read   F, then the F bytes of a file
+    2  check  ORDER, bound, R, then R numbers (the lent rows)
+    3  least  ORDER, room (numbers that the lent row buffer holds)
+    4  plan   ORDER, bound, room (numbers)
+    5  write  ORDER, room (bytes of the lent buffer)
+
+ORDER is m, n, then min(m, 16) memories, then min(n, 48) jobs as time, due, need.
+A count beyond its array stands for the list of that many: the given ones, then
+zeros. Document 01: "All are little-endian; the due time is two's complement."
+"""
+
+import struct
+from collections import namedtuple
+
+import orders
+
+KINDS = {"read": 1, "check": 2, "least": 3, "plan": 4, "write": 5}
+WORD_COUNT = 4294967296
+
+# `values` are the arguments of the entry point, as answers.py takes them.
+Record = namedtuple("Record", "kind values")
+
+
+def words(*numbers):
+    return struct.pack(f"<{len(numbers)}I",
+                       *(number % WORD_COUNT for number in numbers))
+
+
+def pack_order(order):
+    memories = order.memories[:orders.PROCESSORS_MOST]
+    jobs = order.jobs[:orders.JOBS_MOST]
+    assert len(memories) == min(order.m, orders.PROCESSORS_MOST)
+    assert len(jobs) == min(order.n, orders.JOBS_MOST)
+    return words(order.m, order.n, *memories, *(x for job in jobs for x in job))
+
+
+def pack(record):
+    """The bytes of one record."""
+    head = words(KINDS[record.kind])
+    if record.kind == "read":
+        data, = record.values
+        return head + words(len(data)) + data
+    order, *numbers = record.values
+    if record.kind == "check":
+        bound, rows = numbers
+        numbers = [bound, len(rows), *rows]
+    return head + pack_order(order) + words(*numbers)
+
+
+def stream(records):
+    return b"".join(map(pack, records)) + words(0)
+
+
+class Source:
+    """Takes a stream apart again."""
+
+    def __init__(self, data):
+        self.data, self.at = data, 0
+
+    def word(self):
+        value, = struct.unpack_from("<I", self.data, self.at)
+        self.at += 4
+        return value
+
+    def signed(self):
+        value, = struct.unpack_from("<i", self.data, self.at)
+        self.at += 4
+        return value
+
+    def order(self):
+        m, n = self.word(), self.word()
+        memories = [self.word() for _ in range(min(m, orders.PROCESSORS_MOST))]
+        jobs = [(self.word(), self.signed(), self.word())
+                for _ in range(min(n, orders.JOBS_MOST))]
+        return orders.order(memories, jobs, m, n)
+
+    def values(self, kind):
+        if kind == "read":
+            length = self.word()
+            self.at += length
+            return (self.data[self.at - length:self.at],)
+        order = self.order()
+        if kind == "check":
+            bound, count = self.signed(), self.word()
+            return order, bound, [self.word() for _ in range(count)]
+        if kind == "plan":
+            return order, self.signed(), self.word()
+        return order, self.word()
+
+
+def unpack(data):
+    """The records of a stream."""
+    names = {number: name for name, number in KINDS.items()}
+    source, records = Source(data), []
+    while True:
+        number = source.word()
+        if number == 0:
+            assert source.at == len(data)
+            return records
+        kind = names[number]
+        records.append(Record(kind, source.values(kind)))
