@@ -74,6 +74,16 @@ def middle(draw):
     return accepted(draw, draw.between(1, 5), draw.between(1, 8), 20, 25)
 
 
+def steep(draw):
+    """Three or four classes; the smaller the need, the earlier it is due."""
+    count = draw.between(3, 4)
+    memories = draw.shuffled(range(1, count + 1))
+    needs = [draw.between(1, count) for _ in range(draw.between(count, 8))]
+    return orders.order(memories, [
+        (draw.between(1, 6), 3 * need + draw.between(0, 2), need)
+        for need in needs])
+
+
 def wide(draw, m, n, time_most, due_most):
     """Memories, times and due times over a whole range."""
     memories = [draw.between(0, 4294967295) for _ in range(m)]

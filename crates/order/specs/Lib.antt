@@ -1,5 +1,6 @@
 pub mod Order
 pub mod Class
+pub mod Deadline
 pub mod Refusals
 pub mod Table
 pub mod RefusalLaws

@@ -12,8 +12,8 @@ use lib.Dec.{T, leb, ltb, eqb}
 use lib.ListN.{length, getD}
 use lib.IntN.{ℤ, pos, negsuc}
 use lib.Signed.{leZ, _≤ℤ_}
-use Rattle.sums.specs.Lists.{All, nth}
-use Rattle.sums.specs.ListLaws.{All-map}
+use Rattle.sums.specs.Lists.{All, nth, tabulate}
+use Rattle.sums.specs.ListLaws.{All-map, All-from, length-tabulate, getD-tabulate}
 use Rattle.order.specs.Order.{Job, Order, Numbers, Fits, processorCount, jobCount, memoryOf}
 use Rattle.order.specs.Refusals.{
   Limits, limits, Finding, clear, holds, TableRow, Verdict, accepted, refused, verdictOf, judge, whole, firstAfter, first,
@@ -206,6 +206,13 @@ pub record Acceptable (o : Order) : Type 0 where
   pub dues : All (λ (job : Job). (negsuc 999999 ≤ℤ job .due) × (job .due ≤ℤ pos 1000000)) (o .jobs)
   pub fit : All (λ (job : Job). (i : ℕ) × Numbers (processorCount o) i × Fits job (memoryOf o i)) (o .jobs)
 
+-- rows 1 to 4 do not hold: the counts are within the limits
+pub counts-in-limits : (m n : ℕ) → judge (countRows limits m n) ≡ accepted → (1 ≤ m) × (m ≤ 16) × (1 ≤ n) × (n ≤ 48)
+counts-in-limits m n a =
+    let c = judge-accepted (countRows limits m n) .0 a in
+    (omega (arith, eqb-false m 0 (whole-clear _ (c .0))), ltb-false 16 m (whole-clear _ (c .1 .0)),
+    omega (arith, eqb-false n 0 (whole-clear _ (c .1 .1 .0))), ltb-false 48 n (whole-clear _ (c .1 .1 .1 .0)))
+
 acceptable-of : (o : Order) → Accepted o → Acceptable o
 acceptable-of o a =
     let c = judge-accepted (orderRows limits o) .0 a in
@@ -249,3 +256,28 @@ accepted-of o a =
 -- an order is accepted exactly if it is acceptable
 pub accepted-iff : (o : Order) → Accepted o ↔ Acceptable o
 accepted-iff o = (acceptable-of o, accepted-of o)
+
+-- the same of a list that is given by its places
+module _ {A : Type 0} (test : A → Bool) (n : ℕ) (f : ℕ → A) where
+  pub first-tabulate : (i : ℕ) → i < n → ((e : ℕ) → e < i → test (f e) ≡ false) → test (f i) ≡ true → first test (tabulate n f) ≡ holds (suc i)
+  first-tabulate i l before here =
+      first-at test (tabulate n f) (f i) 0 i (rw length-tabulate l)
+      (λ e b. ap test (getD-tabulate n f (f i) e (omega arith)) ∙ before e b)
+      (ap test (getD-tabulate n f (f i) i l) ∙ here)
+      ∙ ap (λ (k : ℕ). holds (suc k)) (omega arith)
+
+  pub none-tabulate : ((e : ℕ) → e < n → test (f e) ≡ false) → first test (tabulate n f) ≡ clear
+  none-tabulate h =
+      first-none test (tabulate n f) 0
+      (All-from _ (tabulate n f) (f 0)
+      (λ i l. let b : i < n = rw length-tabulate at l in ap test (getD-tabulate n f (f 0) i b) ∙ h i b))
+
+module _ (need n : ℕ) (f : ℕ → ℕ) where
+  pub fitsSome-tabulate : (i : ℕ) → i < n → need ≤ f i → fitsSome need (tabulate n f) ≡ true
+  fitsSome-tabulate i l h =
+      true-fitsSome need (tabulate n f) i (rw length-tabulate l) (rw (getD-tabulate n f 0 i l) h)
+
+pub fitsNone-tabulate : (need n : ℕ) (f : ℕ → ℕ) → ((e : ℕ) → e < n → leb need (f e) ≡ false) → fitsSome need (tabulate n f) ≡ false
+unfolding fitsSome
+fitsNone-tabulate need zero f h = refl
+fitsNone-tabulate need (suc n) f h = rw (h 0 (omega arith)) (fitsNone-tabulate need n (λ i. f (suc i)) (λ e l. h (suc e) (omega arith)))

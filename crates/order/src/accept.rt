@@ -116,8 +116,9 @@ fn first_unfit(order: Order) -> u32
 pub fn accept(order: Order) -> Acceptance
     ensures { λ r. ⌜ acceptanceTold r ≡ judge (orderRows limits (orderOf order)) ⌝ }
 {
-    let Acceptance::Accepted = accept_counts(order.processors, order.jobs) else {
-        return accept_counts(order.processors, order.jobs);
+    let counts = accept_counts(order.processors, order.jobs);
+    let Acceptance::Accepted = counts else {
+        return counts;
     };
     let time = first_bad_time(order);
     if 0 < time {

@@ -1,0 +1,3 @@
+mod Signed
+mod Ranges
+mod Judging

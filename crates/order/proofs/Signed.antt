@@ -1,0 +1,86 @@
+-- Signed numbers of 32 bits: what the machine reads back, tests of a range, the sum of a due time and a bound.
+use Prim.Native.Nat.{ℕ, zero, suc, _+_, _-_, _^_, _≤_, _<_}
+use mathlib.Core.Path.{_≡_, refl, sym, ap, _∙_}
+use mathlib.Core.Bool.{Bool, true, false, cond, _&&_}
+use native.Mathlib.Omega.{arith}
+use borrow.Author.Tests.{leb-true, ltb-true, ltb-false}
+use lib.Dec.{T, ltb, leb}
+use lib.IntN.{ℤ, pos, negsuc, natAbs, _+ℤ_}
+use lib.Signed.{mag, leZ, ltZ, nonNeg}
+use mir.Val.{toZ, ofZ, Fits, SFits}
+use mir.ValLaws.{toZ-ofZ}
+use mir.Syntax.{w32}
+use Rattle.order.specs.Refusals.{dueInRange, boundInRange}
+use Rattle.order.specs.RefusalLaws.{both-true}
+use Rattle.order.specs.Deadline.{cut}
+
+pub read-back : (z : ℤ) → mag z < 2147483648 → toZ w32 (ofZ w32 z) ≡ z
+read-back z h = toZ-ofZ w32 z (record { sfits = h })
+
+-- the two tests of a range
+module _ (z lo hi : ℤ) (f : SFits w32 z) where
+  pub in-range : leZ lo (toZ w32 (ofZ w32 z)) ≡ true → leZ (toZ w32 (ofZ w32 z)) hi ≡ (leZ lo z && leZ z hi)
+  in-range h =
+      let e : leZ lo z ≡ true = rw (toZ-ofZ w32 z f) at h in
+      rw (toZ-ofZ w32 z f, e)
+
+  pub below-range : leZ lo (toZ w32 (ofZ w32 z)) ≡ false → false ≡ (leZ lo z && leZ z hi)
+  below-range h =
+      let e : leZ lo z ≡ false = rw (toZ-ofZ w32 z f) at h in
+      rw e
+
+-- a number in range is small
+mag-range : (lo hi : ℕ) (z : ℤ) → (leZ (negsuc lo) z && leZ z (pos hi)) ≡ true → mag z ≤ lo + hi
+mag-range lo hi (pos n) h = omega (arith, leb-true n hi (both-true true (leb n hi) h .1))
+mag-range lo hi (negsuc n) h = omega (arith, leb-true n lo (both-true (leb n lo) true h .0))
+
+mag-sub : (a b : ℕ) (t : Bool) → mag (cond t (negsuc (b - suc a)) (pos (a - b))) ≤ a + b
+mag-sub a b true = omega arith
+mag-sub a b false = omega arith
+
+mag-sum : (x y : ℤ) → mag (x +ℤ y) ≤ mag x + mag y + 1
+mag-sum (pos a) (pos b) = omega arith
+mag-sum (pos a) (negsuc b) = omega (arith, mag-sub a (suc b) (ltb a (suc b)))
+mag-sum (negsuc a) (pos b) = omega (arith, mag-sub b (suc a) (ltb b (suc a)))
+mag-sum (negsuc a) (negsuc b) = omega arith
+
+cut-negative : (z : ℤ) → ltZ z (pos 0) ≡ true → cut z ≡ 0
+cut-negative (pos n) h = absurd (omega (arith, ltb-true n 0 h))
+cut-negative (negsuc n) h = refl
+
+cut-other : (z : ℤ) → ltZ z (pos 0) ≡ false → T (nonNeg z) × (natAbs z ≡ cut z) × (natAbs z ≤ mag z)
+cut-other (pos n) h = (tt, refl, omega arith)
+cut-other (negsuc n) h = let z : _≡_ {A = ℕ} 0 1 = cc in absurd (omega arith)
+
+-- the end of a job whose due time and bound are in range
+module _ (due bound : ℤ) (f : SFits w32 due) (g : SFits w32 bound) (d : dueInRange due ≡ true) (b : boundInRange bound ≡ true) where
+  mag-end : mag (due +ℤ bound) ≤ 22000000
+  mag-end = omega (arith, mag-sum due bound, mag-range 999999 1000000 due d, mag-range 9999999 10000000 bound b)
+
+  fits-end : SFits w32 (due +ℤ bound)
+  fits-end = record { sfits = omega (arith, mag-end) }
+
+  abbrev read : ℤ
+  read = toZ w32 (ofZ w32 due) +ℤ toZ w32 (ofZ w32 bound)
+
+  read-is : read ≡ due +ℤ bound
+  read-is = rw (toZ-ofZ w32 due f, toZ-ofZ w32 bound g)
+
+  pub end-fits : SFits w32 read
+  end-fits = rw read-is fits-end
+
+  back : toZ w32 (ofZ w32 read) ≡ due +ℤ bound
+  back = rw read-is (toZ-ofZ w32 (due +ℤ bound) fits-end)
+
+  pub end-negative : ltZ (toZ w32 (ofZ w32 read)) (pos 0) ≡ true → 0 ≡ cut (due +ℤ bound)
+  end-negative h = sym (cut-negative (due +ℤ bound) (rw back at h))
+
+  module _ (h : ltZ (toZ w32 (ofZ w32 read)) (pos 0) ≡ false) where
+    other : T (nonNeg (due +ℤ bound)) × (natAbs (due +ℤ bound) ≡ cut (due +ℤ bound)) × (natAbs (due +ℤ bound) ≤ mag (due +ℤ bound))
+    other = cut-other (due +ℤ bound) (rw back at h)
+
+    pub end-casts : T (nonNeg (toZ w32 (ofZ w32 read))) × Fits w32 (natAbs (toZ w32 (ofZ w32 read)))
+    end-casts = rw back (other .0, record { fits = omega (arith, other .2, mag-end) })
+
+    pub end-is : natAbs (toZ w32 (ofZ w32 read)) ≡ cut (due +ℤ bound)
+    end-is = rw back (other .1)

@@ -1,0 +1,107 @@
+"""The orders that document 01 names, and small orders for each refusal.
+
+Document 01, "Orders to try": "Jobs are (time, due, need)." And the refusal
+table's column "Small example".
+"""
+
+import orders
+from orders import order
+
+A = order([8, 4], [(3, 3, 8), (3, 3, 4), (2, 4, 2)])
+B = order([8, 4], [(2, 4, 8), (2, 4, 8), (2, 2, 4), (2, 2, 4)])
+C = order([4], [(3, 10, 4)])
+D = order([8, 8], [(1, 4, 1), (1, 4, 1), (1, 4, 1)])
+NEED_0 = order([4], [(1, 1, 0)])
+DUE_MINUS_5 = order([1], [(1, -5, 1)])
+ONE = order([4], [(1, 1, 4)])
+
+# 16 processors, 48 jobs, 48 distinct due times: 48 × 63 = 3,024 rows.
+FULL = order(
+    [64, 64, 96, 128, 128, 192, 256, 256, 384, 512, 512, 768, 1024, 1024, 2048,
+     4096],
+    [(20 + 37 * i % 90, 30 + 31 * i % 48 * 4, 4096 >> 29 * i % 8)
+     for i in range(48)])
+FULL_EQUAL = order([4] * 16, [(1, 99, 0)] * 48)
+
+NAMED = {"A": A, "B": B, "C": C, "D": D, "full": FULL}
+
+GOOD = (1, 5, 1)
+BAD_TIME, BAD_DUE, BAD_NEED = (0, 5, 1), (1, 1000001, 1), (1, 5, 9)
+
+
+def at(places, count=9):
+    """So many good jobs, with others at the places (from 1) named."""
+    return [places.get(number, GOOD) for number in range(1, count + 1)]
+
+
+# What each shows, its order, and the refusal's number and job.
+REFUSED = [
+    ("row 1's example", order([], [(1, 1, 0)]), 1, 0),
+    ("row 2's example", order([4] * 17, [(1, 1, 0)]), 2, 0),
+    ("row 3's example", order([4], []), 3, 0),
+    ("row 4's example", order([4], [(1, 99, 0)] * 49), 4, 0),
+    ("row 5's example", order([8], [BAD_TIME]), 5, 1),
+    ("row 6's example", order([8], [BAD_DUE]), 6, 1),
+    ("row 7's example", order([8], [BAD_NEED]), 7, 1),
+    ("1 precedes 3", order([], []), 1, 0),
+    ("1 precedes 4", order([], [(1, 99, 0)] * 49), 1, 0),
+    ("1 precedes 5", order([], [BAD_TIME]), 1, 0),
+    ("1 precedes 7: no memory, need 9", order([], [BAD_NEED]), 1, 0),
+    ("2 precedes 3", order([4] * 17, []), 2, 0),
+    ("2 precedes 5", order([4] * 17, [BAD_TIME]), 2, 0),
+    ("2 precedes 7", order([4] * 17, [BAD_NEED]), 2, 0),
+    ("4 precedes 5 at job 1", order([4], at({1: BAD_TIME}, 49)), 4, 0),
+    ("4 precedes 6 and 7", order([4], at({1: BAD_DUE, 2: BAD_NEED}, 49)), 4, 0),
+    ("5 at job 9 precedes 6 at job 1", order([8], at({1: BAD_DUE, 9: BAD_TIME})), 5, 9),
+    ("5 at job 9 precedes 7 at job 1", order([8], at({1: BAD_NEED, 9: BAD_TIME})), 5, 9),
+    ("6 at job 9 precedes 7 at job 1", order([8], at({1: BAD_NEED, 9: BAD_DUE})), 6, 9),
+    ("5, 6 and 7 in one job", order([8], at({4: (0, 1000001, 9)})), 5, 4),
+    ("the first of two jobs in 5", order([8], at({3: BAD_TIME, 7: BAD_TIME})), 5, 3),
+    ("the first of two jobs in 6", order([8], at({3: BAD_DUE, 7: BAD_DUE})), 6, 3),
+    ("the first of two jobs in 7", order([8], at({3: BAD_NEED, 7: BAD_NEED})), 7, 3),
+    ("the last of 48 jobs in 5", order([8], at({48: BAD_TIME}, 48)), 5, 48),
+    ("the last of 48 jobs in 6", order([8], at({48: BAD_DUE}, 48)), 6, 48),
+    ("the last of 48 jobs in 7", order([8], at({48: BAD_NEED}, 48)), 7, 48),
+    ("time 100001", order([8], [(100001, 5, 1)]), 5, 1),
+    ("time 2147483648", order([8], [(2147483648, 5, 1)]), 5, 1),
+    ("time 4294967295 is no -1", order([8], [(4294967295, 5, 1)]), 5, 1),
+    ("due -1000001", order([8], [(1, -1000001, 1)]), 6, 1),
+    ("due -2147483648", order([8], [(1, -2147483648, 1)]), 6, 1),
+    ("due 2147483647", order([8], [(1, 2147483647, 1)]), 6, 1),
+    ("need 1 more than the largest of 3", order([3, 8, 5], [(1, 5, 9)]), 7, 1),
+    ("need 4294967295, memory 4294967294",
+     order([4294967294], [(1, 5, 4294967295)]), 7, 1),
+    ("memory 0, need 1", order([0], [(1, 5, 1)]), 7, 1),
+]
+
+# Counts beyond the arrays, which no file can hold.
+REFUSED_COUNTS = [
+    ("17 processors by count", order([4] * 16, [GOOD], m=17), 2, 0),
+    ("65535 processors", order([4] * 16, [GOOD], m=65535), 2, 0),
+    ("65536 processors", order([4] * 16, [GOOD], m=65536), 2, 0),
+    ("4294967295 processors", order([4] * 16, [GOOD], m=4294967295), 2, 0),
+    ("49 jobs by count", order([4], [GOOD] * 48, n=49), 4, 0),
+    ("65535 jobs", order([4], [GOOD] * 48, n=65535), 4, 0),
+    ("65537 jobs", order([4], [GOOD] * 48, n=65537), 4, 0),
+    ("4294967295 jobs", order([4], [GOOD] * 48, n=4294967295), 4, 0),
+    ("4294967295 of both", order([4] * 16, [GOOD] * 48, 4294967295, 4294967295), 2, 0),
+    ("no processor, 4294967295 jobs", order([], [GOOD] * 48, n=4294967295), 1, 0),
+    ("4294967295 processors, no job", order([4] * 16, [], m=4294967295), 2, 0),
+]
+
+# Accepted orders at the limits.
+LIMITS = [
+    ("time 100000", order([8], [(100000, 5, 1)])),
+    ("due 1000000", order([8], [(1, 1000000, 1)])),
+    ("due -1000000", order([8], [(1, -1000000, 1)])),
+    ("memory and need 4294967295", order([4294967295], [(1, 5, 4294967295)])),
+    ("memory and need 0", order([0], [(1, 5, 0)])),
+    ("memory 4294967295, need 0", order([4294967295], [(1, 5, 0)])),
+    ("the last of 3 processors fits", order([3, 5, 9], [(1, 5, 9)])),
+    ("16 processors, 1 job", order([4] * 16, [(1, 5, 4)])),
+    ("1 processor, 48 jobs", order([4], [(1, 99, 0)] * 48)),
+    ("16 processors, 48 jobs: accepted", FULL_EQUAL),
+    ("16 processors, 48 jobs, 48 due times", FULL),
+    ("48 jobs of the greatest time, due time earliest",
+     order([4], [(100000, -1000000, 4)] * 48)),
+]
