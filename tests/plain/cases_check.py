@@ -196,7 +196,7 @@ def changed(of, order, bound, rows):
 def drawn(count):
     of = draw.Draw(504)
     for number in range(count):
-        order = of.one_of((draw.tiny, draw.crowded))(of)
+        order = of.one_of((draw.tiny, draw.crowded, draw.stepped))(of)
         bound = least.least(order) + of.one_of((0, 0, 0, 1, 3))
         form, rows = made(of, order, bound)
         name, bound, lent = changed(of, order, bound, rows)
@@ -205,5 +205,5 @@ def drawn(count):
 
 
 def cases():
-    for part in (of_document(), malformed(), ends(), large(), drawn(480)):
+    for part in (of_document(), malformed(), ends(), large(), drawn(430)):
         yield from part

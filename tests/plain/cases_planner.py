@@ -148,7 +148,7 @@ def drawn(count):
     for number in range(count):
         order = of.one_of((draw.tiny, draw.crowded))(of)
         while number % 2 and not decided_by_stairs(order):
-            order = draw.crowded(of)
+            order = of.one_of((draw.crowded, draw.stepped))(of)
         yield from around(of, f"drawn order {number}", order)
 
 

@@ -69,6 +69,16 @@ def crowded(draw):
     return accepted(draw, draw.between(2, 3), 4, 3, 3)
 
 
+def stepped(draw):
+    """Tiny, and a smaller need is due earlier: the times of the classes differ."""
+    memories = draw.one_of(((8, 4), (4, 8), (8, 4, 4), (8, 8, 4), (2, 8, 4)))
+    jobs = []
+    for _ in range(4):
+        memory = draw.one_of(memories)
+        jobs.append((draw.between(1, 3), memory // 2 + draw.between(-1, 1), memory))
+    return orders.order(memories, jobs)
+
+
 def middle(draw):
     """Up to 5 processors and 8 jobs of times up to 20."""
     return accepted(draw, draw.between(1, 5), draw.between(1, 8), 20, 25)

@@ -51,6 +51,15 @@ unfoldable pub judge : List TableRow → Verdict
 judge [] = accepted
 judge (row ∷ rows) = verdictOf (row .number) (row .finding) (judge rows)
 
+-- what an entry point answers: a value where its table accepts, else the refusal's number and what it carries
+pub data Answer (A : Type 0) : Type 0 where
+  answer : A → Answer A
+  refusal : ℕ → ℕ → Answer A
+
+abbrev pub answerBy : {A : Type 0} → Verdict → A → Answer A
+answerBy accepted value = answer value
+answerBy (refused number carried) value = refusal number carried
+
 -- a condition about no single job or processor: it carries 0
 abbrev pub whole : Bool → Finding
 whole true = holds 0

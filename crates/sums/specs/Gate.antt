@@ -37,6 +37,22 @@ pub gate-≤ : (a b v : ℕ) → gate a b v ≤ v
 unfolding gate pick
 gate-≤ a b v = elim (decLt a b) as (λ d. pick d v 0 ≤ v) [ yes h ↦ omega arith | no h ↦ omega arith ]
 
+pub gate-add : (a b v w : ℕ) → gate a b (v + w) ≡ gate a b v + gate a b w
+gate-add a b v w =
+    elim (decLt a b) [
+      | yes l ↦ omega (arith, gate-in a b (v + w) l, gate-in a b v l, gate-in a b w l)
+      | no l ↦
+          omega (arith, gate-out a b (v + w) (omega arith), gate-out a b v (omega arith), gate-out a b w (omega arith))
+    ]
+
+-- i < k as a gate on the one factor or on the other
+pub gate-flip : (i k a b : ℕ) → b * gate i k a ≡ a * gate (suc i) (suc k) b
+gate-flip i k a b =
+    elim (decLt i k) [
+      | yes h ↦ rw (gate-in i k a h, gate-in (suc i) (suc k) b (omega arith)) (omega arith)
+      | no h ↦ rw (gate-out i k a (omega arith), gate-out (suc i) (suc k) b (omega arith)) (omega arith)
+    ]
+
 -- v where a ≡ b, else 0
 unfoldable pub at : ℕ → ℕ → ℕ → ℕ
 at a b v = pick (ℕ-discrete a b) v 0
@@ -61,9 +77,13 @@ pub put-other : (κ : ℕ → ℕ) (s v i : ℕ) → i ≢ s → put κ s v i �
 unfolding put
 put-other κ s v i h = pick-no (ℕ-discrete i s) v (κ i) h
 
-pub put-≤ : (κ : ℕ → ℕ) (s v S : ℕ) → ((i : ℕ) → κ i ≤ S) → v ≤ S → (i : ℕ) → put κ s v i ≤ S
+-- what holds of every value of κ and of v holds of every value of κ with v at s
+pub put-all : (P : ℕ → Type 0) (κ : ℕ → ℕ) (s v : ℕ) → ((i : ℕ) → P (κ i)) → P v → (i : ℕ) → P (put κ s v i)
 unfolding put pick
-put-≤ κ s v S h b i = elim (ℕ-discrete i s) as (λ d. pick d v (κ i) ≤ S) [ yes e ↦ b | no e ↦ h i ]
+put-all P κ s v h b i = elim (ℕ-discrete i s) as (λ d. P (pick d v (κ i))) [ yes e ↦ b | no e ↦ h i ]
+
+pub put-≤ : (κ : ℕ → ℕ) (s v S : ℕ) → ((i : ℕ) → κ i ≤ S) → v ≤ S → (i : ℕ) → put κ s v i ≤ S
+put-≤ κ s v S = put-all (λ k. k ≤ S) κ s v
 
 -- a sum over a changed function: g k i is the term at i of a function that is k there
 pub sum-put : (q : ℕ) (g : ℕ → ℕ → ℕ) (κ : ℕ → ℕ) (s v : ℕ) → s < q →

@@ -1,0 +1,15 @@
+pub mod Flow
+pub mod Same
+pub mod Below
+pub mod Level
+pub mod State
+pub mod Relabel
+pub mod Push
+pub mod Stuck
+pub mod End
+pub mod Start
+pub mod Move
+pub mod Complete
+pub mod Exchange
+pub mod Steps
+pub mod Profile

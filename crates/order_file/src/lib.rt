@@ -1,0 +1,33 @@
+// The order file (document 01, "Order and file"): reader and writer.
+use order::Acceptance;
+use order::Order;
+use order::Refusal;
+
+mod bytes; // numbers as bytes
+pub mod read; // read_order
+pub mod write; // write_order
+
+// Where the lists lie, and how long they are.
+pub struct Lists {
+    pub processors_at: usize,
+    pub jobs_at: usize,
+    pub processors: usize,
+    pub jobs: usize,
+}
+
+pub enum Trailer {
+    Good(Lists),
+    Bad,
+}
+
+// The order, and whether it is accepted; where it is refused, the order is empty.
+pub struct OrderRead {
+    pub status: Acceptance,
+    pub order: Order,
+}
+
+// The length of the file that was written, or why none was.
+pub enum OrderWritten {
+    Bytes(usize),
+    Refused(Refusal),
+}

@@ -1,0 +1,440 @@
+"""Shows that the tests can fail: each part is broken, and a named test catches it.
+
+Document 01, "Errors that a planner of this kind invites", names many of these.
+Each variant replaces one name of one module while one test runs.
+
+    broken.py          runs all variants; exits 1 if one of them is not caught
+"""
+
+import fractions
+import math
+import sys
+import unittest
+from collections import namedtuple
+
+import answers
+import flow
+import judge
+import least
+import order_file
+import order_text
+import orders
+import plan_check
+import plan_rules
+import reason
+import reason_large
+import search
+import wrap
+
+# What is broken, where, by what, and the test that catches it.
+Variant = namedtuple("Variant", "story module name replacement test")
+
+right_least = least.least
+right_plan = wrap.plan
+right_refusal = orders.refusal
+right_planner_refusal = answers.planner_refusal
+right_add = flow.Network.add
+right_staircases = reason.staircases
+right_class_of = reason.class_of
+right_runs = search.runs_together
+
+
+def exact_least(order):
+    """The least lateness as a fraction: in parts so small that it is whole."""
+    parts = math.lcm(*range(1, order.m + 1))
+    fine = orders.order(order.memories, [
+        (parts * job.time, parts * job.due, job.need) for job in order.jobs])
+    return fractions.Fraction(least.by_halving(fine, flow.meets), parts)
+
+
+def rounded_away_from_zero(order):
+    """Right above zero, one too small below it."""
+    exact = exact_least(order)
+    return math.floor(exact) if exact < 0 else math.ceil(exact)
+
+
+def rounded_toward_zero(order):
+    """Right below zero, one too small above it."""
+    return int(exact_least(order))
+
+
+LATENESS = [
+    Variant("least lateness one too large", least, "least",
+            lambda order: right_least(order) + 1,
+            "test_least.Least.test_document_01"),
+    Variant("least lateness one too small", least, "least",
+            lambda order: right_least(order) - 1,
+            "test_least.Least.test_document_01"),
+    Variant("least lateness one too large, by search", least, "least",
+            lambda order: right_least(order) + 1,
+            "test_least.Least.test_by_search_over_all_plans"),
+    Variant("least lateness one too small, by search", least, "least",
+            lambda order: right_least(order) - 1,
+            "test_least.Least.test_by_search_over_all_plans"),
+    Variant("one fixed lateness", least, "least", lambda order: 1,
+            "test_least.Least.test_document_01"),
+    Variant("rounded down below zero: D gives -3", least, "least",
+            rounded_away_from_zero, "test_least.Least.test_document_01"),
+    Variant("rounded toward zero above zero: A gives 0", least, "least",
+            rounded_toward_zero, "test_least.Least.test_document_01"),
+    Variant("never below zero", least, "least",
+            lambda order: max(0, right_least(order)),
+            "test_least.Least.test_document_01"),
+    Variant("the time of each job alone, no load", least, "least", least.floor,
+            "test_least.Least.test_document_01"),
+]
+
+
+def common_times(times, k):
+    for time in times:
+        yield (time,) * k
+
+
+def latest_first(times, k):
+    return reversed(list(right_never_rising(times, k)))
+
+
+def last_class_first(times, k):
+    return sorted(right_never_rising(times, k), key=lambda stairs: stairs[::-1])
+
+
+def most_classes_first(order, bound):
+    return sorted(right_staircases(order, bound),
+                  key=lambda stairs: (-len(stairs), stairs))
+
+
+def rising_too(times, k):
+    if k == 0:
+        yield ()
+        return
+    for time in times:
+        for rest in rising_too(times, k - 1):
+            yield (time,) + rest
+
+
+def need_0_in_no_class(order, job):
+    return None if job.need == 0 else right_class_of(order, job)
+
+
+def all_classes_owe(order, bound, staircase):
+    """Classes beyond k owe as well; "only the first k belong there"."""
+    stairs = list(staircase)
+    every = stairs + [stairs[-1]] * (len(set(order.memories)) - len(stairs))
+    return right_sums(order, bound, every)[0], right_sums(order, bound, stairs)[1]
+
+
+right_never_rising = reason.never_rising
+right_sums = reason.sums
+ONE_COMMON = "staircases at one common time for all classes"
+
+REASONS = [
+    Variant(ONE_COMMON, reason, "never_rising", common_times,
+            "test_reason.Reasons.test_document_01"),
+    Variant(ONE_COMMON + ", against the search", reason, "never_rising",
+            common_times, "test_least.Least.test_all_whole_numbers_in_reach"),
+    Variant("ranking: the latest time first", reason, "never_rising", latest_first,
+            "test_reason.Reasons.test_ranking"),
+    Variant("ranking: the last class before class 1", reason, "never_rising",
+            last_class_first, "test_reason.Reasons.test_ranking"),
+    Variant("ranking: the most classes first", reason, "staircases",
+            most_classes_first, "test_reason.Reasons.test_ranking"),
+    Variant("times that rise", reason, "never_rising", rising_too,
+            "test_least.Least.test_all_whole_numbers_in_reach"),
+    Variant("need 0 in no class", reason, "class_of", need_0_in_no_class,
+            "test_reason.Reasons.test_need_0"),
+    Variant("the first class in place of the last", reason, "class_of",
+            lambda order, job: 0, "test_reason.Reasons.test_classes"),
+    Variant("all classes owe, not the first k", reason, "sums", all_classes_owe,
+            "test_least.Least.test_all_whole_numbers_in_reach"),
+    Variant("owed below 0", reason, "owed",
+            lambda job, bound, time: job.time - max(0, job.due + bound - time),
+            "test_reason.Reasons.test_owed"),
+    Variant("owed: the whole time only", reason, "owed",
+            lambda job, bound, time: job.time if job.due + bound <= time else 0,
+            "test_reason.Reasons.test_owed"),
+    Variant("the last late job", reason, "first_late_job",
+            lambda order, bound: max((number for number, job in enumerate(
+                order.jobs, 1) if job.time > job.due + bound), default=None),
+            "test_reason.Reasons.test_first_job"),
+    Variant("larger orders: each class's time by itself", reason_large, "best_from",
+            lambda gains, k: gains[:k],
+            "test_reason.Reasons.test_large_is_the_same"),
+]
+
+
+def job_by_job(order):
+    """Rows 5 to 7 judged job by job in place of row by row."""
+    refused = right_refusal(order)
+    if refused is None or refused.number < 5:
+        return refused
+    for place, job in enumerate(order.jobs, 1):
+        one = right_refusal(orders.order(order.memories, [job]))
+        if one:
+            return orders.Refusal(one.number, place)
+    return None
+
+
+def rows_before_bound(order, bound, numbers):
+    if len(plan_check.rows(numbers)) > plan_check.ROWS_MOST:
+        return orders.Refusal(11, 0)
+    return right_check_refusal(order, bound, numbers)
+
+
+def room_first(order, room, bound=None):
+    if room // 4 < orders.rows_needed(order):
+        return orders.Refusal(9, 0)
+    return right_planner_refusal(order, room, bound)
+
+
+def tight_before_room(order, room, bound=None):
+    refused = right_planner_refusal(order, room, bound)
+    if refused and refused.number == 9 and bound is not None and reason.reason(
+            order, bound):
+        return None
+    return refused
+
+
+def room_rounded_up(order, room, bound=None):
+    return right_planner_refusal(order, room + 3, bound)
+
+
+right_check_refusal = plan_check.refusal
+
+REFUSALS = [
+    Variant("refusals 5 to 7 job by job", orders, "refusal", job_by_job,
+            "test_orders.Refusals.test_table"),
+    Variant("refusal 3 before 1", orders, "ROWS",
+            (orders.ROWS[2], orders.ROWS[0], orders.ROWS[1]) + orders.ROWS[3:],
+            "test_orders.Refusals.test_table"),
+    Variant("refusal 7 before 5", orders, "ROWS",
+            orders.ROWS[:4] + (orders.ROWS[6],) + orders.ROWS[4:6],
+            "test_orders.Refusals.test_table"),
+    Variant("every order refused", orders, "refusal",
+            lambda order: orders.Refusal(1, 0),
+            "test_orders.Refusals.test_accepted"),
+    Variant("17 processors accepted", orders, "PROCESSORS_MOST", 17,
+            "test_orders.Refusals.test_table"),
+    Variant("15 processors at most", orders, "PROCESSORS_MOST", 15,
+            "test_orders.Refusals.test_accepted"),
+    Variant("11 before 8", plan_check, "refusal", rows_before_bound,
+            "test_plan_rules.Check.test_refusals"),
+    Variant("9 before 7 and 8", answers, "planner_refusal", room_first,
+            "test_answers.Answers.test_precedence"),
+    Variant("10 before 9", answers, "planner_refusal", tight_before_room,
+            "test_answers.Answers.test_precedence"),
+    Variant("numbers left over are a row of the planner's buffer", answers,
+            "planner_refusal", room_rounded_up, "test_answers.Answers.test_room"),
+    Variant("12 after 1 to 7", order_file, "agree", lambda data: True,
+            "test_order_file.File.test_12_precedes_all"),
+]
+
+
+def without(rule):
+    return [one for one in plan_rules.RULES if one is not rule]
+
+
+def at_least_the_time(order, bound, rows, parts):
+    for number, job in enumerate(order.jobs, 1):
+        if sum(row[3] - row[2] for row in rows if row[0] == number) < job.time:
+            return "too little"
+    return None
+
+
+def touching_overlaps(spans):
+    spans = sorted(spans)
+    for pair in zip(spans, spans[1:]):
+        if pair[1][0] <= pair[0][1]:
+            return pair
+    return None
+
+
+PLANS = [
+    Variant("a check without the exact sum", plan_rules, "RULES",
+            without(plan_rules.full_time), "test_plan_rules.Rules.test_each_rule"),
+    Variant("a check that takes more than the time", plan_rules, "RULES",
+            without(plan_rules.full_time) + [at_least_the_time],
+            "test_plan_rules.Rules.test_each_rule"),
+    Variant("a check without the ends", plan_rules, "RULES",
+            without(plan_rules.by_the_end), "test_plan_rules.Rules.test_each_rule"),
+    Variant("a check without overlaps", plan_rules, "RULES",
+            without(plan_rules.no_overlap), "test_plan_rules.Rules.test_overlaps"),
+    Variant("touching taken for overlap", plan_rules, "overlap", touching_overlaps,
+            "test_plan_rules.Rules.test_document_01"),
+    Variant("a check that always says no", plan_rules, "broken_rule",
+            lambda order, bound, rows, parts=1: "no",
+            "test_plan_rules.Rules.test_document_01"),
+    Variant("a check without the fit", orders, "fits", lambda job, memory: True,
+            "test_plan_rules.Rules.test_fit"),
+    Variant("a fit that wants more than the need", orders, "fits",
+            lambda job, memory: memory > job.need,
+            "test_plan_rules.Rules.test_document_01"),
+    Variant("an end one minute later", orders, "end",
+            lambda job, bound: job.due + bound + 1,
+            "test_plan_rules.Rules.test_cell_by_cell"),
+    Variant("numbers left over forgotten in the check", plan_check, "rows",
+            lambda numbers: [tuple(numbers[i:i + 4])
+                             for i in range(0, len(numbers) - 3, 4)],
+            "test_plan_rules.Check.test_left_over"),
+    Variant("3,025 rows taken", plan_check, "ROWS_MOST", 3025,
+            "test_plan_rules.Check.test_3024_rows"),
+    Variant("3,023 rows at most", plan_check, "ROWS_MOST", 3023,
+            "test_plan_rules.Check.test_3024_rows"),
+]
+
+
+def without_last_stretch(order, bound, amounts):
+    last = wrap.stretches(order, bound)[-1][0]
+    return [row for row in right_plan(order, bound, amounts) if row[2] < last]
+
+
+def first_stretch_only(order, bound, amounts):
+    first = wrap.stretches(order, bound)[0][1]
+    return [row for row in right_plan(order, bound, amounts) if row[2] < first]
+
+
+def ties_backwards(order):
+    return sorted(range(1, order.n + 1),
+                  key=lambda number: (-order.jobs[number - 1].need, -number))
+
+
+def ties_by_class(order):
+    """Ties among jobs of one class, not of one need."""
+    return sorted(range(1, order.n + 1), key=lambda number: (
+        reason.class_of(order, order.jobs[number - 1]), number))
+
+
+def processor_ties_backwards(order):
+    return sorted(range(1, order.m + 1),
+                  key=lambda number: (-order.memories[number - 1], -number))
+
+
+PLAN_OF_FLOW = "test_least.Flow.test_its_amounts_wrap_into_a_right_plan"
+TIES = "test_judge.Wrap.test_ties_in_input_order"
+
+LAYOUTS = [
+    Variant("a plan without its last stretch", wrap, "plan", without_last_stretch,
+            PLAN_OF_FLOW),
+    Variant("a plan of the first stretch only", wrap, "plan", first_stretch_only,
+            PLAN_OF_FLOW),
+    Variant("an empty plan", wrap, "plan", lambda order, bound, amounts: [],
+            PLAN_OF_FLOW),
+    Variant("jobs of equal need backwards", wrap, "job_order", ties_backwards, TIES),
+    Variant("ties among jobs of one class", wrap, "job_order", ties_by_class, TIES),
+    Variant("equal processors backwards", wrap, "processor_order",
+            processor_ties_backwards, TIES),
+    Variant("processors in input order", wrap, "processor_order",
+            lambda order: list(range(1, order.m + 1)),
+            "test_judge.Wrap.test_by_hand"),
+    Variant("jobs by rising need", wrap, "job_order",
+            lambda order: right_job_order(order)[::-1],
+            "test_judge.Wrap.test_by_hand"),
+    Variant("a judge without the wrap", judge, "wrapped",
+            lambda order, bound, rows: None,
+            "test_judge.Judge.test_wrong_layout_of_right_plans"),
+    Variant("a judge without the cuts", judge, "stretch_of",
+            lambda row, stretches: sum(end <= row[2] for _, end in stretches),
+            "test_judge.Judge.test_wrong_layout_of_right_plans"),
+    Variant("a judge without the row order", judge, "row_order",
+            lambda order, bound, rows: None, "test_judge.Judge.test_wrong"),
+    Variant("a judge without the count", judge, "broken",
+            lambda order, bound, rows, count: right_judge(
+                order, bound, rows, len(rows)), "test_judge.Judge.test_wrong"),
+    Variant("a judge without the buffer beyond", judge, "broken_buffer",
+            lambda order, bound, before, after, count: right_judge(
+                order, bound, plan_check.rows(after[:4 * count]), count),
+            "test_judge.Judge.test_buffer"),
+]
+
+right_job_order = wrap.job_order
+right_judge = judge.broken
+
+
+def no_larger_memory(network, start, to, room):
+    """A flow whose jobs stay at the smallest memory that they fit."""
+    return right_add(network, start, to, 0 if room == flow.NO_LIMIT else room)
+
+
+def one_job_a_minute(order):
+    return [run for run in right_runs(order) if len(run) < 2]
+
+
+def on_any_processor(order):
+    return right_runs(orders.order([orders.WORD_MOST] * order.m, order.jobs))
+
+
+SEARCHES = [
+    Variant("a flow without the larger memories", flow.Network, "add",
+            no_larger_memory, "test_least.Least.test_by_search_over_all_plans"),
+    Variant("a flow in stretches of one part", flow, "stretch_ends",
+            lambda order, bound, parts: sorted(
+                {job.due + bound for job in order.jobs if job.due + bound > 0}),
+            "test_least.Parts.test_parts_by_flow"),
+    Variant("a search with one job a minute", search, "runs_together",
+            one_job_a_minute, "test_least.Least.test_by_search_over_all_plans"),
+    Variant("a search on any processor", search, "runs_together",
+            on_any_processor, "test_least.Least.test_by_search_over_all_plans"),
+]
+
+
+def any_place_for_an_empty_list(data):
+    _, _, m, n = order_file.TRAILER.unpack(data[-12:])
+    return right_agree(data) or (0 in (m, n) and len(data) == 4 * m + 12 * n + 12)
+
+
+def places_only(data):
+    """The lists' lengths in 32 bits: a place near 2^32 wraps round."""
+    processors_at, jobs_at, m, n = order_file.TRAILER.unpack(data[-12:])
+    return (len(data) == 4 * m + 12 * n + 12
+            and (processors_at + 4 * m == jobs_at
+                 or (jobs_at + 12 * n) % 4294967296 == processors_at))
+
+
+right_agree = order_file.agree
+EMPTY_LISTS = "test_order_file.File.test_empty_lists"
+
+FILES = [
+    Variant("an empty list anywhere", order_file, "agree",
+            any_place_for_an_empty_list, EMPTY_LISTS),
+    Variant("the first list not from byte 0", order_file, "agree", places_only,
+            EMPTY_LISTS),
+    Variant("files of processors first only", order_file, "agree",
+            lambda data: right_agree(data) and data[-12:-8] == bytes(4),
+            "test_order_file.File.test_round_trip"),
+    Variant("a file of 656 bytes", order_file, "FILE_MOST", 656,
+            "test_order_file.File.test_656_bytes_that_agree"),
+    Variant("a writer that is content with one byte less", order_file, "length",
+            lambda order: 4 * order.m + 12 * order.n + 11,
+            "test_order_file.File.test_writer"),
+    Variant("jobs backwards in the text", order_text, "lines",
+            lambda order: [f"processor {memory}" for memory in order.memories]
+            + [f"job {a} {b} {c}" for a, b, c in reversed(order.jobs)],
+            "test_order_text.Text.test_there_and_back"),
+]
+
+VARIANTS = LATENESS + REASONS + REFUSALS + PLANS + LAYOUTS + SEARCHES + FILES
+
+
+def caught(variant):
+    """Does the test fail while the part is broken?"""
+    right = getattr(variant.module, variant.name)
+    setattr(variant.module, variant.name, variant.replacement)
+    try:
+        suite = unittest.defaultTestLoader.loadTestsFromName(variant.test)
+        result = unittest.TestResult()
+        result.failfast = True
+        suite.run(result)
+    finally:
+        setattr(variant.module, variant.name, right)
+    return result.testsRun == 1 and not result.wasSuccessful()
+
+
+def main():
+    missed = [variant for variant in VARIANTS if not caught(variant)]
+    for variant in missed:
+        print(f"not caught by {variant.test}: {variant.story}")
+    print(f"broken variants: {len(VARIANTS) - len(missed)} of {len(VARIANTS)} caught")
+    return 1 if missed else 0
+
+
+if __name__ == "__main__":
+    sys.exit(main())

@@ -1,0 +1,102 @@
+"""The stored streams: their form, and their tiny cases by search over all plans."""
+
+import unittest
+
+import cases
+import cases_check
+import cases_planner
+import cases_read
+import cases_write
+import search
+import stream_form
+
+BOUNDS_NEAR = 60
+
+
+def stored(name):
+    """The records of a stored stream with the expected lines of each."""
+    data = (cases.STORED / f"{name}.bin").read_bytes()
+    lines = (cases.STORED / f"{name}.txt").read_text().splitlines()
+    told = []
+    for record in stream_form.unpack(data):
+        count = 1
+        if lines[0].startswith("order "):
+            count += sum(map(int, lines[0].split()[1:]))
+        told.append((record, lines[:count]))
+        lines = lines[count:]
+    assert not lines
+    return told
+
+
+def small(order):
+    return order.m <= 3 and order.n <= 4 and all(
+        job.time <= 3 for job in order.jobs)
+
+
+class Form(unittest.TestCase):
+    def test_there_and_back(self):
+        for part in (cases_read, cases_check, cases_write, cases_planner):
+            for story, record in part.cases():
+                data = stream_form.pack(record)
+                again = stream_form.unpack(data + stream_form.words(0))
+                self.assertEqual(len(again), 1, story)
+                self.assertEqual(stream_form.pack(again[0]), data, story)
+
+    def test_sizes(self):
+        for name, kinds in (("ground", {"read", "check", "write"}),
+                            ("planner", {"least", "plan"})):
+            data = (cases.STORED / f"{name}.bin").read_bytes()
+            self.assertLess(len(data), 400000)
+            records = stream_form.unpack(data)
+            self.assertEqual({record.kind for record in records}, kinds)
+            listed = (cases.STORED / f"{name}.list").read_text().splitlines()
+            self.assertEqual(len(listed), len(records))
+
+
+class Stored(unittest.TestCase):
+    def test_every_refusal_occurs(self):
+        for name, numbers in (("ground", {*range(1, 10), 11, 12}),
+                              ("planner", {*range(1, 10)})):
+            told = {int(lines[0].split()[1]) for _, lines in stored(name)
+                    if lines[0].startswith("refused")}
+            self.assertEqual(told, numbers)
+
+    def test_tiny_cases_by_search(self):
+        seen = {"least": 0, "plan": 0}
+        for record, (line, *_) in stored("planner"):
+            order = record.values[0]
+            if line.startswith("refused") or not small(order):
+                continue
+            if record.kind == "least":
+                number = int(line.split()[1])
+                self.assertTrue(search.meets(order, number))
+                self.assertFalse(search.meets(order, number - 1))
+            elif abs(record.values[1]) < BOUNDS_NEAR:
+                self.assertEqual(search.meets(order, record.values[1]),
+                                 line == "meets", order)
+            seen[record.kind] += 1
+        self.assertGreater(min(seen.values()), 400)
+
+    def test_round_trip(self):
+        for record, lines in stored("ground"):
+            if record.kind == "write" and lines[0].startswith("file"):
+                _, length, text = lines[0].split()
+                data = bytes.fromhex(text)
+                self.assertEqual(len(data), int(length))
+                self.assertLessEqual(len(data), record.values[1])
+                order = record.values[0]
+                self.assertEqual(cases.answers.read(data)[0],
+                                 f"order {order.m} {order.n}")
+
+    def test_rooms_and_lengths_in_reach(self):
+        for name in cases.STREAMS:
+            for record, _ in stored(name):
+                if record.kind == "read":
+                    self.assertLessEqual(len(record.values[0]), 700)
+                elif record.kind == "write":
+                    self.assertLessEqual(record.values[1], 700)
+                elif record.kind == "check":
+                    self.assertLessEqual(len(record.values[2]), 12104)
+                else:
+                    self.assertLessEqual(record.values[-1], 12104)
+                    self.assertGreaterEqual(record.values[-1], 0)
