@@ -11,7 +11,6 @@ import flow
 import known_orders
 import least
 import orders
-import plan_check
 import search
 import wrap
 from stream_form import Record
@@ -80,6 +79,38 @@ def malformed():
     yield one_job("from near 2^32 and a length of 3", (1, 1, WORD - 1, 2))
     yield one_job("row order backwards", (1, 1, 9, 10), (1, 1, 4, 5), (1, 1, 0, 1))
     yield one_job("one row doubled", (1, 1, 0, 2), (1, 1, 2, 3), (1, 1, 2, 3))
+
+
+def two_processors():
+    fit = orders.order([8, 4], [(1, 9, 5)])
+    for processor in (1, 2):
+        yield case(f"need 5 on processor {processor} of memories 8, 4", fit, 0,
+                   [1, processor, 0, 1])
+    two = orders.order([4, 4], [(2, 9, 4), (2, 9, 4)])
+    for story, rows in (
+            ("side by side", [(1, 1, 0, 2), (2, 2, 0, 2)]),
+            ("touching, from one processor to the other",
+             [(1, 1, 0, 1), (1, 2, 1, 2), (2, 1, 1, 3)]),
+            ("a processor overlaps by one", [(1, 1, 0, 2), (2, 1, 1, 3)]),
+            ("a job on both processors at once",
+             [(1, 1, 0, 1), (1, 2, 0, 1), (2, 1, 1, 3)]),
+            ("a row inside another of its processor",
+             [(1, 1, 0, 1), (1, 1, 4, 5), (2, 1, 0, 2)]),
+            ("job 2 has no row", [(1, 1, 0, 2)]),
+            ("the minutes of both jobs in one", [(1, 1, 0, 4)]),
+            ("too much for one, too little for the other",
+             [(1, 1, 0, 3), (2, 2, 0, 1)])):
+        yield case(f"two jobs, {story}", two, 0, numbers(rows))
+
+
+def full_size():
+    of = draw.Draw(509)
+    for name, order in (("full", known_orders.FULL),
+                        ("48 equal jobs", known_orders.FULL_EQUAL)):
+        bound = least.least(order)
+        rows = wrap.plan(order, bound, flow.amounts(order, bound))
+        yield case(f"{name} at {bound}, {len(rows)} rows in any order", order,
+                   bound, numbers(of.shuffled(rows)))
 
 
 def ends():
@@ -205,5 +236,6 @@ def drawn(count):
 
 
 def cases():
-    for part in (of_document(), malformed(), ends(), large(), drawn(430)):
+    for part in (of_document(), malformed(), two_processors(), full_size(), ends(),
+                 large(), drawn(390)):
         yield from part

@@ -107,6 +107,8 @@ TELLING = [
         [4, 4], [(9, 9, 4), (9, 9, 4), (9, 10, 4), (2, 2, 4), (2, 2, 4), (1, 2, 4)])),
     ("the latest due time for all classes is not overfull", orders.order(
         [8, 4], [(2, 4, 8), (2, 4, 8), (2, 2, 4), (2, 2, 4), (1, 40, 0)])),
+    ("stairs of four classes", known_orders.long_stairs(4)),
+    ("stairs of sixteen classes", known_orders.long_stairs(16)),
     ("fraction below zero", orders.order([8, 8, 8], [(1, 9, 1)] * 4)),
     ("fraction above zero", orders.order([8, 8, 8], [(2, 0, 1)] * 4)),
 ]
@@ -152,15 +154,16 @@ def drawn(count):
         yield from around(of, f"drawn order {number}", order)
 
 
-def drawn_steep(count):
-    """Drawn orders in which no staircase of fewer than three classes decides."""
-    of = draw.Draw(507)
+def drawn_steep(seed, count, story, maker, wanted):
+    """Drawn orders with a wanted first staircase at one below the least."""
+    of = draw.Draw(seed)
     for number in range(count):
-        order, why = None, None
-        while why is None or why.kind == "job" or len(why.values) < 3:
-            order = draw.steep(of)
+        while True:
+            order = maker(of)
             why = reason.reason(order, least.least(order) - 1)
-        yield from around(of, f"drawn steep order {number}", order)
+            if why.kind == "stairs" and wanted(why.values):
+                break
+        yield from around(of, f"drawn order {number}, {story}", order)
 
 
 def drawn_larger():
@@ -182,5 +185,10 @@ def drawn_larger():
 
 def cases():
     for part in (of_document(), refused(), rooms(), limits(), telling(),
-                 drawn(500), drawn_steep(60), drawn_larger()):
+                 drawn(450),
+                 drawn_steep(507, 60, "three classes or more", draw.steep,
+                             lambda stairs: len(stairs) > 2),
+                 drawn_steep(508, 80, "times that differ", draw.stepped,
+                             lambda stairs: len(set(stairs)) > 1),
+                 drawn_larger()):
         yield from part

@@ -25,15 +25,11 @@ class LineError(Exception):
 
 
 def order_of(data):
-    """The order of a file or a text, and its refusal or None. An accepted file
-    has bytes of 0 in its counts, a text has none."""
-    if 0 not in data and data:
-        order = order_text.parse(data.decode("utf-8"))
-        return order, orders.refusal(order)
-    order = order_file.lists(data)
-    if order is None:
-        return None, order_file.REFUSED_12
-    return order, orders.refusal(order)
+    """What a reader answers to a file, or to the file of a text. An accepted
+    file has bytes of 0 in its counts, a text has none."""
+    if data and 0 not in data:
+        data = order_file.encode(order_text.parse(data.decode("utf-8")))
+    return order_file.read(data)
 
 
 def fields(line, name, count):
@@ -67,12 +63,12 @@ def parts(lines):
 
 def broken(data, bound, text):
     """None if the lines are right for the order, else what is broken."""
-    order, refusal = order_of(data)
+    order = order_of(data)
     lines = text.split("\n")
     if lines.pop() != "":
         return "the last line does not end in a line feed"
-    if refusal:
-        wanted = f"refused {refusal.number} {refusal.carried}"
+    if isinstance(order, orders.Refusal):
+        wanted = f"refused {order.number} {order.carried}"
         return None if lines == [wanted] else f"the order is {wanted}"
     if lines and lines[0].startswith("refused "):
         return f"'{lines[0]}', but the order is accepted"

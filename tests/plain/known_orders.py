@@ -4,7 +4,6 @@ Document 01, "Orders to try": "Jobs are (time, due, need)." And the refusal
 table's column "Small example".
 """
 
-import orders
 from orders import order
 
 A = order([8, 4], [(3, 3, 8), (3, 3, 4), (2, 4, 2)])
@@ -22,6 +21,17 @@ FULL = order(
     [(20 + 37 * i % 90, 30 + 31 * i % 48 * 4, 4096 >> 29 * i % 8)
      for i in range(48)])
 FULL_EQUAL = order([4] * 16, [(1, 99, 0)] * 48)
+
+
+def long_stairs(count):
+    """So many classes of one processor each, each filled exactly by two jobs up
+    to a due time of its own, the last by one minute too many: at 0 the only
+    overfull staircase has all classes and goes down 2 minutes a step."""
+    jobs = []
+    for need in range(count, 1, -1):
+        jobs += [(need, 2 * need, need)] * 2
+    return order(range(1, count + 1), jobs + [(1, 2, 1)] * 3)
+
 
 NAMED = {"A": A, "B": B, "C": C, "D": D, "full": FULL}
 

@@ -29,13 +29,15 @@ class Least(unittest.TestCase):
             self.assertEqual(least.least(order), number)
 
     def test_by_search_over_all_plans(self):
-        for order in tiny_orders(41, 1500):
+        for order in tiny_orders(41, 2500):
             number = least.least(order)
             rows = search.plan(order, number)
             self.assertIsNotNone(rows)
             self.assertTrue(plan_rules.right(order, number, rows))
             for less in (1, 2):
                 self.assertFalse(search.meets(order, number - less))
+            self.assertIsNone(reason.reason(order, number))
+            self.assertIsNotNone(reason.reason(order, number - 1))
 
     def test_all_whole_numbers_in_reach(self):
         for order in tiny_orders(42, 300):

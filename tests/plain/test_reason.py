@@ -74,6 +74,18 @@ class Reasons(unittest.TestCase):
         order = orders.order([8, 4], [(3, 3, 8), (4, 4, 4), (2, 4, 4)])
         self.assertEqual(reason.reason(order, 0), ("stairs", (3, 3)))
 
+    def test_long_stairs(self):
+        for count in (2, 3, 4):
+            order = known_orders.long_stairs(count)
+            stairs = tuple(range(2 * count, 0, -2))
+            self.assertEqual(reason.reason(order, 0), ("stairs", stairs))
+            self.assertEqual(
+                [one for one in every_staircase(order, 0)
+                 if reason.overfull(order, 0, one)], [stairs])
+        order = known_orders.long_stairs(16)
+        self.assertEqual(reason_large.first_overfull(order, 0),
+                         tuple(range(32, 0, -2)))
+
     def test_ranking(self):
         of, several = draw.Draw(51), 0
         for _ in range(1500):

@@ -1,0 +1,32 @@
+-- What the check's inner functions answer.
+use Prim.Native.Nat.{ℕ, _+_, _*_}
+use mathlib.Core.Bool.{Bool, true, false, _&&_}
+use mathlib.Core.List.{List}
+use lib.Dec.{leb}
+use lib.ListN.{length, getD}
+use Rattle.order.specs.Order.{Order}
+use Rattle.plan.specs.Plan.{Row}
+use Rattle.plan.specs.Check.{rowAt, wellFormed}
+use Rattle.plan.specs.declared.Piece.{Piece}
+use Rattle.plan.specs.declared.RowRead.{RowRead}
+use Rattle.plan.specs.declared.RowRead.the-variants.{Good, Malformed}
+
+-- the code's row as a row of a plan
+abbrev pub rowOf : Piece → Row
+rowOf p = record { job = p .job; processor = p .processor; from = p .from; to = p .to }
+
+abbrev pub pieceAt : List ℕ → ℕ → Piece
+pieceAt numbers i = record {
+  job = getD numbers (4 * i) 0;
+  processor = getD numbers (4 * i + 1) 0;
+  from = getD numbers (4 * i + 2) 0;
+  to = getD numbers (4 * i + 3) 0;
+}
+
+abbrev pub rowBy : Bool → Piece → RowRead
+rowBy true p = Good p
+rowBy false p = Malformed
+
+-- the row at a place, malformed where it is not whole or not well formed
+abbrev pub rowRead : Order → List ℕ → ℕ → RowRead
+rowRead o numbers i = rowBy (leb (4 * i + 4) (length numbers) && wellFormed o (rowAt numbers i)) (pieceAt numbers i)

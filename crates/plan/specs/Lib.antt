@@ -1,0 +1,4 @@
+pub mod Plan
+pub mod Check
+pub mod Told
+pub mod Inside

@@ -1,0 +1,40 @@
+// The plan check: refusals 1 to 8, then 11; else yes or no.
+use order::Acceptance;
+use order::Order;
+use order::Refusal;
+use super::Checked;
+use super::rows::jobs_whole;
+use super::rows::rows_apart;
+use super::rows::rows_good;
+ghost use mathlib.Core.Path.{_≡_};
+ghost use lib.ListN.{length};
+ghost use Rattle.order.specs.Refusals.{judge, answerBy};
+ghost use Rattle.order.specs.Table.{orderOf};
+ghost use Rattle.plan.specs.Check.{isRight, checkRows};
+ghost use Rattle.plan.specs.Told.{checkedTold};
+
+// Whether the lent rows are a right plan for the order and the bound: rows in any order, four numbers to a row.
+pub fn check_plan(order: Order, bound: i32, rows: &[u32]) -> Checked
+    ensures { λ r. ⌜ checkedTold r ≡ answerBy (judge (checkRows (orderOf order) bound (length (now (rows .entry)))))
+        (isRight (orderOf order) bound (now (rows .entry))) ⌝ }
+{
+    if let Acceptance::Refused(refusal) = order::accept::accept(order) {
+        return Checked::Refused(refusal);
+    }
+    if !order::deadline::bound_in_range(bound) {
+        return Checked::Refused(Refusal::BoundOutOfRange);
+    }
+    if 12096 < rows.len() {
+        return Checked::Refused(Refusal::TooManyRows);
+    }
+    if !rows_good(order, bound, rows) {
+        return Checked::No;
+    }
+    if !rows_apart(rows) {
+        return Checked::No;
+    }
+    if !jobs_whole(order, rows) {
+        return Checked::No;
+    }
+    Checked::Yes
+}

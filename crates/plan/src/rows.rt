@@ -1,0 +1,195 @@
+// Rows of lent numbers, four to a row, and the four rules of a right plan. Each function serves the check alone and may
+// have a `requires`.
+use order::Order;
+use super::Piece;
+use super::RowRead;
+ghost use mathlib.Core.Path.{_≡_};
+ghost use Prim.Native.Nat.{ℕ, suc, _+_, _-_, _*_, _/_, _%_, _<_, _≤_};
+ghost use mathlib.Core.Bool.{true, _&&_};
+ghost use lib.Dec.{eqb};
+ghost use lib.ListN.{length};
+ghost use Rattle.sums.specs.Lists.{only, tabulate};
+ghost use Rattle.order.specs.Order.{jobCount};
+ghost use Rattle.order.specs.Refusals.{Accepted, boundInRange};
+ghost use Rattle.order.specs.Table.{orderOf};
+ghost use Rattle.plan.specs.Plan.{Row, lengthsOf};
+ghost use Rattle.plan.specs.Check.{rowAt, rowsOf, every, everyTwo, wellFormed, byEnd, noOverlap, wholeJob};
+ghost use Rattle.plan.specs.Inside.{rowOf, pieceAt, rowRead};
+
+// The four numbers of a whole row.
+fn piece_at(rows: &[u32], i: usize) -> Piece
+    requires { ⌜ (i < 3024) × (4 * i + 4 ≤ length (now rows)) ⌝ }
+    ensures { λ r. ⌜ r ≡ pieceAt (now (rows .entry)) i ⌝ }
+{
+    let at = 4 * i;
+    Piece {
+        job: rows[at],
+        processor: rows[at + 1],
+        from: rows[at + 2],
+        to: rows[at + 3],
+    }
+}
+
+// Whether a row names a job and a processor that fit, and goes forward.
+fn well_formed(order: Order, piece: Piece) -> bool
+    requires { ⌜ (order .processors ≤ 16) × (order .jobs ≤ 48) ⌝ }
+    ensures { λ r. ⌜ r ≡ wellFormed (orderOf order) (rowOf piece) ⌝ }
+{
+    let job = piece.job;
+    let processor = piece.processor;
+    if job < 1 {
+        return false;
+    }
+    if order.jobs < job {
+        return false;
+    }
+    if processor < 1 {
+        return false;
+    }
+    if order.processors < processor {
+        return false;
+    }
+    let j = (job - 1) as usize;
+    let i = (processor - 1) as usize;
+    if order.memories[i] < order.needs[j] {
+        return false;
+    }
+    piece.from < piece.to
+}
+
+// The row at a place.
+fn row_at(order: Order, rows: &[u32], i: usize) -> RowRead
+    requires { ⌜ (order .processors ≤ 16) × (order .jobs ≤ 48) × (i < 3024) ⌝ }
+    ensures { λ r. ⌜ r ≡ rowRead (orderOf order) (now (rows .entry)) i ⌝ }
+{
+    if rows.len() < 4 * i + 4 {
+        return RowRead::Malformed;
+    }
+    let piece = piece_at(rows, i);
+    if well_formed(order, piece) {
+        return RowRead::Good(piece);
+    }
+    RowRead::Malformed
+}
+
+// Whether a well-formed row ends by its job's end.
+fn by_end(order: Order, bound: i32, piece: Piece) -> bool
+    requires { ⌜ Accepted (orderOf order) × (boundInRange bound ≡ true) ⌝ }
+    requires { ⌜ wellFormed (orderOf order) (rowOf piece) ≡ true ⌝ }
+    ensures { λ r. ⌜ r ≡ byEnd (orderOf order) bound (rowOf piece) ⌝ }
+{
+    let j = (piece.job - 1) as usize;
+    piece.to <= order::deadline::deadline(order.dues[j], bound)
+}
+
+// Whether every row is well formed and ends by its job's end, none being left over.
+pub fn rows_good(order: Order, bound: i32, rows: &[u32]) -> bool
+    requires { ⌜ Accepted (orderOf order) × (boundInRange bound ≡ true) × (length (now rows) ≤ 12096) ⌝ }
+    ensures { λ r. ⌜ r ≡ (eqb (length (now (rows .entry)) % 4) 0
+        && every (λ (r : Row). wellFormed (orderOf order) r && byEnd (orderOf order) bound r) (rowsOf (now (rows .entry)))) ⌝ }
+{
+    let n = (rows.len() + 3) / 4;
+    let mut i: usize = 0;
+    while i < n {
+        let RowRead::Good(piece) = row_at(order, rows, i) else {
+            return false;
+        };
+        if !by_end(order, bound, piece) {
+            return false;
+        }
+        i += 1;
+    }
+    true
+}
+
+// Whether two rows share neither job nor processor, or do not overlap.
+fn no_overlap(a: Piece, b: Piece) -> bool
+    ensures { λ r. ⌜ r ≡ noOverlap (rowOf a) (rowOf b) ⌝ }
+{
+    if a.job != b.job {
+        if a.processor != b.processor {
+            return true;
+        }
+    }
+    if a.to <= b.from {
+        return true;
+    }
+    b.to <= a.from
+}
+
+// Whether a row overlaps none of the earlier ones.
+fn clear_of_earlier(rows: &[u32], i: usize) -> bool
+    requires { ⌜ (i < 3024) × (4 * i + 4 ≤ length (now rows)) ⌝ }
+    ensures { λ r. ⌜ r ≡ every (λ (r : Row). noOverlap r (rowAt (now (rows .entry)) i)) (tabulate i (rowAt (now (rows .entry)))) ⌝ }
+{
+    let piece = piece_at(rows, i);
+    let mut k: usize = 0;
+    while k < i {
+        if !no_overlap(piece_at(rows, k), piece) {
+            return false;
+        }
+        k += 1;
+    }
+    true
+}
+
+// Whether no two rows overlap that share a job or a processor.
+pub fn rows_apart(rows: &[u32]) -> bool
+    requires { ⌜ length (now rows) ≤ 12096 ⌝ }
+    ensures { λ r. ⌜ r ≡ everyTwo noOverlap (rowsOf (now (rows .entry))) ⌝ }
+{
+    let n = rows.len() / 4;
+    let mut i: usize = 0;
+    while i < n {
+        if !clear_of_earlier(rows, i) {
+            return false;
+        }
+        i += 1;
+    }
+    true
+}
+
+// The length of a row where it is of this job, else 0.
+fn length_for(piece: Piece, job: u32) -> u64
+    ensures { λ r. ⌜ (r ≡ only (eqb (piece .job) job) (piece .to - piece .from)) × (r < 4294967296) ⌝ }
+{
+    if piece.job != job {
+        return 0;
+    }
+    if piece.to < piece.from {
+        return 0;
+    }
+    (piece.to - piece.from) as u64
+}
+
+// The lengths of a job's rows, added up.
+fn lengths_of(rows: &[u32], job: u32) -> u64
+    requires { ⌜ length (now rows) ≤ 12096 ⌝ }
+    ensures { λ r. ⌜ r ≡ lengthsOf job (rowsOf (now (rows .entry))) ⌝ }
+{
+    let n = rows.len() / 4;
+    let mut total: u64 = 0;
+    let mut i: usize = 0;
+    while i < n {
+        total += length_for(piece_at(rows, i), job);
+        i += 1;
+    }
+    total
+}
+
+// Whether the lengths of each job's rows add up to its time.
+pub fn jobs_whole(order: Order, rows: &[u32]) -> bool
+    requires { ⌜ (order .jobs ≤ 48) × (length (now rows) ≤ 12096) ⌝ }
+    ensures { λ r. ⌜ r ≡ every (wholeJob (orderOf order) (rowsOf (now (rows .entry)))) (tabulate (jobCount (orderOf order)) suc) ⌝ }
+{
+    let n = order.jobs as usize;
+    let mut j: usize = 0;
+    while j < n {
+        let time = order.times[j] as u64;
+        j += 1;
+        if lengths_of(rows, j as u32) != time {
+            return false;
+        }
+    }
+    true
+}
