@@ -30,11 +30,11 @@ def plan_case(story, order, bound, room=None):
 
 
 def of_document():
-    for name, order in (("● A", known_orders.A), ("● B", known_orders.B),
-                        ("● C", known_orders.C), ("● D", known_orders.D),
-                        ("● memory 4, job (1, 1, 0)", known_orders.NEED_0),
-                        ("● memory 1, job (1, -5, 1)", known_orders.DUE_MINUS_5)):
-        yield least_case(name, order)
+    for name, order in (("A", known_orders.A), ("B", known_orders.B),
+                        ("C", known_orders.C), ("D", known_orders.D),
+                        ("memory 4, job (1, 1, 0)", known_orders.NEED_0),
+                        ("memory 1, job (1, -5, 1)", known_orders.DUE_MINUS_5)):
+        yield least_case(f"● {name}", order)
         for more in (-2, -1, 0, 1):
             yield plan_case(name, order, least.least(order) + more)
     yield plan_case("● A", known_orders.A, 0)

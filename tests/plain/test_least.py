@@ -85,10 +85,10 @@ class Parts(unittest.TestCase):
                     self.assertTrue(plan_rules.right(order, at, rows, parts))
 
     def test_halves(self):
-        self.compare(2, 44, 900)
+        self.compare(2, 44, 600)
 
     def test_thirds(self):
-        self.compare(3, 45, 250)
+        self.compare(3, 45, 150)
 
     def test_parts_by_flow(self):
         for order in tiny_orders(46, 300):

@@ -114,7 +114,7 @@ class Reasons(unittest.TestCase):
 
     def test_large_is_the_same(self):
         of, deep = draw.Draw(53), 0
-        for _ in range(2000):
+        for _ in range(1200):
             order = of.one_of((draw.crowded, draw.steep, draw.middle))(of)
             bound = least.least(order) - of.one_of((0, 1, 1, 2, 3))
             found = reason.first_overfull(order, bound)

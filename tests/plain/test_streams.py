@@ -3,10 +3,7 @@
 import unittest
 
 import cases
-import cases_check
-import cases_planner
-import cases_read
-import cases_write
+import orders
 import search
 import stream_form
 
@@ -35,12 +32,30 @@ def small(order):
 
 class Form(unittest.TestCase):
     def test_there_and_back(self):
-        for part in (cases_read, cases_check, cases_write, cases_planner):
-            for story, record in part.cases():
-                data = stream_form.pack(record)
-                again = stream_form.unpack(data + stream_form.words(0))
-                self.assertEqual(len(again), 1, story)
-                self.assertEqual(stream_form.pack(again[0]), data, story)
+        for name in cases.STREAMS:
+            data = (cases.STORED / f"{name}.bin").read_bytes()
+            self.assertEqual(stream_form.stream(stream_form.unpack(data)), data)
+
+    def test_by_hand(self):
+        order = orders.order([8, 4], [(3, -1, 8)])
+        record = stream_form.Record("check", (order, -2, [1, 1, 0]))
+        self.assertEqual(stream_form.stream([record]).hex(" ", 4), (
+            "02000000 02000000 01000000 08000000 04000000 03000000 ffffffff "
+            "08000000 feffffff 03000000 01000000 01000000 00000000 00000000"))
+        record = stream_form.Record("read", (b"\x01\x02\x03",))
+        self.assertEqual(stream_form.stream([record]).hex(),
+                         "01000000" "03000000" "010203" "00000000")
+        many = orders.order([4] * 17, [], m=4294967295)
+        record = stream_form.Record("write", (many, 700))
+        self.assertEqual(stream_form.pack(record).hex(),
+                         "05000000" "ffffffff" "00000000" + "04000000" * 16
+                         + "bc020000")
+        record = stream_form.Record("least", (orders.order([], []), 4))
+        self.assertEqual(stream_form.pack(record).hex(" ", 4),
+                         "03000000 00000000 00000000 04000000")
+        record = stream_form.Record("plan", (orders.order([], []), -1, 4))
+        self.assertEqual(stream_form.pack(record).hex(" ", 4),
+                         "04000000 00000000 00000000 ffffffff 04000000")
 
     def test_sizes(self):
         for name, kinds in (("ground", {"read", "check", "write"}),

@@ -4,22 +4,14 @@ use Prim.Native.Nat.{ℕ, zero, suc}
 use mathlib.Core.Bool.{Bool, cond}
 use mathlib.Core.List.{List, [], _∷_}
 use lib.Dec.{leb, ltb, eqb}
+use Rattle.order.specs.Sorted.{distinct}
 use Rattle.order.specs.Order.{Job, Order}
+use Rattle.sums.specs.Sum.{sum}
 use Rattle.sums.specs.Lists.{total, only, nth}
-
--- x among falling numbers that are all distinct, at its place unless it is there already
-unfoldable pub insert : ℕ → List ℕ → List ℕ
-insert x [] = x ∷ []
-insert x (y ∷ ys) = cond (ltb y x) (x ∷ (y ∷ ys)) (cond (eqb x y) (y ∷ ys) (y ∷ insert x ys))
-
--- the distinct numbers of a list, downwards
-unfoldable pub distinct : List ℕ → List ℕ
-distinct [] = []
-distinct (x ∷ xs) = insert x (distinct xs)
 
 -- the memory of class 1, of class 2, ..
 unfoldable pub classes : Order → List ℕ
-classes o = distinct (o .memories)
+classes o = distinct ltb (o .memories)
 
 -- how many of falling memories suffice for a need: the last that does is the need's class
 unfoldable pub lastThatSuffices : ℕ → List ℕ → ℕ
@@ -36,3 +28,7 @@ memoryOfClass o k = nth (classes o) k 0
 
 unfoldable pub processorsIn : Order → ℕ → ℕ
 processorsIn o k = total (o .memories) (λ m. only (eqb m (memoryOfClass o k)) 1)
+
+-- the processors of the first k classes
+unfoldable pub processorsTo : Order → ℕ → ℕ
+processorsTo o k = sum k (λ i. processorsIn o (suc i))

@@ -1,4 +1,5 @@
 pub mod Order
+pub mod Sorted
 pub mod Class
 pub mod Deadline
 pub mod Refusals

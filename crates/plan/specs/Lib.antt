@@ -1,4 +1,5 @@
 pub mod Plan
+pub mod IsLeast
 pub mod Check
 pub mod Told
 pub mod Inside

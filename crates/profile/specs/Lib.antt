@@ -1,0 +1,4 @@
+pub mod Profile
+pub mod Reason
+pub mod Search
+pub mod Least
