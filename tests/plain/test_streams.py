@@ -89,6 +89,8 @@ class Stored(unittest.TestCase):
             elif abs(record.values[1]) < BOUNDS_NEAR:
                 self.assertEqual(search.meets(order, record.values[1]),
                                  line == "meets", order)
+            else:
+                continue
             seen[record.kind] += 1
         self.assertGreater(min(seen.values()), 400)
 

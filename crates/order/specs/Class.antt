@@ -18,16 +18,20 @@ unfoldable pub lastThatSuffices : ℕ → List ℕ → ℕ
 lastThatSuffices need [] = 0
 lastThatSuffices need (m ∷ ms) = cond (leb need m) (suc (lastThatSuffices need ms)) 0
 
--- the class of a job, from 1; a need of 0 belongs to the last class
-unfoldable pub classOf : Order → Job → ℕ
-classOf o job = lastThatSuffices (job .need) (classes o)
+-- the last class whose memory suffices for a need, counted from 1
+unfoldable pub classFor : Order → ℕ → ℕ
+classFor o need = lastThatSuffices need (classes o)
 
--- the memory of class k, and how many processors have it
+-- the class of a job; a need of 0 belongs to the last class
+unfoldable pub classOf : Order → Job → ℕ
+classOf o job = classFor o (job .need)
+
+-- the memory of class k, and how many processors have it: a processor is in the class of its own memory
 unfoldable pub memoryOfClass : Order → ℕ → ℕ
 memoryOfClass o k = nth (classes o) k 0
 
 unfoldable pub processorsIn : Order → ℕ → ℕ
-processorsIn o k = total (o .memories) (λ m. only (eqb m (memoryOfClass o k)) 1)
+processorsIn o k = total (o .memories) (λ m. only (eqb (classFor o m) k) 1)
 
 -- the processors of the first k classes
 unfoldable pub processorsTo : Order → ℕ → ℕ

@@ -5,3 +5,5 @@ pub mod Deadline
 pub mod Refusals
 pub mod Table
 pub mod RefusalLaws
+pub mod SortedLaws
+pub mod ClassLaws

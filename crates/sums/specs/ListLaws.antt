@@ -1,14 +1,15 @@
 -- Laws of lists: All, Pairwise, total and tabulate, at a place and as a whole.
 use Prim.Native.Nat.{ℕ, zero, suc, _+_, _*_, _≤_, _<_}
-use mathlib.Core.Path.{_≡_, refl, sym, ap, _∙_}
+use mathlib.Core.Path.{_≡_, refl, sym, ap, _∙_, subst}
 use mathlib.Core.Bool.{Bool, true, false}
 use mathlib.Core.List.{List, [], _∷_, _++_}
+use mathlib.Core.Logic.{_⊎_, inl, inr}
 use native.Mathlib.Omega.{arith}
 use native.Mathlib.Nat.{le-of-suc-le-suc}
 use lib.ListN.{length, getD, drop, take}
 use lib.Seq.{ext-getD}
-use Rattle.sums.specs.Sum.{sum}
-use Rattle.sums.specs.Lists.{All, Pairwise, total, only, tabulate}
+use Rattle.sums.specs.Sum.{sum, sum-add, sum-const}
+use Rattle.sums.specs.Lists.{All, In, Pairwise, total, only, tabulate}
 
 pub only-le : (b : Bool) (x : ℕ) → only b x ≤ x
 only-le true x = omega arith
@@ -26,6 +27,26 @@ module _ {A : Type 0} where
   pub All-append : (P : A → Type 0) (xs ys : List A) → All P xs → All P ys → All P (xs ++ ys)
   All-append P [] ys h k = k
   All-append P (x ∷ xs) ys h k = (h .0, All-append P xs ys (h .1) k)
+
+  pub All-in : (P : A → Type 0) (xs : List A) → All P xs → (x : A) → In x xs → P x
+  All-in P [] h x i = absurd i
+  All-in P (y ∷ ys) h x (inl e) = subst P (sym e) (h .0)
+  All-in P (y ∷ ys) h x (inr i) = All-in P ys (h .1) x i
+
+  pub in-All : (P : A → Type 0) (xs : List A) → ((x : A) → In x xs → P x) → All P xs
+  in-All P [] f = tt
+  in-All P (x ∷ xs) f = (f x (inl refl), in-All P xs (λ y i. f y (inr i)))
+
+  -- a member stands at a place, and what stands at a place is a member
+  pub in-at : (xs : List A) (d x : A) → In x xs → (i : ℕ) × (i < length xs) × (getD xs i d ≡ x)
+  in-at [] d x i = absurd i
+  in-at (y ∷ ys) d x (inl e) = (0, omega arith, sym e)
+  in-at (y ∷ ys) d x (inr m) = let r = in-at ys d x m in (suc (r .0), omega (arith, r .1), r .2)
+
+  pub at-in : (xs : List A) (d : A) (i : ℕ) → i < length xs → In (getD xs i d) xs
+  at-in [] d i l = absurd (omega arith)
+  at-in (y ∷ ys) d zero l = inl refl
+  at-in (y ∷ ys) d (suc i) l = inr (at-in ys d i (le-of-suc-le-suc l))
 
   -- what holds of each member holds at each place, and the other way round
   pub All-at : (P : A → Type 0) (xs : List A) (d : A) → All P xs → (i : ℕ) → i < length xs → P (getD xs i d)
@@ -92,3 +113,8 @@ pub total-tabulate : {A : Type 0} (n : ℕ) (f : ℕ → A) (g : A → ℕ) → 
 unfolding sum
 total-tabulate zero f g = refl
 total-tabulate (suc n) f g = omega (arith, total-tabulate n (λ i. f (suc i)) g, sum-first n (λ i. g (f i)))
+
+-- a sum of totals is the total of the sums
+pub sum-total : {A : Type 0} (n : ℕ) (xs : List A) (f : ℕ → A → ℕ) → sum n (λ i. total xs (f i)) ≡ total xs (λ x. sum n (λ i. f i x))
+sum-total n [] f = omega (arith, sum-const n 0)
+sum-total n (x ∷ xs) f = omega (arith, sum-total n xs f, sum-add n (λ i. f i x) (λ i. total xs (f i)))
