@@ -1,0 +1,147 @@
+use borrow.Author.Needs.{needs}
+use native.Mathlib.Omega.{arith}
+use Prim.Native.Nat.{ℕ, suc, _^_, _≤_, _<_, _+_, _*_}
+use mathlib.Core.Path.{_≡_, _∙_, refl}
+use mathlib.Core.List.{[]}
+use lib.ListN.{length, getD, set, length-set}
+use Rattle.amounts.specs.State.{measure}
+use Rattle.amounts.specs.State.{Barred}
+use Rattle.engine.specs.View.{Ready, flowOf, fillOf}
+use Rattle.amounts.specs.State.{class-top}
+use Rattle.engine.proofs.Laws.{found-push, found-rise}
+use Rattle.engine.proofs.Steps.{Going, going-start, going-push, going-done, going-rise}
+use Rattle.engine.proofs.advance.discharge.Statement.{statement}
+use Rattle.engine.proofs.advance.discharge.Tie as tie
+use Rattle.engine.proofs.advance.discharge.Reads as reads
+use Rattle.engine.proofs.advance.discharge.Lts as lts
+use Rattle.engine.proofs.moves.find.Reads as find-reads
+use Rattle.engine.proofs.advance.push.Reads as push-reads
+
+abbrev Inv-loop : tie.InvT-loop
+Inv-loop time class cap room w₀ slack₀ left₀ height₀ n q m j u₀ w slack left height u =
+    Going n q m time class cap room w₀ slack₀ left₀ height₀ w slack left height j u
+
+abbrev μ-loop : tie.MeasureT-loop
+μ-loop time class cap room w₀ slack₀ left₀ height₀ n q m j u₀ w slack left height u = measure (2 ^ 32) n (fillOf q m w slack left height)
+
+-- the function's entry, seen from the search
+abbrev top : tie.After-find-arg3 Inv-loop μ-loop → tie.Start Inv-loop μ-loop
+top c = c .before .before .before .before .before .before .before .before .before .before .before .before .before .before
+
+loop-holds : tie.Need-loop-holds Inv-loop μ-loop
+loop-holds c = search needs
+
+mul-if1 : tie.Need-mul-if1 Inv-loop μ-loop
+mul-if1 c = search needs
+
+slice-read-if1 : tie.Need-slice-read-if1 Inv-loop μ-loop
+slice-read-if1 c = search needs
+
+find-requires : tie.Need-find-requires Inv-loop μ-loop
+find-requires c κs =
+    let G = c .before .before .before .before .before .loop .inv in
+    let Z = G .ready .sizes in
+    ((top c .pre .1 .0, G .within, Z .s-class, Z .s-h), ((Z .s-cap, Z .s-w, Z .s-slack), (class-top _ _ (G .ready .order), G .barred)))
+
+enum-known-s : tie.Need-enum-known-s Inv-loop μ-loop
+enum-known-s c = search needs
+
+push-requires : tie.Need-push-requires Inv-loop μ-loop
+push-requires c κs =
+    (c .before .before .before .before .before .before .before .before .before .before .before .before .before .loop .inv .ready, (c .before .before .before .before .before .before .before .before .before .before .before .if1 .taken, found-push _ _ _ _ _ _ (c .before .before .before .before .before .before .before .find .ensures) (c .before .before .before .before .before .s .given .1) .0))
+
+add-u : tie.Need-add-u Inv-loop μ-loop
+add-u c = omega (arith, found-push _ _ _ _ _ _ (c .before .before .before .before .before .before .before .before .before .before .before .before .before .before .find .ensures) (c .before .before .before .before .before .before .before .before .before .before .before .before .s .given .1) .0 .s-any, top (c .before .before .before .before .before .before .before .before .before .before .before .before .before .before .before) .fits .q)
+
+loop-less : tie.Need-loop-less Inv-loop μ-loop
+loop-less c = search needs
+
+loop-again : tie.Need-loop-again Inv-loop μ-loop
+loop-again c =
+    let f = found-push _ _ _ _ _ _ (c .before .before .before .before .before .before .before .before .before .before .before .before .before .before .find .ensures) (c .before .before .before .before .before .before .before .before .before .before .before .before .s .given .1) in
+    let p = c .before .before .before .before .before .before .push in
+    let k = p .kept .1 .1 .1 .1 in
+    going-push _ _ _ _ _ _ _ _ _ _ _ _ _ _ _ _ _ (c .before .before .before .before .before .before .before .before .before .before .before .before .before .before .before .before .before .before .before .before .loop .inv) _ _ _ _ (f .0 .s-any) (f .1) (p .ensures) (k .0) (k .1 .0) (k .1 .1 .0)
+
+enum-told : tie.Need-enum-told Inv-loop μ-loop
+enum-told c = search needs
+
+mul-height : tie.Need-mul-height Inv-loop μ-loop
+mul-height c = search needs
+
+slice-read-height : tie.Need-slice-read-height Inv-loop μ-loop
+slice-read-height c = search needs
+
+add-height : tie.Need-add-height Inv-loop μ-loop
+add-height c = search needs
+
+mul-height-2 : tie.Need-mul-height-2 Inv-loop μ-loop
+mul-height-2 c = search needs
+
+slice-write-height : tie.Need-slice-write-height Inv-loop μ-loop
+slice-write-height c = search needs
+
+same-length : tie.Need-same-length Inv-loop μ-loop
+same-length c = search needs
+
+same-length-2 : tie.Need-same-length-2 Inv-loop μ-loop
+same-length-2 c = search needs
+
+same-length-3 : tie.Need-same-length-3 Inv-loop μ-loop
+same-length-3 c = search needs
+
+same-length-4 : tie.Need-same-length-4 Inv-loop μ-loop
+same-length-4 c = search needs
+
+returns : tie.Need-returns Inv-loop μ-loop
+returns c =
+    let k = c .before .before .before .before in
+    going-rise _ _ _ _ _ _ _ _ _ _ _ _ _ _ _ _ _ (c .before .before .before .before .before .before .before .before .before .loop .inv) (top k .pre .1 .0) (omega (arith, c .before .before .before .before .before .before .before .before .slice-known5 .given (top k .args .j)))
+    (found-rise _ _ _ _ (c .before .before .before .find .ensures) (c .before .enum-told .given .1))
+
+same-length-5 : tie.Need-same-length-5 Inv-loop μ-loop
+same-length-5 c = search needs
+
+same-length-6 : tie.Need-same-length-6 Inv-loop μ-loop
+same-length-6 c = search needs
+
+same-length-7 : tie.Need-same-length-7 Inv-loop μ-loop
+same-length-7 c = search needs
+
+same-length-8 : tie.Need-same-length-8 Inv-loop μ-loop
+same-length-8 c = search needs
+
+returns-2 : tie.Need-returns-2 Inv-loop μ-loop
+returns-2 c = going-done _ _ _ _ _ _ _ _ _ _ _ _ _ _ _ _ _ (c .before .before .loop .inv) (omega (arith, c .if1 .left))
+
+pub discharge-spec : {M : Type 1} → statement M
+discharge-spec =
+    tie.close
+    (tie.spec
+    Inv-loop
+    μ-loop
+    loop-holds
+    mul-if1
+    slice-read-if1
+    find-requires
+    enum-known-s
+    push-requires
+    add-u
+    loop-less
+    loop-again
+    enum-told
+    mul-height
+    slice-read-height
+    add-height
+    mul-height-2
+    slice-write-height
+    same-length
+    same-length-2
+    same-length-3
+    same-length-4
+    returns
+    same-length-5
+    same-length-6
+    same-length-7
+    same-length-8
+    returns-2)

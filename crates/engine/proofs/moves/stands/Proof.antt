@@ -1,0 +1,56 @@
+use borrow.Author.Needs.{needs}
+use native.Mathlib.Omega.{arith}
+use mathlib.Core.Path.{_≡_}
+use mathlib.Core.Logic.{_≢_}
+use Prim.Native.Nat.{ℕ, _≤_, _<_, _-_, _+_, _*_}
+use lib.ListN.{length, getD}
+use borrow.Author.Count.{below-more}
+use Rattle.engine.proofs.moves.stands.Statement.{statement}
+use Rattle.engine.proofs.moves.stands.Tie as tie
+use Rattle.engine.proofs.moves.stands.Reads as reads
+use Rattle.engine.proofs.moves.stands.Lts as lts
+
+abbrev Inv-loop : tie.InvT-loop
+Inv-loop height n g a₀ a = (a ≤ n) × ((b : ℕ) → b < a → getD height b 0 ≢ g)
+
+abbrev μ-loop : tie.MeasureT-loop
+μ-loop height n g a₀ a = n - a
+
+loop-holds : tie.Need-loop-holds Inv-loop μ-loop
+loop-holds c = search needs
+
+mul-if1 : tie.Need-mul-if1 Inv-loop μ-loop
+mul-if1 c = search needs
+
+shared-slice-read-if1 : tie.Need-shared-slice-read-if1 Inv-loop μ-loop
+shared-slice-read-if1 c = search needs
+
+returns : tie.Need-returns Inv-loop μ-loop
+returns c = search needs
+
+add-a : tie.Need-add-a Inv-loop μ-loop
+add-a c = search needs
+
+loop-less : tie.Need-loop-less Inv-loop μ-loop
+loop-less c = search needs
+
+loop-again : tie.Need-loop-again Inv-loop μ-loop
+loop-again c = (search needs, below-more _ _ (c .before .before .before .loop .inv .1) (c .if1 .left))
+
+returns-2 : tie.Need-returns-2 Inv-loop μ-loop
+returns-2 c = λ a l. c .before .loop .inv .1 a (omega arith)
+
+pub stands-spec : {M : Type 1} → statement M
+stands-spec =
+    tie.close
+    (tie.spec
+    Inv-loop
+    μ-loop
+    loop-holds
+    mul-if1
+    shared-slice-read-if1
+    returns
+    add-a
+    loop-less
+    loop-again
+    returns-2)
