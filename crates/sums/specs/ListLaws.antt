@@ -6,14 +6,27 @@ use mathlib.Core.List.{List, [], _∷_, _++_}
 use mathlib.Core.Logic.{_⊎_, inl, inr}
 use native.Mathlib.Omega.{arith}
 use native.Mathlib.Nat.{le-of-suc-le-suc}
+use lib.Dec.{eqb}
+use borrow.Author.Tests.{eq-eqb, ne-eqb}
 use lib.ListN.{length, getD, drop, take}
 use lib.Seq.{ext-getD}
-use Rattle.sums.specs.Sum.{sum, sum-add, sum-const}
-use Rattle.sums.specs.Lists.{All, In, Pairwise, total, only, tabulate}
+use Rattle.sums.specs.Sum.{sum, sum-cong, sum-add, sum-const, sum-at}
+use Rattle.sums.specs.Gate.{gate, gate-add}
+use Rattle.sums.specs.Lists.{All, In, Pairwise, total, only, tabulate, nth}
 
 pub only-le : (b : Bool) (x : ℕ) → only b x ≤ x
 only-le true x = omega arith
 only-le false x = omega arith
+
+-- equal, where the test is passed
+pub only-cong : (b : Bool) (x y : ℕ) → (b ≡ true → x ≡ y) → only b x ≡ only b y
+only-cong true x y h = h refl
+only-cong false x y h = refl
+
+-- nothing, where nothing passes the test
+pub only-none : (b : Bool) (x : ℕ) → (b ≡ true → x ≡ 0) → only b x ≡ 0
+only-none true x h = h refl
+only-none false x h = refl
 
 module _ {A : Type 0} where
   pub All-map : (P Q : A → Type 0) (xs : List A) → ((x : A) → P x → Q x) → All P xs → All Q xs
@@ -104,7 +117,7 @@ module _ {A : Type 0} where
   total-append [] ys f = omega arith
   total-append (x ∷ xs) ys f = omega (arith, total-append xs ys f)
 
-sum-first : (n : ℕ) (f : ℕ → ℕ) → sum (suc n) f ≡ f 0 + sum n (λ i. f (suc i))
+pub sum-first : (n : ℕ) (f : ℕ → ℕ) → sum (suc n) f ≡ f 0 + sum n (λ i. f (suc i))
 unfolding sum
 sum-first zero f = omega arith
 sum-first (suc n) f = omega (arith, sum-first n f)
@@ -118,3 +131,80 @@ total-tabulate (suc n) f g = omega (arith, total-tabulate n (λ i. f (suc i)) g,
 pub sum-total : {A : Type 0} (n : ℕ) (xs : List A) (f : ℕ → A → ℕ) → sum n (λ i. total xs (f i)) ≡ total xs (λ x. sum n (λ i. f i x))
 sum-total n [] f = omega (arith, sum-const n 0)
 sum-total n (x ∷ xs) f = omega (arith, sum-total n xs f, sum-add n (λ i. f i x) (λ i. total xs (f i)))
+
+-- the sum over the members is the sum over the places
+pub total-places : {A : Type 0} (xs : List A) (d : A) (f : A → ℕ) → total xs f ≡ sum (length xs) (λ i. f (getD xs i d))
+total-places xs d f =
+    ap (λ (l : List _). total l f) (sym (tabulate-getD xs d)) ∙ total-tabulate (length xs) (λ i. getD xs i d) f
+
+module _ {A : Type 0} where
+  -- what holds of each member holds of the one that a number names, and that one is a member
+  pub All-nth : (P : A → Type 0) (xs : List A) (d : A) → All P xs → (k : ℕ) → 1 ≤ k → k ≤ length xs → P (nth xs k d)
+  All-nth P xs d h zero l m = absurd (omega arith)
+  All-nth P xs d h (suc k) l m = All-at P xs d h k m
+
+  pub nth-in : (xs : List A) (d : A) (k : ℕ) → 1 ≤ k → k ≤ length xs → In (nth xs k d) xs
+  nth-in xs d zero l m = absurd (omega arith)
+  nth-in xs d (suc k) l m = at-in xs d k m
+
+  pub total-none : (xs : List A) (f : A → ℕ) → All (λ x. f x ≡ 0) xs → total xs f ≡ 0
+  total-none [] f h = refl
+  total-none (x ∷ xs) f h = omega (arith, total-none xs f (h .1), h .0)
+
+  -- where each place has a value of which P holds, a list of such values
+  pub choose : (n : ℕ) (d : A) (P : ℕ → A → Type 0) → ((i : ℕ) → i < n → (x : A) × P i x) →
+      (xs : List A) × (length xs ≡ n) × ((i : ℕ) → i < n → P i (getD xs i d))
+  choose zero d P f = ([], refl, λ i l. absurd (omega arith))
+  choose (suc n) d P f =
+      let first = f 0 (omega arith) in
+      let rest = choose n d (λ i. P (suc i)) (λ i l. f (suc i) (omega arith)) in
+      (first .0 ∷ rest .0, ap suc (rest .1), at-place (first .0) (rest .0) (first .1) (rest .2))
+    where
+      at-place : (x : A) (xs : List A) → P 0 x → ((i : ℕ) → i < n → P (suc i) (getD xs i d)) →
+          (i : ℕ) → i < suc n → P i (getD (x ∷ xs) i d)
+      at-place x xs h k zero l = h
+      at-place x xs h k (suc i) l = k i (le-of-suc-le-suc l)
+
+-- nothing comes through a gate where nothing comes
+gate-none : (a b : ℕ) → gate a b 0 ≡ 0
+gate-none a b = omega (arith, gate-add a b 0 0)
+
+-- of the numbers 1 to n one is the given one
+one-number : (n : ℕ) (rank : ℕ → ℕ) (k v number : ℕ) → 1 ≤ number → number ≤ n →
+    sum n (λ i. gate (rank (suc i)) k (only (eqb number (suc i)) v)) ≡ gate (rank number) k v
+one-number n rank k v zero l m = absurd (omega arith)
+one-number n rank k v (suc p) l m =
+    let term : ℕ → ℕ = λ i. gate (rank (suc i)) k (only (eqb (suc p) (suc i)) v) in
+    let here : term p ≡ gate (rank (suc p)) k v
+    = ap (λ (b : Bool). gate (rank (suc p)) k (only b v)) (eq-eqb (suc p) (suc p) refl) in
+    omega (
+      arith,
+      here,
+      sum-const n 0,
+      sum-at n p term (λ _. 0) m (λ i ne.
+          ap (λ (b : Bool). gate (rank (suc i)) k (only b v)) (ne-eqb (suc p) (suc i) (λ e. omega arith))
+          ∙ gate-none (rank (suc i)) k),
+    )
+
+-- the sum over the numbers whose rank is below k, of the members with that number, is the sum over the members whose
+-- number has a rank below k
+pub by-number : {A : Type 0} (n : ℕ) (number : A → ℕ) (rank : ℕ → ℕ) (k : ℕ) (xs : List A) (f : A → ℕ) →
+    All (λ x. (1 ≤ number x) × (number x ≤ n)) xs →
+    sum n (λ i. gate (rank (suc i)) k (total xs (λ x. only (eqb (number x) (suc i)) (f x))))
+    ≡ total xs (λ x. gate (rank (number x)) k (f x))
+by-number n number rank k [] f h = omega (arith, sum-const n 0, sum-cong n _ (λ _. 0) (λ i l. gate-none (rank (suc i)) k))
+by-number n number rank k (x ∷ xs) f h =
+    let one : ℕ → ℕ = λ i. gate (rank (suc i)) k (only (eqb (number x) (suc i)) (f x)) in
+    let more : ℕ → ℕ = λ i. gate (rank (suc i)) k (total xs (λ x. only (eqb (number x) (suc i)) (f x))) in
+    omega (
+      arith,
+      sum-cong n _ (λ i. one i + more i) (λ i l. gate-add (rank (suc i)) k (only (eqb (number x) (suc i)) (f x)) _),
+      sum-add n one more,
+      one-number n rank k (f x) (number x) (h .0 .0) (h .0 .1),
+      by-number n number rank k xs f (h .1),
+    )
+
+-- a sum behind a test
+pub sum-only-out : (n : ℕ) (b : Bool) (f : ℕ → ℕ) → sum n (λ i. only b (f i)) ≡ only b (sum n f)
+sum-only-out n true f = refl
+sum-only-out n false f = omega (arith, sum-const n 0)

@@ -1,0 +1,117 @@
+// Runs cases through the entry points and prints what they answer. The cases and the expected lines are made by tests/plain,
+// which says the form of the stream (stream_form.py).
+mod stream; // numbers, orders and files of the stream
+
+use libc::STDOUT_FILENO;
+use order::Acceptance;
+use order_file::OrderWritten;
+use plan::Checked;
+
+// A file through the reader: the order, or the refusal.
+fn read_case() {
+    let mut file = [0u8; 700];
+    let n = stream::bytes(&mut file);
+    let got = order_file::read::read_order(&file[..n]);
+    let status = got.status;
+    match status {
+        Acceptance::Refused(refusal) => lines::refused(refusal),
+        Acceptance::Accepted => print_order(got.order),
+    }
+}
+
+fn print_order(order: order::Order) {
+    lines::text(b"order");
+    lines::number(order.processors);
+    lines::number(order.jobs);
+    lines::text(b"\n");
+    print_processors(order);
+    print_jobs(order);
+}
+
+fn print_processors(order: order::Order) {
+    for i in 0..16usize {
+        if (i as u32) < order.processors {
+            lines::text(b"processor");
+            lines::number(order.memories[i]);
+            lines::text(b"\n");
+        }
+    }
+}
+
+fn print_jobs(order: order::Order) {
+    for j in 0..48usize {
+        if (j as u32) < order.jobs {
+            lines::text(b"job");
+            lines::number(order.times[j]);
+            lines::signed(order.dues[j]);
+            lines::number(order.needs[j]);
+            lines::text(b"\n");
+        }
+    }
+}
+
+// Rows through the plan check.
+fn check_case() {
+    let order = stream::order();
+    let bound = order_file::bytes::to_signed(stream::number());
+    let mut rows = [0u32; 12104];
+    let n = stream::numbers(&mut rows);
+    match plan::check::check_plan(order, bound, &rows[..n]) {
+        Checked::Yes => lines::text(b"yes\n"),
+        Checked::No => lines::text(b"no\n"),
+        Checked::Refused(refusal) => lines::refused(refusal),
+    }
+}
+
+// An order through the writer, in a buffer of the stated length; beyond what is written the buffer keeps its bytes.
+fn write_case() {
+    let order = stream::order();
+    let room = stream::number() as usize;
+    if 700 < room {
+        return;
+    }
+    let mut out = [170u8; 700];
+    let mut written: usize = 0;
+    match order_file::write::write_order(order, &mut out[..room]) {
+        OrderWritten::Bytes(n) => {
+            written = n;
+            print_file(out, n);
+        }
+        OrderWritten::Refused(refusal) => lines::refused(refusal),
+    }
+    print_changes(out, written);
+}
+
+fn print_file(out: [u8; 700], n: usize) {
+    lines::text(b"file");
+    lines::number((n % 4294967296) as u32);
+    lines::text(b" ");
+    for i in 0..700usize {
+        if i < n {
+            io::print_hex(STDOUT_FILENO, out[i] as u64, 2);
+        }
+    }
+    lines::text(b"\n");
+}
+
+// A line for each byte that is changed beyond what was written: there is none.
+fn print_changes(out: [u8; 700], written: usize) {
+    for i in 0..700usize {
+        if written <= i {
+            if out[i] != 170 {
+                lines::text(b"changed\n");
+            }
+        }
+    }
+}
+
+fn main() {
+    for _case in 0..1000000u32 {
+        match stream::number() {
+            1 => read_case(),
+            2 => check_case(),
+            5 => write_case(),
+            _ => return,
+        }
+    }
+}

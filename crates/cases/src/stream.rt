@@ -1,0 +1,74 @@
+// What the stream of cases holds: numbers of four bytes, orders, files, rows. At its end every number reads 0.
+use libc::STDIN_FILENO;
+use order::Order;
+ghost use Prim.Native.Nat.{_≤_};
+ghost use lib.ListN.{length};
+
+// The next number.
+pub fn number() -> u32 {
+    let mut bytes = [0u8; 4];
+    io::read_full(STDIN_FILENO, &mut bytes);
+    order_file::bytes::read4(&bytes, 0)
+}
+
+// As many bytes as the next number says, 700 at most; answers how many.
+pub fn bytes(file: &mut [u8; 700]) -> usize
+    ensures { λ r. ⌜ r ≤ 700 ⌝ }
+{
+    let n = number() as usize;
+    if 700 < n {
+        return 0;
+    }
+    io::read_full(STDIN_FILENO, &mut file[..n]);
+    n
+}
+
+// As many numbers as the next number says, 12,104 at most; answers how many.
+pub fn numbers(rows: &mut [u32; 12104]) -> usize
+    ensures { λ r. ⌜ r ≤ 12104 ⌝ }
+{
+    let n = number() as usize;
+    if 12104 < n {
+        return 0;
+    }
+    for i in 0..n {
+        rows[i] = number();
+    }
+    n
+}
+
+// The memories of an order of so many processors.
+fn memories(n: u32) -> [u32; 16] {
+    let mut out = [0u32; 16];
+    for i in 0..16usize {
+        if (i as u32) < n {
+            out[i] = number();
+        }
+    }
+    out
+}
+
+// An order: its counts, its memories, its jobs.
+pub fn order() -> Order {
+    let processors = number();
+    let jobs = number();
+    let memories = memories(processors);
+    let mut times = [0u32; 48];
+    let mut dues = [0i32; 48];
+    let mut needs = [0u32; 48];
+    for j in 0..48usize {
+        if (j as u32) < jobs {
+            times[j] = number();
+            dues[j] = order_file::bytes::to_signed(number());
+            needs[j] = number();
+        }
+    }
+    Order {
+        processors,
+        memories,
+        jobs,
+        times,
+        dues,
+        needs,
+    }
+}

@@ -1,0 +1,54 @@
+// Words and numbers on standard output, for the programs. No contract can speak of what is written.
+use libc::STDOUT_FILENO;
+use order::Refusal;
+
+fn wide(x: u32) -> u64 {
+    x as u64
+}
+
+// These bytes.
+pub fn text(words: &[u8]) {
+    io::write_all(STDOUT_FILENO, words);
+}
+
+// A space, and a number.
+pub fn number(n: u32) {
+    text(b" ");
+    io::print_decimal(STDOUT_FILENO, wide(n));
+}
+
+// A space, and a number of this sign.
+pub fn signed(n: i32) {
+    let pattern = wide(order_file::bytes::to_pattern(n));
+    text(b" ");
+    if 2147483648 <= pattern {
+        text(b"-");
+        io::print_decimal(STDOUT_FILENO, 4294967296 - pattern);
+    } else {
+        io::print_decimal(STDOUT_FILENO, pattern);
+    }
+}
+
+// A refusal's line: its number and what it carries.
+fn refused_as(number_of: u32, carried: u32) {
+    text(b"refused");
+    number(number_of);
+    number(carried);
+    text(b"\n");
+}
+
+pub fn refused(refusal: Refusal) {
+    match refusal {
+        Refusal::NoProcessor => refused_as(1, 0),
+        Refusal::TooManyProcessors => refused_as(2, 0),
+        Refusal::NoJob => refused_as(3, 0),
+        Refusal::TooManyJobs => refused_as(4, 0),
+        Refusal::TimeOutOfRange(job) => refused_as(5, job),
+        Refusal::DueOutOfRange(job) => refused_as(6, job),
+        Refusal::FitsNoProcessor(job) => refused_as(7, job),
+        Refusal::BoundOutOfRange => refused_as(8, 0),
+        Refusal::BufferTooShort => refused_as(9, 0),
+        Refusal::TooManyRows => refused_as(11, 0),
+        Refusal::BadFile => refused_as(12, 0),
+    }
+}
