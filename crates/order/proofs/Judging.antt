@@ -8,15 +8,37 @@ use lib.ListN.{getD}
 use Rattle.sums.specs.ListLaws.{length-tabulate}
 use Rattle.order.specs.Order.{Job, Order}
 use Rattle.order.specs.Refusals.{
-  limits, clear, TableRow, Verdict, accepted, refused, judge, first, timeInRange, dueInRange, fitsSome, countRows, jobRows, orderRows,
+  limits,
+  clear,
+  TableRow,
+  Verdict,
+  accepted,
+  refused,
+  judge,
+  first,
+  timeInRange,
+  dueInRange,
+  fitsSome,
+  countRows,
+  jobRows,
+  orderRows,
 }
 use Rattle.order.specs.RefusalLaws.{judge-refused-append, judge-accepted-append, counts-in-limits}
 use Rattle.order.specs.Table.{jobAt, orderOf, findingOf, refusalTold, acceptanceTold}
 use Rattle.order.specs.declared.Order.{Order as OrderTable}
 use Rattle.order.specs.declared.Refusal.{Refusal}
 use Rattle.order.specs.declared.Refusal.the-variants.{
-  NoProcessor, TooManyProcessors, NoJob, TooManyJobs, TimeOutOfRange, DueOutOfRange, FitsNoProcessor,
-  BoundOutOfRange, BufferTooShort, TooManyRows, BadFile,
+  NoProcessor,
+  TooManyProcessors,
+  NoJob,
+  TooManyJobs,
+  TimeOutOfRange,
+  DueOutOfRange,
+  FitsNoProcessor,
+  BoundOutOfRange,
+  BufferTooShort,
+  TooManyRows,
+  BadFile,
 }
 use Rattle.order.specs.declared.Acceptance.{Acceptance}
 use Rattle.order.specs.declared.Acceptance.the-variants.{Accepted, Refused}

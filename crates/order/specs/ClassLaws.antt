@@ -71,17 +71,23 @@ module _ (o : Order) where
   -- a class is the last that suffices exactly if it suffices and the next does not
   pub class-suffices : (need k : ℕ) → k < length (classes o) → (k < classFor o need) ↔ (need ≤ getD (classes o) k 0)
   unfolding classFor
-  class-suffices need k b = (last-suffices need (classes o) k, λ h.
-      elim (decLt k (lastThatSuffices need (classes o))) [
-        | yes l ↦ l
-        | no l ↦ absurd (after h (omega arith))
-      ])
+  class-suffices need k b = (
+    last-suffices need (classes o) k,
+    λ h.
+        elim (decLt k (lastThatSuffices need (classes o))) [
+          | yes l ↦ l
+          | no l ↦ absurd (after h (omega arith))
+        ],
+  )
     where
       after : need ≤ getD (classes o) k 0 → lastThatSuffices need (classes o) ≤ k → ⊥
       after h l =
           elim (decLt (lastThatSuffices need (classes o)) k) [
-            | yes m ↦ omega (arith, classes-fall o (lastThatSuffices need (classes o)) k m b,
-                last-ends need (classes o) (omega arith))
+            | yes m ↦ omega (
+              arith,
+              classes-fall o (lastThatSuffices need (classes o)) k m b,
+              last-ends need (classes o) (omega arith),
+            )
             | no m ↦
                 let e : lastThatSuffices need (classes o) ≡ k = omega arith in
                 omega (arith, last-ends need (classes o) (omega arith), ap (λ (i : ℕ). getD (classes o) i 0) e)
@@ -124,10 +130,12 @@ module _ (o : Order) where
 
   -- a job fits a processor exactly if the processor's class is not beyond the job's
   pub fits-class : (need m : ℕ) → In m (o .memories) → (need ≤ m) ↔ (classFor o m ≤ classFor o need)
-  fits-class need m i =
-      (class-antitone need m, λ h.
-      let c = class-of-memory m i in
-      omega (arith, class-suffices need (c .0) (c .1) .0 (omega (arith, c .2)), c .3))
+  fits-class need m i = (
+    class-antitone need m,
+    λ h.
+        let c = class-of-memory m i in
+        omega (arith, class-suffices need (c .0) (c .1) .0 (omega (arith, c .2)), c .3),
+  )
 
   -- a job that fits some processor has a class
   pub class-some : (need m : ℕ) → In m (o .memories) → need ≤ m → 1 ≤ classFor o need

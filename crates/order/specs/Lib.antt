@@ -1,4 +1,5 @@
 pub mod Order
+pub mod Whole
 pub mod Sorted
 pub mod Class
 pub mod Deadline

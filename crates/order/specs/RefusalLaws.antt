@@ -16,8 +16,28 @@ use Rattle.sums.specs.Lists.{All, nth, tabulate}
 use Rattle.sums.specs.ListLaws.{All-map, All-from, length-tabulate, getD-tabulate}
 use Rattle.order.specs.Order.{Job, Order, Numbers, Fits, processorCount, jobCount, memoryOf}
 use Rattle.order.specs.Refusals.{
-  Limits, limits, Finding, clear, holds, TableRow, Verdict, accepted, refused, verdictOf, judge, whole, firstAfter, first,
-  timeInRange, dueInRange, fitsSome, row, countRows, jobRows, orderRows, Accepted,
+  Limits,
+  limits,
+  Finding,
+  clear,
+  holds,
+  TableRow,
+  Verdict,
+  accepted,
+  refused,
+  verdictOf,
+  judge,
+  whole,
+  firstAfter,
+  first,
+  timeInRange,
+  dueInRange,
+  fitsSome,
+  row,
+  countRows,
+  jobRows,
+  orderRows,
+  Accepted,
 }
 
 -- row number k is returned with what it carries: its condition holds, and that of no earlier row does
@@ -97,10 +117,11 @@ judge-row r rs c e = rw e
 
 -- refused: the row's condition holds, and that of no earlier row does
 pub judge-refused : (rows : List TableRow) (number carried : ℕ) → (judge rows ≡ refused number carried) ↔ Returned rows number carried
-judge-refused rows number carried =
-    (returned-of number carried rows,
-    λ t. rw (t .split, judge-clear (t .earlier) (t .returned ∷ t .later) (t .none-earlier), judge-row (t .returned) (t .later) carried (t .its-condition))
-        (ap (λ (n : ℕ). refused n carried) (t .its-number)))
+judge-refused rows number carried = (
+  returned-of number carried rows,
+  λ t. rw (t .split, judge-clear (t .earlier) (t .returned ∷ t .later) (t .none-earlier), judge-row (t .returned) (t .later) carried (t .its-condition))
+      (ap (λ (n : ℕ). refused n carried) (t .its-number)),
+)
 
 -- a refusal among the first rows stands, whatever follows
 pub judge-refused-append : (rows later : List TableRow) (number carried : ℕ) → judge rows ≡ refused number carried → judge (rows ++ later) ≡ refused number carried
@@ -209,9 +230,12 @@ pub record Acceptable (o : Order) : Type 0 where
 -- rows 1 to 4 do not hold: the counts are within the limits
 pub counts-in-limits : (m n : ℕ) → judge (countRows limits m n) ≡ accepted → (1 ≤ m) × (m ≤ 16) × (1 ≤ n) × (n ≤ 48)
 counts-in-limits m n a =
-    let c = judge-accepted (countRows limits m n) .0 a in
-    (omega (arith, eqb-false m 0 (whole-clear _ (c .0))), ltb-false 16 m (whole-clear _ (c .1 .0)),
-    omega (arith, eqb-false n 0 (whole-clear _ (c .1 .1 .0))), ltb-false 48 n (whole-clear _ (c .1 .1 .1 .0)))
+    let c = judge-accepted (countRows limits m n) .0 a in (
+      omega (arith, eqb-false m 0 (whole-clear _ (c .0))),
+      ltb-false 16 m (whole-clear _ (c .1 .0)),
+      omega (arith, eqb-false n 0 (whole-clear _ (c .1 .1 .0))),
+      ltb-false 48 n (whole-clear _ (c .1 .1 .1 .0)),
+    )
 
 acceptable-of : (o : Order) → Accepted o → Acceptable o
 acceptable-of o a =
@@ -236,18 +260,31 @@ acceptable-of o a =
 
 accepted-of : (o : Order) → Acceptable o → Accepted o
 accepted-of o a =
-    clear-all (orderRows limits o)
-    (rw (ne-eqb (processorCount o) 0 (λ e. omega (arith, a .some-processor))) refl,
-    (rw (le-ltb 16 (processorCount o) (a .few-processors)) refl,
-    (rw (ne-eqb (jobCount o) 0 (λ e. omega (arith, a .some-job))) refl,
-    (rw (le-ltb 48 (jobCount o) (a .few-jobs)) refl,
-    (first-none _ (o .jobs) 0 (All-map _ _ (o .jobs)
-        (λ (job : Job) h. false-not _ (true-both _ _ (le-leb 1 (job .time) (h .0)) (le-leb (job .time) 100000 (h .1)))) (a .times)),
-    (first-none _ (o .jobs) 0 (All-map _ _ (o .jobs)
-        (λ (job : Job) h. false-not _ (true-both _ _ (true-leZ _ _ (h .0)) (true-leZ _ _ (h .1)))) (a .dues)),
-    (first-none _ (o .jobs) 0 (All-map _ _ (o .jobs)
-        (λ (job : Job) h. false-not _ (fits-place (job .need) (o .memories) (h .0) (h .1) (h .2))) (a .fit)),
-    tt)))))))
+    clear-all (orderRows limits o) (
+      rw (ne-eqb (processorCount o) 0 (λ e. omega (arith, a .some-processor))) refl,
+      (
+        rw (le-ltb 16 (processorCount o) (a .few-processors)) refl,
+        (
+          rw (ne-eqb (jobCount o) 0 (λ e. omega (arith, a .some-job))) refl,
+          (
+            rw (le-ltb 48 (jobCount o) (a .few-jobs)) refl,
+            (
+              first-none _ (o .jobs) 0 (All-map _ _ (o .jobs)
+                  (λ (job : Job) h. false-not _ (true-both _ _ (le-leb 1 (job .time) (h .0)) (le-leb (job .time) 100000 (h .1)))) (a .times)),
+              (
+                first-none _ (o .jobs) 0 (All-map _ _ (o .jobs)
+                    (λ (job : Job) h. false-not _ (true-both _ _ (true-leZ _ _ (h .0)) (true-leZ _ _ (h .1)))) (a .dues)),
+                (
+                  first-none _ (o .jobs) 0 (All-map _ _ (o .jobs)
+                      (λ (job : Job) h. false-not _ (fits-place (job .need) (o .memories) (h .0) (h .1) (h .2))) (a .fit)),
+                  tt,
+                ),
+              ),
+            ),
+          ),
+        ),
+      ),
+    )
   where
     fits-place : (need : ℕ) (ms : List ℕ) (i : ℕ) → Numbers (length ms) i → need ≤ nth ms i 0 → fitsSome need ms ≡ true
     fits-place need ms zero b h = absurd (omega arith)

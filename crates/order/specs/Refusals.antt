@@ -121,6 +121,10 @@ boundRow bound = row 8 (whole (not (boundInRange bound)))
 abbrev pub roomRow : ℕ → ℕ → TableRow
 roomRow lent asked = row 9 (whole (ltb lent asked))
 
+-- row 10; its reason stands beside it
+abbrev pub tightRow : Bool → TableRow
+tightRow tight = row 10 (whole tight)
+
 -- row 11: four numbers are a row, and one to three left over are one more
 abbrev pub rowsToCheckRow : ℕ → TableRow
 rowsToCheckRow numbers = row 11 (whole (ltb mostRows ((numbers + 3) / 4)))

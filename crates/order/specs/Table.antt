@@ -9,8 +9,17 @@ use Rattle.order.specs.Refusals.{Limits, limits, Finding, clear, holds, 
 use Rattle.order.specs.declared.Order.{Order as OrderTable}
 use Rattle.order.specs.declared.Refusal.{Refusal}
 use Rattle.order.specs.declared.Refusal.the-variants.{
-  NoProcessor, TooManyProcessors, NoJob, TooManyJobs, TimeOutOfRange, DueOutOfRange, FitsNoProcessor,
-  BoundOutOfRange, BufferTooShort, TooManyRows, BadFile,
+  NoProcessor,
+  TooManyProcessors,
+  NoJob,
+  TooManyJobs,
+  TimeOutOfRange,
+  DueOutOfRange,
+  FitsNoProcessor,
+  BoundOutOfRange,
+  BufferTooShort,
+  TooManyRows,
+  BadFile,
 }
 use Rattle.order.specs.declared.Acceptance.{Acceptance}
 use Rattle.order.specs.declared.Acceptance.the-variants.{Accepted, Refused}

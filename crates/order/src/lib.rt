@@ -4,6 +4,7 @@ pub mod deadline; // a job's end, cut off at minute 0
 
 // The limits on processors and jobs; the arrays below are as long.
 pub const MOST_PROCESSORS: u32 = 16;
+
 pub const MOST_JOBS: u32 = 48;
 
 // An order: counts, and a column for each number of a processor or a job. It stands for the list of as many as it counts,

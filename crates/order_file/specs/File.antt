@@ -7,8 +7,21 @@ use lib.ListN.{length, drop}
 use Rattle.sums.specs.Lists.{tabulate}
 use Rattle.order.specs.Order.{Job, Order, processorCount, jobCount}
 use Rattle.order.specs.Refusals.{
-  limits, shortestFile, longestFile, TableRow, Verdict, accepted, refused, judge, Answer, answer, refusal, answerBy,
-  orderRows, roomRow, fileRow,
+  limits,
+  shortestFile,
+  longestFile,
+  TableRow,
+  Verdict,
+  accepted,
+  refused,
+  judge,
+  Answer,
+  answer,
+  refusal,
+  answerBy,
+  orderRows,
+  roomRow,
+  fileRow,
 }
 use Rattle.order.specs.Table.{orderOf, refusalTold}
 use Rattle.order_file.specs.Bytes.{number4, number2, bytes4, bytes2, signed, pattern}

@@ -1,13 +1,13 @@
 // The reader: refusal 12, then 1 to 7. Only `read_order` is a public entry point; the others serve it.
-use order::Acceptance;
-use order::Order;
-use order::Refusal;
 use super::Lists;
 use super::OrderRead;
 use super::Trailer;
 use super::bytes::read2;
 use super::bytes::read4;
 use super::bytes::to_signed;
+use order::Acceptance;
+use order::Order;
+use order::Refusal;
 ghost use mathlib.Core.Path.{_≡_};
 ghost use Prim.Native.Nat.{ℕ, _+_, _*_, _<_, _≤_};
 ghost use lib.ListN.{length, getD};
@@ -59,7 +59,12 @@ fn read_trailer(file: &[u8]) -> Trailer
     if !lists_agree(processors, jobs, processors_at, jobs_at) {
         return Trailer::Bad;
     }
-    Trailer::Good(Lists { processors_at, jobs_at, processors, jobs })
+    Trailer::Good(Lists {
+        processors_at,
+        jobs_at,
+        processors,
+        jobs,
+    })
 }
 
 // The memories of a processor list, 0 beyond its end.
@@ -105,7 +110,13 @@ fn dues(list: &[u8], n: usize) -> [i32; 48]
 }
 
 // The order of two lists, each a part of the file that begins where the trailer points.
-fn read_lists(file: &[u8], processors_at: usize, jobs_at: usize, processors: usize, jobs: usize) -> Order
+fn read_lists(
+    file: &[u8],
+    processors_at: usize,
+    jobs_at: usize,
+    processors: usize,
+    jobs: usize,
+) -> Order
     requires { ⌜ (processors ≤ 16) × (jobs ≤ 48) ⌝ }
     requires { ⌜ Placed (now file) «processors_at» «jobs_at» processors jobs ⌝ }
     ensures { λ r. ⌜ r ≡ tableOf (orderIn (now (file .entry))) ⌝ }
@@ -151,7 +162,13 @@ pub fn read_order(file: &[u8]) -> OrderRead
     let Acceptance::Accepted = counts else {
         return refuse(counts);
     };
-    let order = read_lists(file, lists.processors_at, lists.jobs_at, lists.processors, lists.jobs);
+    let order = read_lists(
+        file,
+        lists.processors_at,
+        lists.jobs_at,
+        lists.processors,
+        lists.jobs,
+    );
     let status = order::accept::accept(order);
     let Acceptance::Accepted = status else {
         return refuse(status);

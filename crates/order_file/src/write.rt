@@ -1,11 +1,11 @@
 // The writer: refusals 1 to 7, then 9. Only `write_order` is a public entry point; the others serve it.
-use order::Acceptance;
-use order::Order;
-use order::Refusal;
 use super::OrderWritten;
 use super::bytes::put2;
 use super::bytes::put4;
 use super::bytes::to_pattern;
+use order::Acceptance;
+use order::Order;
+use order::Refusal;
 ghost use mathlib.Core.Path.{_≡_};
 ghost use Prim.Native.Nat.{ℕ, _+_, _*_, _<_, _≤_};
 ghost use mathlib.Core.List.{_++_};
@@ -48,7 +48,13 @@ fn put_jobs(order: Order, out: &mut [u8], at: usize)
     let n = order.jobs as usize;
     let mut j: usize = 0;
     while j < n {
-        put_job(out, at + 12 * j, order.times[j], order.dues[j], order.needs[j]);
+        put_job(
+            out,
+            at + 12 * j,
+            order.times[j],
+            order.dues[j],
+            order.needs[j],
+        );
         j += 1;
     }
 }

@@ -1,11 +1,11 @@
 // The plan check: refusals 1 to 8, then 11; else yes or no.
-use order::Acceptance;
-use order::Order;
-use order::Refusal;
 use super::Checked;
 use super::rows::jobs_whole;
 use super::rows::rows_apart;
 use super::rows::rows_good;
+use order::Acceptance;
+use order::Order;
+use order::Refusal;
 ghost use mathlib.Core.Path.{_≡_};
 ghost use lib.ListN.{length};
 ghost use Rattle.order.specs.Refusals.{judge, answerBy};

@@ -1,8 +1,8 @@
 // Rows of lent numbers, four to a row, and the four rules of a right plan. Each function serves the check alone and may
 // have a `requires`.
-use order::Order;
 use super::Piece;
 use super::RowRead;
+use order::Order;
 ghost use mathlib.Core.Path.{_≡_};
 ghost use Prim.Native.Nat.{ℕ, suc, _+_, _-_, _*_, _/_, _%_, _<_, _≤_};
 ghost use mathlib.Core.Bool.{true, _&&_};

@@ -2,3 +2,10 @@ pub mod Profile
 pub mod Reason
 pub mod Search
 pub mod Least
+pub mod Ranking
+pub mod SearchLaws
+pub mod ReasonLaws
+pub mod Weights
+pub mod LeastLaws
+pub mod Threshold
+pub mod LeastRange

@@ -2,7 +2,7 @@
 use Prim.Native.Nat.{ℕ, zero, suc, _+_, _*_, _≤_, _<_}
 use mathlib.Core.Path.{_≡_, refl, sym, ap, _∙_, subst}
 use mathlib.Core.Bool.{Bool, true, false}
-use mathlib.Core.List.{List, [], _∷_, _++_}
+use mathlib.Core.List.{List, [], _∷_, _++_, map}
 use mathlib.Core.Logic.{_⊎_, inl, inr}
 use native.Mathlib.Omega.{arith}
 use native.Mathlib.Nat.{le-of-suc-le-suc}
@@ -208,3 +208,56 @@ by-number n number rank k (x ∷ xs) f h =
 pub sum-only-out : (n : ℕ) (b : Bool) (f : ℕ → ℕ) → sum n (λ i. only b (f i)) ≡ only b (sum n f)
 sum-only-out n true f = refl
 sum-only-out n false f = omega (arith, sum-const n 0)
+
+-- members of two lists one behind the other, and of a list put through a function
+module _ {A : Type 0} where
+  pub in-append : (xs ys : List A) (x : A) → In x (xs ++ ys) → In x xs ⊎ In x ys
+  in-append [] ys x i = inr i
+  in-append (y ∷ xs) ys x (inl e) = inl (inl e)
+  in-append (y ∷ xs) ys x (inr i) = elim (in-append xs ys x i) [ inl m ↦ inl (inr m) | inr m ↦ inr m ]
+
+  pub in-left : (xs ys : List A) (x : A) → In x xs → In x (xs ++ ys)
+  in-left [] ys x i = absurd i
+  in-left (y ∷ xs) ys x (inl e) = inl e
+  in-left (y ∷ xs) ys x (inr i) = inr (in-left xs ys x i)
+
+  pub in-right : (xs ys : List A) (x : A) → In x ys → In x (xs ++ ys)
+  in-right [] ys x i = i
+  in-right (y ∷ xs) ys x i = inr (in-right xs ys x i)
+
+  pub Pairwise-append : (R : A → A → Type 0) (xs ys : List A) → Pairwise R xs → Pairwise R ys →
+      ((x y : A) → In x xs → In y ys → R x y) → Pairwise R (xs ++ ys)
+  Pairwise-append R [] ys h k f = k
+  Pairwise-append R (x ∷ xs) ys h k f = (
+    All-append (R x) xs ys (h .0) (in-All (R x) ys (λ y i. f x y (inl refl) i)),
+    Pairwise-append R xs ys (h .1) k (λ a b i j. f a b (inr i) j),
+  )
+
+module _ {A B : Type 0} (f : A → B) where
+  pub in-map : (xs : List A) (y : B) → In y (map f xs) → (x : A) × In x xs × (y ≡ f x)
+  in-map [] y i = absurd i
+  in-map (x ∷ xs) y (inl e) = (x, inl refl, e)
+  in-map (x ∷ xs) y (inr i) = let r = in-map xs y i in (r .0, inr (r .1), r .2)
+
+  pub map-in : (xs : List A) (x : A) → In x xs → In (f x) (map f xs)
+  map-in [] x i = absurd i
+  map-in (y ∷ xs) x (inl e) = inl (ap f e)
+  map-in (y ∷ xs) x (inr i) = inr (map-in xs x i)
+
+  pub All-of-map : (P : B → Type 0) (xs : List A) → All (λ x. P (f x)) xs → All P (map f xs)
+  All-of-map P [] h = tt
+  All-of-map P (x ∷ xs) h = (h .0, All-of-map P xs (h .1))
+
+  pub Pairwise-of-map : (R : B → B → Type 0) (xs : List A) → Pairwise (λ x y. R (f x) (f y)) xs → Pairwise R (map f xs)
+  Pairwise-of-map R [] h = tt
+  Pairwise-of-map R (x ∷ xs) h = (All-of-map (R (f x)) xs (h .0), Pairwise-of-map R xs (h .1))
+
+-- a member counts in a total, and a total is at most as many times the most that a member counts
+pub total-ge : {A : Type 0} (xs : List A) (f : A → ℕ) (x : A) → In x xs → f x ≤ total xs f
+total-ge [] f x i = absurd i
+total-ge (y ∷ xs) f x (inl e) = omega (arith, ap f e)
+total-ge (y ∷ xs) f x (inr i) = omega (arith, total-ge xs f x i)
+
+pub total-most : {A : Type 0} (xs : List A) (f : A → ℕ) (c : ℕ) → All (λ x. f x ≤ c) xs → total xs f ≤ length xs * c
+total-most [] f c h = omega arith
+total-most (x ∷ xs) f c h = omega (arith, total-most xs f c (h .1), h .0)

@@ -16,32 +16,43 @@ use Rattle.order.proofs.accept.fits_some.Lts as lts
 
 abbrev Inv-loop : tie.InvT-loop
 Inv-loop need order processors i₀ i = (i ≤ processors) × ((k : ℕ) → k < i → leb need (getD (order .memories) k 0) ≡ false)
+
 abbrev μ-loop : tie.MeasureT-loop
 μ-loop need order processors i₀ i = processors - i
+
 cast-processors : tie.Need-cast-processors Inv-loop μ-loop
 cast-processors c = search needs
+
 loop-holds : tie.Need-loop-holds Inv-loop μ-loop
 loop-holds c = (search needs, below-none _)
+
 mul-if1 : tie.Need-mul-if1 Inv-loop μ-loop
 mul-if1 c = search needs
+
 element-copy-out-if1 : tie.Need-element-copy-out-if1 Inv-loop μ-loop
 element-copy-out-if1 c = search needs
+
 returns : tie.Need-returns Inv-loop μ-loop
-returns c = 
+returns c =
     let l = c .before .before .before .loop in
     processor-found _ (c .before .before .before .before .args .t1) (l .i) (omega arith) (c .if1 .taken)
+
 add-i : tie.Need-add-i Inv-loop μ-loop
 add-i c = search needs
+
 loop-less : tie.Need-loop-less Inv-loop μ-loop
 loop-less c = search needs
+
 loop-again : tie.Need-loop-again Inv-loop μ-loop
-loop-again c = 
+loop-again c =
     let l = c .before .before .before .loop in
     (search needs, below-more _ _ (l .inv .1) (lt-leb _ _ (c .if1 .left)))
+
 returns-2 : tie.Need-returns-2 Inv-loop μ-loop
-returns-2 c = 
+returns-2 c =
     let l = c .before .loop in
     no-processor-found _ (c .before .before .args .t1) (l .i) (omega arith) (l .inv .1)
+
 pub fits-some-spec : {M : Type 1} → statement M
 fits-some-spec =
     tie.close
