@@ -24,39 +24,13 @@ use Rattle.order.specs.Refusals.{
   orderRows,
 }
 use Rattle.order.specs.RefusalLaws.{judge-refused-append, judge-accepted-append, counts-in-limits}
+use Rattle.order.specs.TableLaws.{refused-told}
 use Rattle.order.specs.Table.{jobAt, orderOf, findingOf, refusalTold, acceptanceTold}
 use Rattle.order.specs.declared.Order.{Order as OrderTable}
 use Rattle.order.specs.declared.Refusal.{Refusal}
-use Rattle.order.specs.declared.Refusal.the-variants.{
-  NoProcessor,
-  TooManyProcessors,
-  NoJob,
-  TooManyJobs,
-  TimeOutOfRange,
-  DueOutOfRange,
-  FitsNoProcessor,
-  BoundOutOfRange,
-  BufferTooShort,
-  TooManyRows,
-  BadFile,
-}
 use Rattle.order.specs.declared.Acceptance.{Acceptance}
 use Rattle.order.specs.declared.Acceptance.the-variants.{Accepted, Refused}
 use Rattle.order.proofs.Ranges.{finding-some, finding-none}
-
--- a refusal of the code is a refusal of the table
-refused-told : (r : Refusal) → (k : ℕ) × (c : ℕ) × (refusalTold r ≡ refused k c)
-refused-told NoProcessor = (1, 0, refl)
-refused-told TooManyProcessors = (2, 0, refl)
-refused-told NoJob = (3, 0, refl)
-refused-told TooManyJobs = (4, 0, refl)
-refused-told (TimeOutOfRange j) = (5, j, refl)
-refused-told (DueOutOfRange j) = (6, j, refl)
-refused-told (FitsNoProcessor j) = (7, j, refl)
-refused-told BoundOutOfRange = (8, 0, refl)
-refused-told BufferTooShort = (9, 0, refl)
-refused-told TooManyRows = (11, 0, refl)
-refused-told BadFile = (12, 0, refl)
 
 -- where the first rows refuse, the whole table answers the same
 pub stays-refused : (rows later : List TableRow) (a : Acceptance) (r : Refusal) → acceptanceTold a ≡ judge rows → a ≡ Refused r →

@@ -6,5 +6,6 @@ pub mod Deadline
 pub mod Refusals
 pub mod Table
 pub mod RefusalLaws
+pub mod TableLaws
 pub mod SortedLaws
 pub mod ClassLaws

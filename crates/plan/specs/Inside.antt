@@ -3,7 +3,7 @@ use Prim.Native.Nat.{ℕ, _+_, _*_}
 use mathlib.Core.Bool.{Bool, true, false, _&&_}
 use mathlib.Core.List.{List}
 use lib.Dec.{leb}
-use lib.ListN.{length, getD}
+use lib.ListN.{length}
 use Rattle.order.specs.Order.{Order}
 use Rattle.plan.specs.Plan.{Row}
 use Rattle.plan.specs.Check.{rowAt, wellFormed}
@@ -15,14 +15,13 @@ use Rattle.plan.specs.declared.RowRead.the-variants.{Good, Malformed}
 abbrev pub rowOf : Piece → Row
 rowOf p = record { job = p .job; processor = p .processor; from = p .from; to = p .to }
 
+-- and the four numbers at a place as the code's row
 abbrev pub pieceAt : List ℕ → ℕ → Piece
-pieceAt numbers i = record {
-  job = getD numbers (4 * i) 0;
-  processor = getD numbers (4 * i + 1) 0;
-  from = getD numbers (4 * i + 2) 0;
-  to = getD numbers (4 * i + 3) 0;
-}
+pieceAt numbers i =
+    let r = rowAt numbers i in
+    record { job = r .job; processor = r .processor; from = r .from; to = r .to }
 
+-- a row that passes its test is good
 abbrev pub rowBy : Bool → Piece → RowRead
 rowBy true p = Good p
 rowBy false p = Malformed

@@ -3,3 +3,7 @@ pub mod IsLeast
 pub mod Check
 pub mod Told
 pub mod Inside
+pub mod EveryLaws
+pub mod RuleLaws
+pub mod NumberLaws
+pub mod CheckLaws

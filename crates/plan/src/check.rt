@@ -1,8 +1,6 @@
 // The plan check: refusals 1 to 8, then 11; else yes or no.
 use super::Checked;
-use super::rows::jobs_whole;
-use super::rows::rows_apart;
-use super::rows::rows_good;
+use super::rows::rows_right;
 use order::Acceptance;
 use order::Order;
 use order::Refusal;
@@ -27,14 +25,8 @@ pub fn check_plan(order: Order, bound: i32, rows: &[u32]) -> Checked
     if 12096 < rows.len() {
         return Checked::Refused(Refusal::TooManyRows);
     }
-    if !rows_good(order, bound, rows) {
-        return Checked::No;
+    if rows_right(order, bound, rows) {
+        return Checked::Yes;
     }
-    if !rows_apart(rows) {
-        return Checked::No;
-    }
-    if !jobs_whole(order, rows) {
-        return Checked::No;
-    }
-    Checked::Yes
+    Checked::No
 }

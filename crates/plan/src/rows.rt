@@ -13,7 +13,7 @@ ghost use Rattle.order.specs.Order.{jobCount};
 ghost use Rattle.order.specs.Refusals.{Accepted, boundInRange};
 ghost use Rattle.order.specs.Table.{orderOf};
 ghost use Rattle.plan.specs.Plan.{Row, lengthsOf};
-ghost use Rattle.plan.specs.Check.{rowAt, rowsOf, every, everyTwo, wellFormed, byEnd, noOverlap, wholeJob};
+ghost use Rattle.plan.specs.Check.{rowAt, rowsOf, every, everyTwo, wellFormed, byEnd, noOverlap, wholeJob, isRight};
 ghost use Rattle.plan.specs.Inside.{rowOf, pieceAt, rowRead};
 
 // The four numbers of a whole row.
@@ -83,7 +83,7 @@ fn by_end(order: Order, bound: i32, piece: Piece) -> bool
 }
 
 // Whether every row is well formed and ends by its job's end, none being left over.
-pub fn rows_good(order: Order, bound: i32, rows: &[u32]) -> bool
+fn rows_good(order: Order, bound: i32, rows: &[u32]) -> bool
     requires { ⌜ Accepted (orderOf order) × (boundInRange bound ≡ true) × (length (now rows) ≤ 12096) ⌝ }
     ensures { λ r. ⌜ r ≡ (eqb (length (now (rows .entry)) % 4) 0
         && every (λ (r : Row). wellFormed (orderOf order) r && byEnd (orderOf order) bound r) (rowsOf (now (rows .entry)))) ⌝ }
@@ -106,21 +106,23 @@ pub fn rows_good(order: Order, bound: i32, rows: &[u32]) -> bool
 fn no_overlap(a: Piece, b: Piece) -> bool
     ensures { λ r. ⌜ r ≡ noOverlap (rowOf a) (rowOf b) ⌝ }
 {
-    if a.job != b.job {
-        if a.processor != b.processor {
-            return true;
-        }
-    }
     if a.to <= b.from {
         return true;
     }
-    b.to <= a.from
+    if b.to <= a.from {
+        return true;
+    }
+    if a.job == b.job {
+        return false;
+    }
+    a.processor != b.processor
 }
 
 // Whether a row overlaps none of the earlier ones.
 fn clear_of_earlier(rows: &[u32], i: usize) -> bool
     requires { ⌜ (i < 3024) × (4 * i + 4 ≤ length (now rows)) ⌝ }
-    ensures { λ r. ⌜ r ≡ every (λ (r : Row). noOverlap r (rowAt (now (rows .entry)) i)) (tabulate i (rowAt (now (rows .entry)))) ⌝ }
+    ensures { λ r. ⌜ r ≡ every (λ (r : Row). noOverlap r (rowAt (now (rows .entry)) i))
+        (tabulate i (rowAt (now (rows .entry)))) ⌝ }
 {
     let piece = piece_at(rows, i);
     let mut k: usize = 0;
@@ -134,7 +136,7 @@ fn clear_of_earlier(rows: &[u32], i: usize) -> bool
 }
 
 // Whether no two rows overlap that share a job or a processor.
-pub fn rows_apart(rows: &[u32]) -> bool
+fn rows_apart(rows: &[u32]) -> bool
     requires { ⌜ length (now rows) ≤ 12096 ⌝ }
     ensures { λ r. ⌜ r ≡ everyTwo noOverlap (rowsOf (now (rows .entry))) ⌝ }
 {
@@ -178,9 +180,10 @@ fn lengths_of(rows: &[u32], job: u32) -> u64
 }
 
 // Whether the lengths of each job's rows add up to its time.
-pub fn jobs_whole(order: Order, rows: &[u32]) -> bool
+fn jobs_whole(order: Order, rows: &[u32]) -> bool
     requires { ⌜ (order .jobs ≤ 48) × (length (now rows) ≤ 12096) ⌝ }
-    ensures { λ r. ⌜ r ≡ every (wholeJob (orderOf order) (rowsOf (now (rows .entry)))) (tabulate (jobCount (orderOf order)) suc) ⌝ }
+    ensures { λ r. ⌜ r ≡ every (wholeJob (orderOf order) (rowsOf (now (rows .entry))))
+        (tabulate (jobCount (orderOf order)) suc) ⌝ }
 {
     let n = order.jobs as usize;
     let mut j: usize = 0;
@@ -192,4 +195,18 @@ pub fn jobs_whole(order: Order, rows: &[u32]) -> bool
         }
     }
     true
+}
+
+// Whether the rows are a right plan: the four rules, one after the other.
+pub fn rows_right(order: Order, bound: i32, rows: &[u32]) -> bool
+    requires { ⌜ Accepted (orderOf order) × (boundInRange bound ≡ true) × (length (now rows) ≤ 12096) ⌝ }
+    ensures { λ r. ⌜ r ≡ isRight (orderOf order) bound (now (rows .entry)) ⌝ }
+{
+    if !rows_good(order, bound, rows) {
+        return false;
+    }
+    if !rows_apart(rows) {
+        return false;
+    }
+    jobs_whole(order, rows)
 }

@@ -261,3 +261,8 @@ total-ge (y ∷ xs) f x (inr i) = omega (arith, total-ge xs f x i)
 pub total-most : {A : Type 0} (xs : List A) (f : A → ℕ) (c : ℕ) → All (λ x. f x ≤ c) xs → total xs f ≤ length xs * c
 total-most [] f c h = omega arith
 total-most (x ∷ xs) f c h = omega (arith, total-most xs f c (h .1), h .0)
+
+pub Pairwise-both : {A : Type 0} (R S : A → A → Type 0) (xs : List A) → Pairwise R xs → Pairwise S xs →
+    Pairwise (λ x y. R x y × S x y) xs
+Pairwise-both R S [] h k = tt
+Pairwise-both R S (x ∷ xs) h k = (All-both (R x) (S x) xs (h .0) (k .0), Pairwise-both R S xs (h .1) (k .1))

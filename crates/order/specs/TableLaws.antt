@@ -1,0 +1,42 @@
+-- A refusal of the code is a refusal of the table, and stands whatever rows follow.
+use Prim.Native.Nat.{ℕ}
+use mathlib.Core.Path.{_≡_, refl, sym, _∙_}
+use mathlib.Core.List.{List, _++_}
+use Rattle.order.specs.Refusals.{TableRow, Verdict, accepted, refused, judge, Answer, answerBy}
+use Rattle.order.specs.RefusalLaws.{judge-refused-append}
+use Rattle.order.specs.Table.{refusalTold}
+use Rattle.order.specs.declared.Refusal.{Refusal}
+use Rattle.order.specs.declared.Refusal.the-variants.{
+  NoProcessor,
+  TooManyProcessors,
+  NoJob,
+  TooManyJobs,
+  TimeOutOfRange,
+  DueOutOfRange,
+  FitsNoProcessor,
+  BoundOutOfRange,
+  BufferTooShort,
+  TooManyRows,
+  BadFile,
+}
+
+-- the number of a refusal, and what it carries
+pub refused-told : (r : Refusal) → (k : ℕ) × (c : ℕ) × (refusalTold r ≡ refused k c)
+refused-told NoProcessor = (1, 0, refl)
+refused-told TooManyProcessors = (2, 0, refl)
+refused-told NoJob = (3, 0, refl)
+refused-told TooManyJobs = (4, 0, refl)
+refused-told (TimeOutOfRange j) = (5, j, refl)
+refused-told (DueOutOfRange j) = (6, j, refl)
+refused-told (FitsNoProcessor j) = (7, j, refl)
+refused-told BoundOutOfRange = (8, 0, refl)
+refused-told BufferTooShort = (9, 0, refl)
+refused-told TooManyRows = (11, 0, refl)
+refused-told BadFile = (12, 0, refl)
+
+-- where the first rows refuse, so does the whole table, whatever the values are that would have been answered
+pub refused-answer : {A : Type 0} (rows later : List TableRow) (r : Refusal) (a b : A) → refusalTold r ≡ judge rows →
+    answerBy (refusalTold r) a ≡ answerBy (judge (rows ++ later)) b
+refused-answer rows later r a b e =
+    let t = refused-told r in
+    rw (judge-refused-append rows later (t .0) (t .1) (sym e ∙ t .2), t .2)

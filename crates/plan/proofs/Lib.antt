@@ -1,0 +1,5 @@
+mod Orders
+mod RowTests
+mod GoodRows
+mod Lengths
+mod Answers

@@ -1,0 +1,95 @@
+-- What the tests on a row find: where one fails, a row is not well formed; past them all, it is where it goes forward. And
+-- a well-formed row ends by its job's end exactly if it ends by the deadline, and two rows are tested as they stand.
+use Prim.Native.Nat.{ℕ, _-_, _≤_, _<_}
+use mathlib.Core.Path.{_≡_, sym, ap, _∙_}
+use mathlib.Core.Bool.{Bool, true, false, not, _&&_, _||_, and-false, or-true, or-false}
+use mathlib.Core.List.{List}
+use native.Mathlib.Omega.{arith}
+use borrow.Author.Tests.{le-leb, lt-leb, eq-eqb, ne-eqb}
+use lib.Dec.{leb, ltb, eqb}
+use lib.IntN.{ℤ, pos, _+ℤ_}
+use lib.ListN.{getD}
+use Rattle.order.specs.Order.{endOf}
+use Rattle.order.specs.Deadline.{cut, cut-le}
+use Rattle.order.specs.Table.{orderOf}
+use Rattle.order.specs.declared.Order.{Order as OrderTable}
+use Rattle.plan.specs.Plan.{Row}
+use Rattle.plan.specs.Check.{rowAt, wellFormed, byEnd, noOverlap}
+use Rattle.plan.specs.RuleLaws.{well-formed-iff}
+use Rattle.plan.specs.Inside.{rowOf, pieceAt}
+use Rattle.plan.specs.declared.Piece.{Piece}
+use Rattle.plan.proofs.Orders.{job-count, processor-count, job-of, memory-of}
+
+module _ (t : OrderTable) (r : Row) where
+  pub job-zero : r .job < 1 → false ≡ wellFormed (orderOf t) r
+  job-zero h = rw (lt-leb 1 (r .job) h)
+
+  pub job-high : t .jobs < r .job → false ≡ wellFormed (orderOf t) r
+  job-high h = rw (job-count t, lt-leb (r .job) (t .jobs) h, and-false (leb 1 (r .job)))
+
+  pub processor-zero : r .processor < 1 → false ≡ wellFormed (orderOf t) r
+  processor-zero h = rw (lt-leb 1 (r .processor) h, and-false)
+
+  pub processor-high : t .processors < r .processor → false ≡ wellFormed (orderOf t) r
+  processor-high h =
+      rw (processor-count t, lt-leb (r .processor) (t .processors) h, and-false (leb 1 (r .processor)), and-false)
+
+  -- a row that names a job and a processor
+  module _ (j : 1 ≤ r .job) (k : r .job ≤ t .jobs) (i : 1 ≤ r .processor) (l : r .processor ≤ t .processors) where
+    names : wellFormed (orderOf t) r
+        ≡ (leb (getD (t .needs) (r .job - 1) 0) (getD (t .memories) (r .processor - 1) 0) && ltb (r .from) (r .to))
+    names =
+        rw (
+          job-count t,
+          processor-count t,
+          le-leb 1 (r .job) j,
+          le-leb (r .job) (t .jobs) k,
+          le-leb 1 (r .processor) i,
+          le-leb (r .processor) (t .processors) l,
+          job-of t (r .job) j k,
+          memory-of t (r .processor) i l,
+        )
+
+    pub unfit : getD (t .memories) (r .processor - 1) 0 < getD (t .needs) (r .job - 1) 0 → false ≡ wellFormed (orderOf t) r
+    unfit h = sym (names ∙ rw (lt-leb (getD (t .needs) (r .job - 1) 0) (getD (t .memories) (r .processor - 1) 0) h))
+
+    pub fit : getD (t .needs) (r .job - 1) 0 ≤ getD (t .memories) (r .processor - 1) 0 →
+        ltb (r .from) (r .to) ≡ wellFormed (orderOf t) r
+    fit h = sym (names ∙ rw (le-leb (getD (t .needs) (r .job - 1) 0) (getD (t .memories) (r .processor - 1) 0) h))
+
+  -- a well-formed row
+  module _ (w : wellFormed (orderOf t) r ≡ true) where
+    pub its-job : (1 ≤ r .job) × (r .job ≤ t .jobs)
+    its-job = let n = well-formed-iff (orderOf t) r .0 w .a-job in (n .0, rw job-count at (n .1))
+
+    pub ends : (bound : ℤ) (deadline : ℕ) → deadline ≡ cut (getD (t .dues) (r .job - 1) (pos 0) +ℤ bound) →
+        leb (r .to) deadline ≡ byEnd (orderOf t) bound r
+    unfolding endOf
+    ends bound deadline e =
+        let some : 1 ≤ r .to = omega (arith, well-formed-iff (orderOf t) r .0 w .forward) in
+        rw (e, job-of t (r .job) (its-job .0) (its-job .1))
+        (sym (cut-le (getD (t .dues) (r .job - 1) (pos 0) +ℤ bound) (r .to) some))
+
+-- two rows: apart in time, or else they share a job, or a processor
+module _ (r s : Row) where
+  pub before : r .to ≤ s .from → true ≡ noOverlap r s
+  before h = rw (le-leb (r .to) (s .from) h, or-true)
+
+  pub after : s .to ≤ r .from → true ≡ noOverlap r s
+  after h = rw (le-leb (s .to) (r .from) h, or-true (leb (r .to) (s .from)), or-true)
+
+  module _ (a : s .from < r .to) (b : r .from < s .to) where
+    overlap : noOverlap r s ≡ not (eqb (r .job) (s .job) || eqb (r .processor) (s .processor))
+    overlap = rw (lt-leb (r .to) (s .from) a, lt-leb (s .to) (r .from) b, or-false)
+
+    pub same-job : r .job ≡ s .job → false ≡ noOverlap r s
+    same-job e = sym (overlap ∙ rw (eq-eqb (r .job) (s .job) e))
+
+    pub other-job : (r .job ≡ s .job → ⊥) → not (eqb (r .processor) (s .processor)) ≡ noOverlap r s
+    other-job e = sym (overlap ∙ rw (ne-eqb (r .job) (s .job) e))
+
+-- two rows, read from the numbers
+pub two-rows : (numbers : List ℕ) (k i : ℕ) (a b : Piece) (t : Bool) → a ≡ pieceAt numbers k → b ≡ pieceAt numbers i →
+    t ≡ noOverlap (rowOf a) (rowOf b) → t ≡ noOverlap (rowAt numbers k) (rowAt numbers i)
+two-rows numbers k i a b t e f h =
+    h ∙ ap (λ (p : Piece). noOverlap (rowOf p) (rowOf b)) e ∙ ap (λ (p : Piece). noOverlap (rowAt numbers k) (rowOf p)) f
