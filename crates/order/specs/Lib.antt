@@ -9,3 +9,4 @@ pub mod RefusalLaws
 pub mod TableLaws
 pub mod SortedLaws
 pub mod ClassLaws
+pub mod OrderingLaws

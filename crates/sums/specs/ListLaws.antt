@@ -2,7 +2,7 @@
 use Prim.Native.Nat.{ℕ, zero, suc, _+_, _*_, _≤_, _<_}
 use mathlib.Core.Path.{_≡_, refl, sym, ap, _∙_, subst}
 use mathlib.Core.Bool.{Bool, true, false}
-use mathlib.Core.List.{List, [], _∷_, _++_, map}
+use mathlib.Core.List.{List, [], _∷_, _++_, map, reverse, reverseAux}
 use mathlib.Core.Logic.{_⊎_, inl, inr}
 use native.Mathlib.Omega.{arith}
 use native.Mathlib.Nat.{le-of-suc-le-suc}
@@ -266,3 +266,83 @@ pub Pairwise-both : {A : Type 0} (R S : A → A → Type 0) (xs : List A) → Pa
     Pairwise (λ x y. R x y × S x y) xs
 Pairwise-both R S [] h k = tt
 Pairwise-both R S (x ∷ xs) h k = (All-both (R x) (S x) xs (h .0) (k .0), Pairwise-both R S xs (h .1) (k .1))
+
+-- what holds of each two members, from what holds of each and of each two
+module _ {A : Type 0} where
+  pub Pairwise-with : (P : A → Type 0) (Q R : A → A → Type 0) (xs : List A) →
+      ((x y : A) → P x → P y → Q x y → R x y) → All P xs → Pairwise Q xs → Pairwise R xs
+  Pairwise-with P Q R [] f h k = tt
+  Pairwise-with P Q R (x ∷ xs) f h k = (
+    All-map _ (R x) xs (λ y w. f x y (h .0) (w .0) (w .1)) (All-both P (Q x) xs (h .1) (k .0)),
+    Pairwise-with P Q R xs f (h .1) (k .1),
+  )
+
+-- a list turned round
+module _ {A : Type 0} where
+  All-reverseAux : (P : A → Type 0) (xs rs : List A) → All P xs → All P rs → All P (reverseAux xs rs)
+  All-reverseAux P [] rs h k = k
+  All-reverseAux P (x ∷ xs) rs h k = All-reverseAux P xs (x ∷ rs) (h .1) (h .0, k)
+
+  pub All-reverse : (P : A → Type 0) (xs : List A) → All P xs → All P (reverse xs)
+  All-reverse P xs h = All-reverseAux P xs [] h tt
+
+  in-reverseAux : (x : A) (xs rs : List A) → In x xs ⊎ In x rs → In x (reverseAux xs rs)
+  in-reverseAux x [] rs (inl i) = absurd i
+  in-reverseAux x [] rs (inr i) = i
+  in-reverseAux x (y ∷ ys) rs (inl (inl e)) = in-reverseAux x ys (y ∷ rs) (inr (inl e))
+  in-reverseAux x (y ∷ ys) rs (inl (inr i)) = in-reverseAux x ys (y ∷ rs) (inl i)
+  in-reverseAux x (y ∷ ys) rs (inr i) = in-reverseAux x ys (y ∷ rs) (inr (inr i))
+
+  pub in-reverse : (xs : List A) (x : A) → In x xs → In x (reverse xs)
+  in-reverse xs x i = in-reverseAux x xs [] (inl i)
+
+  Pairwise-reverseAux : (R : A → A → Type 0) (xs rs : List A) → Pairwise R xs → Pairwise (λ x y. R y x) rs →
+      All (λ x. All (λ r. R r x) rs) xs → Pairwise (λ x y. R y x) (reverseAux xs rs)
+  Pairwise-reverseAux R [] rs h k c = k
+  Pairwise-reverseAux R (x ∷ xs) rs h k c =
+      Pairwise-reverseAux R xs (x ∷ rs) (h .1) (c .0, k) (All-both (R x) (λ y. All (λ r. R r y) rs) xs (h .0) (c .1))
+
+  pub Pairwise-reverse : (R : A → A → Type 0) (xs : List A) → Pairwise R xs → Pairwise (λ x y. R y x) (reverse xs)
+  Pairwise-reverse R xs h = Pairwise-reverseAux R xs [] h tt (in-All _ xs (λ x i. tt))
+
+  total-reverseAux : (xs rs : List A) (f : A → ℕ) → total (reverseAux xs rs) f ≡ total xs f + total rs f
+  total-reverseAux [] rs f = omega arith
+  total-reverseAux (x ∷ xs) rs f = omega (arith, total-reverseAux xs (x ∷ rs) f)
+
+  pub total-reverse : (xs : List A) (f : A → ℕ) → total (reverse xs) f ≡ total xs f
+  total-reverse xs f = omega (arith, total-reverseAux xs [] f)
+
+-- the numbers 1 to n: each is there, no other, and they rise
+pub numbers-are : (n : ℕ) → All (λ k. (1 ≤ k) × (k ≤ n)) (tabulate n suc)
+numbers-are n =
+    All-from _ (tabulate n suc) 0
+    (λ i l. let b : i < n = rw length-tabulate at l in omega (arith, getD-tabulate n suc 0 i b))
+
+pub numbers-in : (n k : ℕ) → 1 ≤ k → k ≤ n → In k (tabulate n suc)
+numbers-in n zero h l = absurd (omega arith)
+numbers-in n (suc k) h l =
+    subst (λ (x : ℕ). In x (tabulate n suc)) (getD-tabulate n suc 0 k l)
+    (at-in (tabulate n suc) 0 k (omega (arith, length-tabulate n suc)))
+
+pub numbers-rise : (n : ℕ) → Pairwise (λ x y. x < y) (tabulate n suc)
+numbers-rise n =
+    Pairwise-from _ (tabulate n suc) 0
+    (λ i k l m. let b : k < n = rw length-tabulate at m in
+    omega (arith, getD-tabulate n suc 0 i (omega arith), getD-tabulate n suc 0 k b))
+
+-- a sum over the members is one over their numbers
+pub total-numbers : {A : Type 0} (xs : List A) (d : A) (f : A → ℕ) →
+    total xs f ≡ total (tabulate (length xs) suc) (λ i. f (nth xs i d))
+total-numbers xs d f =
+    total-places xs d f ∙ sym (total-tabulate (length xs) suc (λ i. f (nth xs i d)))
+
+pub total-ones : {A : Type 0} (xs : List A) → total xs (λ x. 1) ≡ length xs
+total-ones [] = refl
+total-ones (x ∷ xs) = omega (arith, total-ones xs)
+
+-- a place of a list put through a function
+module _ {A B : Type 0} (f : A → B) where
+  pub getD-map : (xs : List A) (d : B) (e : A) (i : ℕ) → i < length xs → getD (map f xs) i d ≡ f (getD xs i e)
+  getD-map [] d e i l = absurd (omega arith)
+  getD-map (x ∷ xs) d e zero l = refl
+  getD-map (x ∷ xs) d e (suc i) l = getD-map xs d e i (le-of-suc-le-suc l)

@@ -1,2 +1,14 @@
 pub mod Stretches
 pub mod Layout
+pub mod RowOrder
+pub mod Filled
+pub mod FilledRows
+pub mod FilledPlaces
+pub mod Shares
+pub mod Marks
+pub mod Stretch
+pub mod LayoutOrdered
+pub mod HeldInOrder
+pub mod LayoutRight
+pub mod DuePlaces
+pub mod Flows
