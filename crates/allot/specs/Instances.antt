@@ -53,14 +53,14 @@ pub record Sized (t : Instance) : Type 0 where
 
 -- an instance stands for an order at a bound
 pub record StandsFor (o : Order) (bound : ℤ) (t : Instance) : Type 0 where
-  pub jobs : t .jobs ≡ jobCount o
-  pub stretches : t .stretches ≡ stretchCount o
-  pub classes : t .classes ≡ length (classes o)
-  pub times : (j : ℕ) → j < jobCount o → getD (t .times) j 0 ≡ jobOf o (suc j) .time
-  pub job-classes : (j : ℕ) → j < jobCount o → getD (t .«job_classes») j 0 ≡ classOf o (jobOf o (suc j))
-  pub deadlines : (j : ℕ) → j < jobCount o → getD (t .deadlines) j 0 ≡ deadlineOf bound (jobOf o (suc j))
-  pub marks : (s : ℕ) → s < stretchCount o → getD (t .marks) s 0 ≡ mark o bound (suc s)
-  pub counts : (i : ℕ) → i < length (classes o) → getD (t .counts) i 0 ≡ processorsIn o (suc i)
+  pub jobs-are : t .jobs ≡ jobCount o
+  pub stretches-are : t .stretches ≡ stretchCount o
+  pub classes-are : t .classes ≡ length (classes o)
+  pub times-are : (j : ℕ) → j < jobCount o → getD (t .times) j 0 ≡ jobOf o (suc j) .time
+  pub job-classes-are : (j : ℕ) → j < jobCount o → getD (t .«job_classes») j 0 ≡ classOf o (jobOf o (suc j))
+  pub deadlines-are : (j : ℕ) → j < jobCount o → getD (t .deadlines) j 0 ≡ deadlineOf bound (jobOf o (suc j))
+  pub marks-are : (s : ℕ) → s < stretchCount o → getD (t .marks) s 0 ≡ mark o bound (suc s)
+  pub counts-are : (i : ℕ) → i < length (classes o) → getD (t .counts) i 0 ≡ processorsIn o (suc i)
 
 -- flat amounts: a row of q numbers for each job; the minutes of job j, numbered from 1, in stretch s
 abbrev pub amountIn : ℕ → List ℕ → ℕ → ℕ → ℕ

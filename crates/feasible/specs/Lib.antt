@@ -6,3 +6,5 @@ pub mod PlanAmounts
 pub mod Minutes
 pub mod Overfull
 pub mod Sound
+pub mod Complete
+pub mod Least
