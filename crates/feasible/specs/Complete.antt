@@ -33,11 +33,11 @@ jobs-match o bound =
 pub amounts-exist : (o : Order) → Accepted o → (bound : ℤ) → NoReason o bound → (a : ℕ → ℕ → ℕ) × FeasibleFor o bound a
 amounts-exist o accepted bound none =
     let found =
-        no-profile-feasible (jobsFor o bound) (jobs-fine o bound accepted (none .0)) (length (classes o))
-        (jobs-in-time o bound accepted (none .0)) (jobs-met o bound) (λ j l. jobs-high o j)
-        (λ profile.
-            let full = profile-overfull o bound (none .0) (jobsFor o bound) (jobs-match o bound) (omega arith) profile in
-            none .1 (full .0) (full .1))
+    no-profile-feasible (jobsFor o bound) (jobs-fine o bound accepted (none .0)) (length (classes o))
+    (jobs-in-time o bound accepted (none .0)) (jobs-met o bound) (λ j l. jobs-high o j)
+    (λ profile.
+    let full = profile-overfull o bound (none .0) (jobsFor o bound) (jobs-match o bound) (omega arith) profile in
+    none .1 (full .0) (full .1))
     in
     (byNumber (found .0), flow-feasible o bound (found .1))
 

@@ -1,0 +1,30 @@
+-- Document 01, "Orders to try": jobs are (time, due, need).
+use Prim.Native.Nat.{ℕ}
+use mathlib.Core.List.{List, [], _∷_}
+use lib.IntN.{ℤ, pos, negsuc}
+use Rattle.order.specs.Order.{Job, Order}
+
+abbrev job : ℕ → ℤ → ℕ → Job
+job time due need = record { time = time; due = due; need = need }
+
+abbrev order : List ℕ → List Job → Order
+order memories jobs = record { memories = memories; jobs = jobs }
+
+abbrev pub A : Order
+A = order (8 ∷ 4 ∷ []) (job 3 (pos 3) 8 ∷ job 3 (pos 3) 4 ∷ job 2 (pos 4) 2 ∷ [])
+
+abbrev pub B : Order
+B = order (8 ∷ 4 ∷ []) (job 2 (pos 4) 8 ∷ job 2 (pos 4) 8 ∷ job 2 (pos 2) 4 ∷ job 2 (pos 2) 4 ∷ [])
+
+abbrev pub C : Order
+C = order (4 ∷ []) (job 3 (pos 10) 4 ∷ [])
+
+abbrev pub D : Order
+D = order (8 ∷ 8 ∷ []) (job 1 (pos 4) 1 ∷ job 1 (pos 4) 1 ∷ job 1 (pos 4) 1 ∷ [])
+
+-- a need of 0, and a job that is overdue at the start
+abbrev pub needZero : Order
+needZero = order (4 ∷ []) (job 1 (pos 1) 0 ∷ [])
+
+abbrev pub overdue : Order
+overdue = order (1 ∷ []) (job 1 (negsuc 4) 1 ∷ [])
