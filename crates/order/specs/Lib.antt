@@ -7,6 +7,7 @@ pub mod Refusals
 pub mod Table
 pub mod RefusalLaws
 pub mod TableLaws
+pub mod StructLaws
 pub mod SortedLaws
 pub mod ClassLaws
 pub mod OrderingLaws

@@ -1,6 +1,6 @@
 -- Document 01's order file: two lists in either order, and a trailer of 12 bytes that points back to them.
 use Prim.Native.Nat.{ℕ, _+_, _-_, _*_}
-use mathlib.Core.Bool.{Bool, true, false, _&&_, _||_}
+use mathlib.Core.Bool.{Bool, _&&_, _||_}
 use mathlib.Core.List.{List, [], _∷_, _++_}
 use lib.Dec.{leb, eqb}
 use lib.ListN.{length, drop}
@@ -14,16 +14,10 @@ use Rattle.order.specs.Refusals.{
   Verdict,
   accepted,
   refused,
-  judge,
-  Answer,
-  answer,
-  refusal,
-  answerBy,
   orderRows,
   roomRow,
   fileRow,
 }
-use Rattle.order.specs.Table.{orderOf, refusalTold}
 use Rattle.order_file.specs.Bytes.{number4, number2, bytes4, bytes2, signed, pattern}
 
 -- the trailer: place of the processor list, place of the job list, processor count, job count

@@ -39,5 +39,5 @@ Within f Bad = Unit {0}
 Within f (Good l) = Placed f (l .«processors_at») (l .«jobs_at») (l .processors) (l .jobs)
 
 -- k places: f i at the first n, d at the others
-abbrev pub paddedTo {ℓ} : {A : Type ℓ} → ℕ → ℕ → A → (ℕ → A) → List A
+unfoldable pub paddedTo {ℓ} : {A : Type ℓ} → ℕ → ℕ → A → (ℕ → A) → List A
 paddedTo k n d f = tabulate k (λ i. getD (tabulate n f) i d)

@@ -2,3 +2,6 @@ pub mod Bytes
 pub mod File
 pub mod Told
 pub mod Inside
+pub mod ByteLaws
+pub mod FileLaws
+pub mod RoundTrip

@@ -1,7 +1,7 @@
 -- What the code's answers stand for.
 use Prim.Native.Nat.{ℕ}
 use Rattle.order.specs.Order.{Order}
-use Rattle.order.specs.Refusals.{Verdict, accepted, refused, Answer, answer, refusal, answerBy}
+use Rattle.order.specs.Refusals.{Answer, answer, answerBy}
 use Rattle.order.specs.Table.{orderOf, refusalTold, acceptanceTold}
 use Rattle.order_file.specs.declared.OrderRead.{OrderRead}
 use Rattle.order_file.specs.declared.OrderWritten.{OrderWritten}

@@ -1,5 +1,5 @@
-// Numbers as bytes, little-endian; two's complement for the due time. Each function serves this crate alone and may have
-// a `requires`.
+// Numbers as bytes, little-endian; two's complement for the due time. Each function serves this crate and the programs, and may
+// have a `requires`.
 ghost use mathlib.Core.Path.{_≡_};
 ghost use Prim.Native.Nat.{_+_, _<_, _≤_};
 ghost use mathlib.Core.Bool.{true};

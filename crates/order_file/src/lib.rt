@@ -3,7 +3,7 @@ use order::Acceptance;
 use order::Order;
 use order::Refusal;
 
-mod bytes; // numbers as bytes
+pub mod bytes; // numbers as bytes
 pub mod read; // read_order
 pub mod write; // write_order
 

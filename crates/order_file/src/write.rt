@@ -12,13 +12,15 @@ ghost use mathlib.Core.List.{_++_};
 ghost use lib.ListN.{length, take, drop};
 ghost use Rattle.order.specs.Refusals.{judge, answerBy};
 ghost use Rattle.order.specs.Table.{orderOf, jobAt};
-ghost use Rattle.order_file.specs.File.{processorBytes, bytesOfJob, jobBytes, trailerBytes, fileLength, writeRows, writtenBy};
+ghost use Rattle.order_file.specs.File.{processorBytes, bytesOfJob, jobBytes, trailerBytes};
+ghost use Rattle.order_file.specs.File.{fileLength, writeRows, writtenBy};
 ghost use Rattle.order_file.specs.Told.{writtenTold};
 
 // The processor list is stored from byte 0 on.
 fn put_processors(order: Order, out: &mut [u8])
     requires { ⌜ (order .processors ≤ 16) × (4 * order .processors ≤ length (now out)) ⌝ }
-    ensures { λ r. ⌜ now (out .exit) ≡ processorBytes (orderOf order .memories) ++ drop (4 * order .processors) (now (out .entry)) ⌝ }
+    ensures { λ r. ⌜ now (out .exit) ≡ processorBytes (orderOf order .memories)
+        ++ drop (4 * order .processors) (now (out .entry)) ⌝ }
 {
     let n = order.processors as usize;
     let mut i: usize = 0;
@@ -62,7 +64,8 @@ fn put_jobs(order: Order, out: &mut [u8], at: usize)
 // The trailer is stored at a place.
 fn put_trailer(out: &mut [u8], at: usize, processors: u32, jobs: u32)
     requires { ⌜ (processors ≤ 16) × (jobs ≤ 48) × (at + 12 ≤ length (now out)) ⌝ }
-    ensures { λ r. ⌜ now (out .exit) ≡ take at (now (out .entry)) ++ (trailerBytes processors jobs ++ drop (at + 12) (now (out .entry))) ⌝ }
+    ensures { λ r. ⌜ now (out .exit) ≡ take at (now (out .entry))
+        ++ (trailerBytes processors jobs ++ drop (at + 12) (now (out .entry))) ⌝ }
 {
     put4(out, at, 0);
     put4(out, at + 4, 4 * processors);
@@ -72,8 +75,10 @@ fn put_trailer(out: &mut [u8], at: usize, processors: u32, jobs: u32)
 
 // The file of an order, processors first, in a lent buffer: 1 to 7, then 9.
 pub fn write_order(order: Order, out: &mut [u8]) -> OrderWritten
-    ensures { λ r. ⌜ writtenTold r ≡ answerBy (judge (writeRows (orderOf order) (length (now (out .entry))))) (fileLength (orderOf order)) ⌝ }
-    ensures { λ r. ⌜ now (out .exit) ≡ writtenBy (judge (writeRows (orderOf order) (length (now (out .entry))))) (orderOf order) (now (out .entry)) ⌝ }
+    ensures { λ r. ⌜ writtenTold r
+        ≡ answerBy (judge (writeRows (orderOf order) (length (now (out .entry))))) (fileLength (orderOf order)) ⌝ }
+    ensures { λ r. ⌜ now (out .exit)
+        ≡ writtenBy (judge (writeRows (orderOf order) (length (now (out .entry))))) (orderOf order) (now (out .entry)) ⌝ }
 {
     if let Acceptance::Refused(refusal) = order::accept::accept(order) {
         return OrderWritten::Refused(refusal);

@@ -6,6 +6,7 @@ use mathlib.Core.List.{List, [], _∷_, _++_, map, reverse, reverseAux}
 use mathlib.Core.Logic.{_⊎_, inl, inr}
 use native.Mathlib.Omega.{arith}
 use native.Mathlib.Nat.{le-of-suc-le-suc}
+use native.Mathlib.Numerals.{add-one}
 use lib.Dec.{eqb}
 use borrow.Author.Tests.{eq-eqb, ne-eqb}
 use lib.ListN.{length, getD, drop, take}
@@ -99,6 +100,21 @@ module _ {A : Type 0} where
   tabulate-cong zero f g h = refl
   tabulate-cong (suc n) f g h =
       cc (h 0 (omega arith), tabulate-cong n (λ i. f (suc i)) (λ i. g (suc i)) (λ i l. h (suc i) (omega arith)))
+
+  tabulate-suc : (n : ℕ) (f : ℕ → A) → tabulate (suc n) f ≡ tabulate n f ++ (f n ∷ [])
+  tabulate-suc zero f = refl
+  tabulate-suc (suc n) f = ap (λ (l : List A). f 0 ∷ l) (tabulate-suc n (λ i. f (suc i)))
+
+  -- one place more stands at the end
+  pub tabulate-more : (n : ℕ) (f : ℕ → A) → tabulate (n + 1) f ≡ tabulate n f ++ (f n ∷ [])
+  tabulate-more n f = ap (λ (k : ℕ). tabulate k f) (add-one n) ∙ tabulate-suc n f
+
+  -- a function of each place
+  pub getD-tabulate-map : {B : Type 0} (g : A → B) (n : ℕ) (f : ℕ → A) (d : A) (i : ℕ) →
+      g (getD (tabulate n f) i d) ≡ getD (tabulate n (λ k. g (f k))) i (g d)
+  getD-tabulate-map g zero f d i = refl
+  getD-tabulate-map g (suc n) f d zero = refl
+  getD-tabulate-map g (suc n) f d (suc i) = getD-tabulate-map g n (λ k. f (suc k)) d i
 
   -- a list is given by its places
   pub tabulate-getD : (xs : List A) (d : A) → tabulate (length xs) (λ i. getD xs i d) ≡ xs

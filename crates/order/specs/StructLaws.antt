@@ -1,0 +1,35 @@
+-- A struct made of an order stands for that order.
+use Prim.Native.Nat.{ℕ, _≤_}
+use mathlib.Core.Path.{_≡_, _∙_}
+use mathlib.Core.List.{List}
+use native.Mathlib.Omega.{arith}
+use lib.IntN.{ℤ}
+use lib.ListN.{getD}
+use Rattle.sums.specs.ListLaws.{getD-tabulate, tabulate-cong, tabulate-getD}
+use Rattle.order.specs.Order.{Job, Order, noJob, processorCount, jobCount}
+use Rattle.order.specs.Table.{orderOf, tableOf}
+
+-- an order, and a job, are given by their parts
+pub same-order : (ms ns : List ℕ) (js ks : List Job) → ms ≡ ns → js ≡ ks →
+    _≡_ {A = Order} (record { memories = ms; jobs = js }) (record { memories = ns; jobs = ks })
+same-order ms ns js ks p q = cc
+
+pub same-job : (t u : ℕ) (d e : ℤ) (n m : ℕ) → t ≡ u → d ≡ e → n ≡ m →
+    _≡_ {A = Job} (record { time = t; due = d; need = n }) (record { time = u; due = e; need = m })
+same-job t u d e n m p q r = cc
+
+-- an order whose counts are within the limits is that of its struct
+pub tableOf-orderOf : (o : Order) → processorCount o ≤ 16 → jobCount o ≤ 48 → orderOf (tableOf o) ≡ o
+unfolding tableOf
+tableOf-orderOf o few-processors few-jobs =
+    same-order _ _ _ _
+    (tabulate-cong (processorCount o) _ (λ i. getD (o .memories) i 0)
+    (λ i l. getD-tabulate 16 (λ i. getD (o .memories) i 0) 0 i (omega arith))
+    ∙ tabulate-getD (o .memories) 0)
+    (tabulate-cong (jobCount o) _ (λ j. getD (o .jobs) j noJob)
+    (λ j l.
+    same-job _ _ _ _ _ _
+    (getD-tabulate 48 (λ j. getD (o .jobs) j noJob .time) _ j (omega arith))
+    (getD-tabulate 48 (λ j. getD (o .jobs) j noJob .due) _ j (omega arith))
+    (getD-tabulate 48 (λ j. getD (o .jobs) j noJob .need) _ j (omega arith)))
+    ∙ tabulate-getD (o .jobs) noJob)

@@ -1,0 +1,120 @@
+-- How the writer puts its answer together: acceptance decides alone where it refuses, else the room in the buffer does.
+use Prim.Native.Nat.{ℕ, _+_, _*_, _≤_, _<_}
+use mathlib.Core.Path.{_≡_, refl, sym, ap, _∙_}
+use mathlib.Core.List.{List, [], _∷_, _++_, append-assoc}
+use native.Mathlib.Omega.{arith}
+use borrow.Author.Tests.{lt-ltb, le-ltb}
+use lib.ListN.{length, getD, take, drop}
+use Rattle.sums.specs.ListLaws.{length-tabulate}
+use Rattle.order.specs.Order.{Order, processorCount, jobCount}
+use Rattle.order.specs.Refusals.{
+  limits,
+  TableRow,
+  Verdict,
+  accepted,
+  refused,
+  judge,
+  Answer,
+  answer,
+  refusal,
+  answerBy,
+  orderRows,
+  roomRow,
+}
+use Rattle.order.specs.RefusalLaws.{accepted-iff, judge-refused-append, judge-accepted-append}
+use Rattle.order.specs.Table.{jobAt, orderOf, refusalTold, acceptanceTold}
+use Rattle.order.specs.TableLaws.{refused-told}
+use Rattle.order.specs.declared.Order.{Order as OrderTable}
+use Rattle.order.specs.declared.Refusal.{Refusal}
+use Rattle.order.specs.declared.Acceptance.{Acceptance}
+use Rattle.order.specs.declared.Acceptance.the-variants.{Accepted, Refused}
+use Rattle.order_file.specs.File.{processorBytes, jobBytes, trailerBytes, fileOf, fileLength, writeRows, writtenBy}
+use Rattle.order_file.specs.FileLaws.{length-processorBytes, length-jobBytes}
+use Rattle.order_file.proofs.Stores.{Front, front-more}
+
+-- what the writer answers and leaves in the buffer, by the verdict
+abbrev pub WrittenBy : Verdict → Order → List ℕ → Answer ℕ → List ℕ → Type 0
+WrittenBy v o buffer told after = (told ≡ answerBy v (fileLength o)) × (after ≡ writtenBy v o buffer)
+
+module _ (t : OrderTable) where
+  processors-are : processorCount (orderOf t) ≡ t .processors
+  processors-are = length-tabulate (t .processors) (λ i. getD (t .memories) i 0)
+
+  jobs-are : jobCount (orderOf t) ≡ t .jobs
+  jobs-are = length-tabulate (t .jobs) (jobAt t)
+
+module _ (t : OrderTable) (a : Acceptance) (e : acceptanceTold a ≡ judge (orderRows limits (orderOf t))) where
+  good : a ≡ Accepted → judge (orderRows limits (orderOf t)) ≡ accepted
+  good is = sym e ∙ ap acceptanceTold is
+
+  pub counts-few : a ≡ Accepted → (t .processors ≤ 16) × (t .jobs ≤ 48)
+  counts-few is =
+      let h = accepted-iff (orderOf t) .0 (good is) in
+      (omega (arith, h .few-processors, processors-are t), omega (arith, h .few-jobs, jobs-are t))
+
+  module _ (buffer : List ℕ) where
+    abbrev room : List TableRow
+    room = roomRow (length buffer) (fileLength (orderOf t)) ∷ []
+
+    abbrev verdict : Verdict
+    verdict = judge (writeRows (orderOf t) (length buffer))
+
+    pub refused-written : (r : Refusal) → a ≡ Refused r →
+        WrittenBy verdict (orderOf t) buffer (answerBy (refusalTold r) 0) buffer
+    unfolding writeRows
+    refused-written r is =
+        let told = refused-told r in
+        let v : judge (orderRows limits (orderOf t)) ≡ refused (told .0) (told .1) = sym e ∙ ap acceptanceTold is ∙ told .2 in
+        let w = judge-refused-append (orderRows limits (orderOf t)) room (told .0) (told .1) v in
+        rw (told .2, w) (refl, refl)
+
+    module _ (is : a ≡ Accepted) where
+      room-decides : judge (writeRows (orderOf t) (length buffer)) ≡ judge room
+      unfolding writeRows
+      room-decides = judge-accepted-append (orderRows limits (orderOf t)) room (good is)
+
+      pub too-short : length buffer < 4 * t .processors + 12 * t .jobs + 12 →
+          WrittenBy verdict (orderOf t) buffer (refusal 9 0) buffer
+      unfolding judge
+      too-short h =
+          rw (room-decides, lt-ltb (length buffer) (fileLength (orderOf t)) (omega (arith, processors-are t, jobs-are t)))
+          (refl, refl)
+
+      -- the three parts, stored one after the other, are the file
+      module _ (o₁ o₂ o₃ : List ℕ) (enough : 4 * t .processors + 12 * t .jobs + 12 ≤ length buffer)
+          (e₁ : o₁ ≡ processorBytes (orderOf t .memories) ++ drop (4 * t .processors) buffer)
+          (e₂ : o₂ ≡ take (4 * t .processors) o₁ ++ (jobBytes (orderOf t .jobs) ++ drop (4 * t .processors + 12 * t .jobs) o₁))
+          (e₃ : o₃ ≡ take (4 * t .processors + 12 * t .jobs) o₂
+          ++ (trailerBytes (t .processors) (t .jobs) ++ drop (4 * t .processors + 12 * t .jobs + 12) o₂)) where
+        processors-stored : Front buffer (4 * t .processors) (processorBytes (orderOf t .memories)) o₁
+        processors-stored =
+            record {
+              is = e₁;
+              size = length-processorBytes (orderOf t .memories) ∙ ap (λ (n : ℕ). 4 * n) (processors-are t);
+              inside = omega arith;
+            }
+
+        abbrev processors : List ℕ
+        processors = processorBytes (orderOf t .memories)
+
+        abbrev jobs : List ℕ
+        jobs = jobBytes (orderOf t .jobs)
+
+        jobs-stored : Front buffer (4 * t .processors + 12 * t .jobs) (processors ++ jobs) o₂
+        jobs-stored =
+            front-more buffer _ _ o₁ processors-stored (12 * t .jobs) jobs o₂
+            (length-jobBytes (orderOf t .jobs) ∙ ap (λ (n : ℕ). 12 * n) (jobs-are t)) (omega arith) e₂
+
+        all-stored : o₃ ≡ fileOf (orderOf t) ++ drop (fileLength (orderOf t)) buffer
+        unfolding fileOf
+        all-stored =
+            rw (processors-are t, jobs-are t)
+            (front-more buffer _ _ o₂ jobs-stored 12 (trailerBytes (t .processors) (t .jobs)) o₃ refl enough e₃ .is
+            ∙ ap (λ (l : List ℕ). l ++ drop (4 * t .processors + 12 * t .jobs + 12) buffer)
+            (append-assoc processors jobs (trailerBytes (t .processors) (t .jobs))))
+
+        pub file-written : WrittenBy verdict (orderOf t) buffer (answer (4 * t .processors + 12 * t .jobs + 12)) o₃
+        unfolding judge
+        file-written =
+            rw (room-decides, le-ltb (length buffer) (fileLength (orderOf t)) (omega (arith, processors-are t, jobs-are t)))
+            (ap answer (omega (arith, processors-are t, jobs-are t)), all-stored)

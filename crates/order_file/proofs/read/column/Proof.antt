@@ -1,0 +1,63 @@
+-- `column`: the invariant is that the places before j hold the numbers at `first` of the jobs, the others 0.
+use Prim.Native.Nat.{_+_, _*_, _-_, _≤_}
+use mathlib.Core.Path.{_≡_}
+use Rattle.order_file.specs.Bytes.{number4}
+use Rattle.order_file.specs.Inside.{paddedTo}
+use Rattle.order_file.proofs.Padded.{padded-none, padded-more}
+use borrow.Author.Needs.{needs}
+use native.Mathlib.Omega.{arith}
+use Rattle.order_file.proofs.read.column.Statement.{statement}
+use Rattle.order_file.proofs.read.column.Tie as tie
+
+abbrev Inv-loop : tie.InvT-loop
+Inv-loop list n first out₀ j₀ out j = (j ≤ n) × (out ≡ paddedTo 48 j 0 (λ k. number4 list (12 * k + first)))
+
+abbrev μ-loop : tie.MeasureT-loop
+μ-loop list n first out₀ j₀ out j = n - j
+
+loop-holds : tie.Need-loop-holds Inv-loop μ-loop
+loop-holds c = (search needs, padded-none 48 0 _)
+
+mul-read4 : tie.Need-mul-read4 Inv-loop μ-loop
+mul-read4 c = search needs
+
+add-read4 : tie.Need-add-read4 Inv-loop μ-loop
+add-read4 c = search needs
+
+read4-requires : tie.Need-read4-requires Inv-loop μ-loop
+read4-requires c κs = search needs
+
+mul-out : tie.Need-mul-out Inv-loop μ-loop
+mul-out c = search needs
+
+array-write-out : tie.Need-array-write-out Inv-loop μ-loop
+array-write-out c = search needs
+
+add-j : tie.Need-add-j Inv-loop μ-loop
+add-j c = search needs
+
+loop-less : tie.Need-loop-less Inv-loop μ-loop
+loop-less c = search needs
+
+loop-again : tie.Need-loop-again Inv-loop μ-loop
+loop-again c = (search needs, padded-more 48 _ 0 _ _ _ (omega arith) (c .before .before .loop .inv .1) (c .read4 .ensures))
+
+returns : tie.Need-returns Inv-loop μ-loop
+returns c = let e : c .before .before .before .args .n ≡ c .before .loop .j = omega arith in rw e (c .before .loop .inv .1)
+
+pub column-spec : {M : Type 1} → statement M
+column-spec =
+    tie.close
+    (tie.spec
+    Inv-loop
+    μ-loop
+    loop-holds
+    mul-read4
+    add-read4
+    read4-requires
+    mul-out
+    array-write-out
+    add-j
+    loop-less
+    loop-again
+    returns)

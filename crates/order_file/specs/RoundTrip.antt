@@ -1,0 +1,243 @@
+-- An order that is written and read again is the same order; and what a file has to be for the reader to take it.
+use Prim.Native.Nat.{ℕ, _+_, _*_, _≤_, _<_}
+use mathlib.Core.Path.{_≡_, refl, sym, ap, _∙_}
+use mathlib.Core.Bool.{Bool, true, false, _&&_, _||_}
+use mathlib.Core.List.{List, _++_, append-assoc}
+use mathlib.Core.Logic.{_↔_, _⊎_, inl, inr}
+use native.Mathlib.Omega.{arith}
+use borrow.Author.Tests.{leb-true, le-leb, eqb-true, eq-eqb}
+use lib.Dec.{leb, eqb, leb→le}
+use lib.IntN.{ℤ, pos, negsuc}
+use lib.ListN.{length, getD, take, drop, length-append}
+use lib.Seq.{take-at}
+use lib.Signed.{mag, _≤ℤ_}
+use Rattle.sums.specs.Lists.{All, tabulate}
+use Rattle.sums.specs.ListLaws.{All-map, All-both, tabulate-cong, tabulate-getD}
+use Rattle.order.specs.Order.{Job, Order, noJob, processorCount, jobCount}
+use Rattle.order.specs.Refusals.{accepted, judge, Accepted}
+use Rattle.order.specs.RefusalLaws.{Acceptable, accepted-iff, both-true}
+use Rattle.order.specs.StructLaws.{same-order}
+use Rattle.order_file.specs.Bytes.{number4, number2}
+use Rattle.order_file.specs.ByteLaws.{four-bytes, two-bytes, number4-past, number2-past}
+use Rattle.order_file.specs.File.{
+  trailer,
+  processorPlace,
+  jobPlace,
+  processorsOf,
+  jobsOf,
+  listsAgree,
+  goodFile,
+  jobIn,
+  orderIn,
+  readRows,
+  processorBytes,
+  jobBytes,
+  trailerBytes,
+  fileOf,
+  fileLength,
+}
+use Rattle.order_file.specs.FileLaws.{
+  length-processorBytes,
+  length-jobBytes,
+  number4-processorBytes,
+  JobFits,
+  jobIn-past,
+  jobIn-jobBytes,
+}
+
+-- what the reader asks of a file: its length is that of its lists and trailer, and the lists lie one after the other from
+-- byte 0, in either order
+pub record Agrees (f : List ℕ) : Type 0 where
+  pub long-enough : 12 ≤ length f
+  pub short-enough : length f ≤ 652
+  pub exact-length : length f ≡ 4 * processorsOf f + 12 * jobsOf f + 12
+  pub placed : ((processorPlace f ≡ 0) × (jobPlace f ≡ 4 * processorsOf f))
+      ⊎ ((jobPlace f ≡ 0) × (processorPlace f ≡ 12 * jobsOf f))
+
+either-true : (a b : Bool) → (a || b) ≡ true → (a ≡ true) ⊎ (b ≡ true)
+either-true true b e = inl refl
+either-true false b e = inr e
+
+true-left : (a b : Bool) → a ≡ true → (a || b) ≡ true
+true-left a b e = rw e
+
+true-right : (a b : Bool) → b ≡ true → (a || b) ≡ true
+true-right true b e = refl
+true-right false b e = e
+
+true-both : (a b : Bool) → a ≡ true → b ≡ true → (a && b) ≡ true
+true-both a b e f = rw (e, f)
+
+both-equal : (a b c d : ℕ) → (eqb a b && eqb c d) ≡ true → (a ≡ b) × (c ≡ d)
+both-equal a b c d e = let h = both-true (eqb a b) (eqb c d) e in (eqb-true a b (h .0), eqb-true c d (h .1))
+
+equal-both : (a b c d : ℕ) → a ≡ b → c ≡ d → (eqb a b && eqb c d) ≡ true
+equal-both a b c d e f = true-both (eqb a b) (eqb c d) (eq-eqb a b e) (eq-eqb c d f)
+
+-- the two placements
+pub listsAgree-iff : (p j pa ja : ℕ) →
+    (listsAgree p j pa ja ≡ true) ↔ (((pa ≡ 0) × (ja ≡ 4 * p)) ⊎ ((ja ≡ 0) × (pa ≡ 12 * j)))
+listsAgree-iff p j pa ja = (
+  λ e. elim (either-true (eqb pa 0 && eqb ja (4 * p)) (eqb ja 0 && eqb pa (12 * j)) e) [
+    | inl h ↦ inl (both-equal pa 0 ja (4 * p) h)
+    | inr h ↦ inr (both-equal ja 0 pa (12 * j) h)
+  ],
+  λ s. elim s [
+    | inl h ↦ true-left (eqb pa 0 && eqb ja (4 * p)) _ (equal-both pa 0 ja (4 * p) (h .0) (h .1))
+    | inr h ↦ true-right (eqb pa 0 && eqb ja (4 * p)) _ (equal-both ja 0 pa (12 * j) (h .0) (h .1))
+  ],
+)
+
+-- the test of a file says that
+pub goodFile-iff : (f : List ℕ) → (goodFile f ≡ true) ↔ Agrees f
+unfolding goodFile
+goodFile-iff f = (
+  λ e.
+      let h₁ = both-true (leb 12 (length f)) _ e in
+      let h₂ = both-true (leb (length f) 652) _ (h₁ .1) in
+      let h₃ = both-true (eqb (4 * processorsOf f + 12 * jobsOf f + 12) (length f)) _ (h₂ .1) in
+      record {
+        long-enough = leb-true 12 (length f) (h₁ .0);
+        short-enough = leb-true (length f) 652 (h₂ .0);
+        exact-length = sym (eqb-true (4 * processorsOf f + 12 * jobsOf f + 12) (length f) (h₃ .0));
+        placed = listsAgree-iff (processorsOf f) (jobsOf f) (processorPlace f) (jobPlace f) .0 (h₃ .1);
+      },
+  λ a.
+      true-both (leb 12 (length f)) _ (le-leb 12 (length f) (a .long-enough))
+      (true-both (leb (length f) 652) _ (le-leb (length f) 652 (a .short-enough))
+      (true-both (eqb (4 * processorsOf f + 12 * jobsOf f + 12) (length f)) _
+      (eq-eqb (4 * processorsOf f + 12 * jobsOf f + 12) (length f) (sym (a .exact-length)))
+      (listsAgree-iff (processorsOf f) (jobsOf f) (processorPlace f) (jobPlace f) .1 (a .placed)))),
+)
+
+-- the file of an order is as long as it says
+lists-length : (o : Order) →
+    length (processorBytes (o .memories) ++ jobBytes (o .jobs)) ≡ 4 * processorCount o + 12 * jobCount o
+lists-length o =
+    omega (
+      arith,
+      length-append (processorBytes (o .memories)) (jobBytes (o .jobs)),
+      length-processorBytes (o .memories),
+      length-jobBytes (o .jobs),
+    )
+
+lists-first : (o : Order) →
+    fileOf o ≡ (processorBytes (o .memories) ++ jobBytes (o .jobs)) ++ trailerBytes (processorCount o) (jobCount o)
+unfolding fileOf
+lists-first o =
+    sym (append-assoc (processorBytes (o .memories)) (jobBytes (o .jobs)) (trailerBytes (processorCount o) (jobCount o)))
+
+pub fileOf-length : (o : Order) → length (fileOf o) ≡ fileLength o
+fileOf-length o =
+    ap length (lists-first o)
+    ∙ length-append (processorBytes (o .memories) ++ jobBytes (o .jobs)) (trailerBytes (processorCount o) (jobCount o))
+    ∙ ap (λ (n : ℕ). n + 12) (lists-length o)
+
+-- the writer's buffer begins with the file
+pub written-file : (o : Order) (buffer : List ℕ) → fileLength o ≤ length buffer →
+    take (fileLength o) (fileOf o ++ drop (fileLength o) buffer) ≡ fileOf o
+written-file o buffer h = take-at (fileOf o) (drop (fileLength o) buffer) (fileLength o) (fileOf-length o)
+
+-- document 01's ranges of memory and need: 0 to 4,294,967,295
+pub record Bounded (o : Order) : Type 0 where
+  pub memories : All (λ m. m < 4294967296) (o .memories)
+  pub needs : All (λ (job : Job). job .need < 4294967296) (o .jobs)
+
+-- a due time in range is of 32 bits
+small-due : (z : ℤ) → negsuc 999999 ≤ℤ z → z ≤ℤ pos 1000000 → mag z < 2147483648
+small-due (pos n) l h = omega (arith, leb→le n 1000000 (h .le))
+small-due (negsuc n) l h = omega (arith, leb→le n 999999 (l .le))
+
+module _ (o : Order) (a : Accepted o) (b : Bounded o) where
+  good : Acceptable o
+  good = accepted-iff o .0 a
+
+  jobs-fit : All JobFits (o .jobs)
+  jobs-fit =
+      All-map _ _ (o .jobs)
+      (λ (job : Job) h.
+      record { time = omega (arith, h .0 .0); due = small-due (job .due) (h .1 .0 .0) (h .1 .0 .1); need = h .1 .1 })
+      (All-both _ _ (o .jobs) (good .times) (All-both _ _ (o .jobs) (good .dues) (b .needs)))
+
+  few-places : 4 * processorCount o + 12 * jobCount o ≤ 640
+  few-places = omega (arith, good .few-processors, good .few-jobs)
+
+  -- the numbers of its trailer
+  trailer-at : (k : ℕ) → trailer (fileOf o) + k ≡ 4 * processorCount o + 12 * jobCount o + k
+  trailer-at k = omega (arith, fileOf-length o)
+
+  trailer-number4 : (k : ℕ) →
+      number4 (fileOf o) (4 * processorCount o + 12 * jobCount o + k) ≡ number4 (trailerBytes (processorCount o) (jobCount o)) k
+  trailer-number4 k =
+      ap (λ (f : List ℕ). number4 f (4 * processorCount o + 12 * jobCount o + k)) (lists-first o)
+      ∙ number4-past (processorBytes (o .memories) ++ jobBytes (o .jobs)) (trailerBytes (processorCount o) (jobCount o))
+      (4 * processorCount o + 12 * jobCount o) k (lists-length o)
+
+  trailer-number2 : (k : ℕ) →
+      number2 (fileOf o) (4 * processorCount o + 12 * jobCount o + k) ≡ number2 (trailerBytes (processorCount o) (jobCount o)) k
+  trailer-number2 k =
+      ap (λ (f : List ℕ). number2 f (4 * processorCount o + 12 * jobCount o + k)) (lists-first o)
+      ∙ number2-past (processorBytes (o .memories) ++ jobBytes (o .jobs)) (trailerBytes (processorCount o) (jobCount o))
+      (4 * processorCount o + 12 * jobCount o) k (lists-length o)
+
+  processor-place : processorPlace (fileOf o) ≡ 0
+  processor-place =
+      let at : trailer (fileOf o) ≡ 4 * processorCount o + 12 * jobCount o + 0 = omega (arith, fileOf-length o) in
+      ap (number4 (fileOf o)) at ∙ trailer-number4 0
+
+  job-place : jobPlace (fileOf o) ≡ 4 * processorCount o
+  job-place =
+      ap (number4 (fileOf o)) (trailer-at 4) ∙ trailer-number4 4 ∙ four-bytes (4 * processorCount o) (omega (arith, few-places))
+
+  processors-are : processorsOf (fileOf o) ≡ processorCount o
+  processors-are =
+      ap (number2 (fileOf o)) (trailer-at 8) ∙ trailer-number2 8 ∙ two-bytes (processorCount o) (omega (arith, few-places))
+
+  jobs-are : jobsOf (fileOf o) ≡ jobCount o
+  jobs-are =
+      ap (number2 (fileOf o)) (trailer-at 10) ∙ trailer-number2 10 ∙ two-bytes (jobCount o) (omega (arith, few-places))
+
+  agrees : Agrees (fileOf o)
+  agrees =
+      record {
+        long-enough = omega (arith, fileOf-length o);
+        short-enough = omega (arith, fileOf-length o, few-places);
+        exact-length = omega (arith, fileOf-length o, processors-are, jobs-are);
+        placed = inl (processor-place, job-place ∙ ap (λ (n : ℕ). 4 * n) (sym processors-are));
+      }
+
+  -- the numbers of its lists
+  memory-read : (i : ℕ) → i < processorCount o → number4 (fileOf o) (processorPlace (fileOf o) + 4 * i) ≡ getD (o .memories) i 0
+  unfolding fileOf
+  memory-read i l =
+      let at : processorPlace (fileOf o) + 4 * i ≡ 4 * i = omega (arith, processor-place) in
+      ap (number4 (fileOf o)) at
+      ∙ number4-processorBytes (o .memories) (jobBytes (o .jobs) ++ trailerBytes (processorCount o) (jobCount o))
+      (b .memories) i l
+
+  job-read : (j : ℕ) → j < jobCount o → jobIn (fileOf o) (jobPlace (fileOf o) + 12 * j) ≡ getD (o .jobs) j noJob
+  unfolding fileOf
+  job-read j l =
+      let rest = jobBytes (o .jobs) ++ trailerBytes (processorCount o) (jobCount o) in
+      ap (λ (k : ℕ). jobIn (fileOf o) (k + 12 * j)) job-place
+      ∙ jobIn-past (processorBytes (o .memories)) rest (4 * processorCount o) (12 * j) (length-processorBytes (o .memories))
+      ∙ jobIn-jobBytes (o .jobs) (trailerBytes (processorCount o) (jobCount o)) jobs-fit j l
+
+  order-read : orderIn (fileOf o) ≡ o
+  unfolding orderIn
+  order-read =
+      same-order _ _ _ _
+      (ap (λ (n : ℕ). tabulate n (λ i. number4 (fileOf o) (processorPlace (fileOf o) + 4 * i))) processors-are
+      ∙ tabulate-cong (processorCount o) _ (λ i. getD (o .memories) i 0) memory-read
+      ∙ tabulate-getD (o .memories) 0)
+      (ap (λ (n : ℕ). tabulate n (λ j. jobIn (fileOf o) (jobPlace (fileOf o) + 12 * j))) jobs-are
+      ∙ tabulate-cong (jobCount o) _ (λ j. getD (o .jobs) j noJob) job-read
+      ∙ tabulate-getD (o .jobs) noJob)
+
+  file-accepted : judge (readRows (fileOf o)) ≡ accepted
+  unfolding readRows judge
+  file-accepted = rw (goodFile-iff (fileOf o) .1 agrees, order-read) a
+
+-- reading a written order yields the same order
+pub read-written : (o : Order) → Accepted o → Bounded o → (judge (readRows (fileOf o)) ≡ accepted) × (orderIn (fileOf o) ≡ o)
+read-written o a b = (file-accepted o a b, order-read o a b)
