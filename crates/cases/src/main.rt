@@ -106,7 +106,7 @@ fn print_changes(out: [u8; 700], written: usize) {
 }
 
 fn main() {
-    for _case in 0..1000000u32 {
+    for k in 0..1000000u32 {
         match stream::number() {
             1 => read_case(),
             2 => check_case(),

@@ -11,24 +11,29 @@ pub fn number() -> u32 {
     order_file::bytes::read4(&bytes, 0)
 }
 
-// As many bytes as the next number says, 700 at most; answers how many.
-pub fn bytes(file: &mut [u8; 700]) -> usize
-    ensures { λ r. ⌜ r ≤ 700 ⌝ }
+// The next number where it is wanted, else 0.
+fn number_if(wanted: bool) -> u32 {
+    if wanted { number() } else { 0 }
+}
+
+// As many bytes as the next number says, if there is room; answers how many.
+pub fn bytes(file: &mut [u8]) -> usize
+    ensures { λ r. ⌜ r ≤ length (now (file .entry)) ⌝ }
 {
     let n = number() as usize;
-    if 700 < n {
+    if file.len() < n {
         return 0;
     }
     io::read_full(STDIN_FILENO, &mut file[..n]);
     n
 }
 
-// As many numbers as the next number says, 12,104 at most; answers how many.
-pub fn numbers(rows: &mut [u32; 12104]) -> usize
-    ensures { λ r. ⌜ r ≤ 12104 ⌝ }
+// As many numbers as the next number says, if there is room; answers how many.
+pub fn numbers(rows: &mut [u32]) -> usize
+    ensures { λ r. ⌜ r ≤ length (now (rows .entry)) ⌝ }
 {
     let n = number() as usize;
-    if 12104 < n {
+    if rows.len() < n {
         return 0;
     }
     for i in 0..n {
@@ -41,9 +46,7 @@ pub fn numbers(rows: &mut [u32; 12104]) -> usize
 fn memories(n: u32) -> [u32; 16] {
     let mut out = [0u32; 16];
     for i in 0..16usize {
-        if (i as u32) < n {
-            out[i] = number();
-        }
+        out[i] = number_if((i as u32) < n);
     }
     out
 }
@@ -57,11 +60,10 @@ pub fn order() -> Order {
     let mut dues = [0i32; 48];
     let mut needs = [0u32; 48];
     for j in 0..48usize {
-        if (j as u32) < jobs {
-            times[j] = number();
-            dues[j] = order_file::bytes::to_signed(number());
-            needs[j] = number();
-        }
+        let wanted = (j as u32) < jobs;
+        times[j] = number_if(wanted);
+        dues[j] = order_file::bytes::to_signed(number_if(wanted));
+        needs[j] = number_if(wanted);
     }
     Order {
         processors,

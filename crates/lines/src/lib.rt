@@ -1,8 +1,11 @@
 // Words and numbers on standard output, for the programs. No contract can speak of what is written.
 use libc::STDOUT_FILENO;
 use order::Refusal;
+ghost use Prim.Native.Nat.{_<_};
 
-fn wide(x: u32) -> u64 {
+fn wide(x: u32) -> u64
+    ensures { λ r. ⌜ r < 4294967296 ⌝ }
+{
     x as u64
 }
 

@@ -1,0 +1,95 @@
+use lib.ListN.{length-take}
+use borrow.Author.Needs.{needs}
+use native.Mathlib.Omega.{arith}
+use Rattle.cases.proofs.check_case.Statement.{statement}
+use Rattle.cases.proofs.check_case.Tie as tie
+use Rattle.cases.proofs.check_case.Reads as reads
+use Rattle.cases.proofs.check_case.Lts as lts
+use Rattle.cases.proofs.stream.number.Reads as number-reads
+use Rattle.cases.proofs.stream.numbers.Reads as numbers-reads
+use Rattle.cases.proofs.stream.order.Reads as order-reads
+use Rattle.lines.proofs.refused.Reads as refused-reads
+use Rattle.lines.proofs.text.Reads as text-reads
+use Rattle.order_file.proofs.bytes.to_signed.Reads as to-signed-reads
+use Rattle.plan.proofs.check.check_plan.Reads as check-plan-reads
+
+order-requires : tie.Need-order-requires
+order-requires c κs = search needs
+
+number-requires : tie.Need-number-requires
+number-requires c κs = search needs
+
+to-signed-requires : tie.Need-to-signed-requires
+to-signed-requires c κs = search needs
+
+slice-aggregate-numbers : tie.Need-slice-aggregate-numbers
+slice-aggregate-numbers c = search needs
+
+numbers-requires : tie.Need-numbers-requires
+numbers-requires c κs = search needs
+
+array-share-prefix-rows : tie.Need-array-share-prefix-rows
+array-share-prefix-rows c = search needs
+
+slice-aggregate-check-plan : tie.Need-slice-aggregate-check-plan
+slice-aggregate-check-plan c = simp length-take (omega arith)
+
+check-plan-requires : tie.Need-check-plan-requires
+check-plan-requires c κs = search needs
+
+enum-told : tie.Need-enum-told
+enum-told c = search needs
+
+slice-aggregate-text : tie.Need-slice-aggregate-text
+slice-aggregate-text c = search needs
+
+text-requires : tie.Need-text-requires
+text-requires c κs = search needs
+
+enum-told-2 : tie.Need-enum-told-2
+enum-told-2 c = search needs
+
+slice-aggregate-text-2 : tie.Need-slice-aggregate-text-2
+slice-aggregate-text-2 c = search needs
+
+text-requires-2 : tie.Need-text-requires-2
+text-requires-2 c κs = search needs
+
+enum-known-refusal : tie.Need-enum-known-refusal
+enum-known-refusal c = search needs
+
+refused-requires : tie.Need-refused-requires
+refused-requires c κs = search needs
+
+returns : tie.Need-returns
+returns c = search needs
+
+returns-2 : tie.Need-returns-2
+returns-2 c = search needs
+
+returns-3 : tie.Need-returns-3
+returns-3 c = search needs
+
+pub check-case-spec : {M : Type 1} → statement M
+check-case-spec =
+    tie.close
+    (tie.spec
+    order-requires
+    number-requires
+    to-signed-requires
+    slice-aggregate-numbers
+    numbers-requires
+    array-share-prefix-rows
+    slice-aggregate-check-plan
+    check-plan-requires
+    enum-told
+    slice-aggregate-text
+    text-requires
+    enum-told-2
+    slice-aggregate-text-2
+    text-requires-2
+    enum-known-refusal
+    refused-requires
+    returns
+    returns-2
+    returns-3)
