@@ -70,23 +70,19 @@ module _ (t : OrderTable) (r : Row) where
         rw (e, job-of t (r .job) (its-job .0) (its-job .1))
         (sym (cut-le (getD (t .dues) (r .job - 1) (pos 0) +ℤ bound) (r .to) some))
 
--- two rows: apart in time, or else they share a job, or a processor
+-- two rows share a job or a processor and must be apart in time, or they share neither
+abbrev pub apartInTime : Row → Row → Bool
+apartInTime r s = leb (r .to) (s .from) || leb (s .to) (r .from)
+
 module _ (r s : Row) where
-  pub before : r .to ≤ s .from → true ≡ noOverlap r s
-  before h = rw (le-leb (r .to) (s .from) h, or-true)
+  pub same-job : r .job ≡ s .job → apartInTime r s ≡ noOverlap r s
+  same-job e = rw (eq-eqb (r .job) (s .job) e)
 
-  pub after : s .to ≤ r .from → true ≡ noOverlap r s
-  after h = rw (le-leb (s .to) (r .from) h, or-true (leb (r .to) (s .from)), or-true)
+  pub same-processor : (r .job ≡ s .job → ⊥) → r .processor ≡ s .processor → apartInTime r s ≡ noOverlap r s
+  same-processor n e = rw (ne-eqb (r .job) (s .job) n, eq-eqb (r .processor) (s .processor) e)
 
-  module _ (a : s .from < r .to) (b : r .from < s .to) where
-    overlap : noOverlap r s ≡ not (eqb (r .job) (s .job) || eqb (r .processor) (s .processor))
-    overlap = rw (lt-leb (r .to) (s .from) a, lt-leb (s .to) (r .from) b, or-false)
-
-    pub same-job : r .job ≡ s .job → false ≡ noOverlap r s
-    same-job e = sym (overlap ∙ rw (eq-eqb (r .job) (s .job) e))
-
-    pub other-job : (r .job ≡ s .job → ⊥) → not (eqb (r .processor) (s .processor)) ≡ noOverlap r s
-    other-job e = sym (overlap ∙ rw (ne-eqb (r .job) (s .job) e))
+  pub neither : (r .job ≡ s .job → ⊥) → (r .processor ≡ s .processor → ⊥) → true ≡ noOverlap r s
+  neither n m = rw (ne-eqb (r .job) (s .job) n, ne-eqb (r .processor) (s .processor) m)
 
 -- two rows, read from the numbers
 pub two-rows : (numbers : List ℕ) (k i : ℕ) (a b : Piece) (t : Bool) → a ≡ pieceAt numbers k → b ≡ pieceAt numbers i →

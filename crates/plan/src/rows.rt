@@ -5,8 +5,8 @@ use super::RowRead;
 use order::Order;
 ghost use mathlib.Core.Path.{_≡_};
 ghost use Prim.Native.Nat.{ℕ, suc, _+_, _-_, _*_, _/_, _%_, _<_, _≤_};
-ghost use mathlib.Core.Bool.{true, _&&_};
-ghost use lib.Dec.{eqb};
+ghost use mathlib.Core.Bool.{true, _&&_, _||_};
+ghost use lib.Dec.{leb, eqb};
 ghost use lib.ListN.{length};
 ghost use Rattle.sums.specs.Lists.{only, tabulate};
 ghost use Rattle.order.specs.Order.{jobCount};
@@ -102,20 +102,27 @@ fn rows_good(order: Order, bound: i32, rows: &[u32]) -> bool
     true
 }
 
-// Whether two rows share neither job nor processor, or do not overlap.
-fn no_overlap(a: Piece, b: Piece) -> bool
-    ensures { λ r. ⌜ r ≡ noOverlap (rowOf a) (rowOf b) ⌝ }
+// Whether one row ends before the other begins.
+fn apart(a: Piece, b: Piece) -> bool
+    ensures { λ r. ⌜ r ≡ (leb (a .to) (b .from) || leb (b .to) (a .from)) ⌝ }
 {
     if a.to <= b.from {
         return true;
     }
-    if b.to <= a.from {
-        return true;
-    }
+    b.to <= a.from
+}
+
+// Whether two rows share neither job nor processor, or do not overlap.
+fn no_overlap(a: Piece, b: Piece) -> bool
+    ensures { λ r. ⌜ r ≡ noOverlap (rowOf a) (rowOf b) ⌝ }
+{
     if a.job == b.job {
-        return false;
+        return apart(a, b);
     }
-    a.processor != b.processor
+    if a.processor == b.processor {
+        return apart(a, b);
+    }
+    true
 }
 
 // Whether a row overlaps none of the earlier ones.
