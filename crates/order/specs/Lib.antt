@@ -11,3 +11,4 @@ pub mod StructLaws
 pub mod SortedLaws
 pub mod ClassLaws
 pub mod OrderingLaws
+pub mod RankLaws

@@ -3,13 +3,13 @@ use Prim.Native.Nat.{ℕ, zero, suc, _+_, _*_, _≤_, _<_}
 use mathlib.Core.Path.{_≡_, refl, sym, ap, _∙_, subst}
 use mathlib.Core.Bool.{Bool, true, false}
 use mathlib.Core.List.{List, [], _∷_, _++_, map, reverse, reverseAux}
-use mathlib.Core.Logic.{_⊎_, inl, inr}
+use mathlib.Core.Logic.{_⊎_, inl, inr, _≢_}
 use native.Mathlib.Omega.{arith}
 use native.Mathlib.Nat.{le-of-suc-le-suc}
 use native.Mathlib.Numerals.{add-one}
 use lib.Dec.{eqb}
 use borrow.Author.Tests.{eq-eqb, ne-eqb}
-use lib.ListN.{length, getD, drop, take}
+use lib.ListN.{length, getD, drop, take, set, replicate}
 use lib.Seq.{ext-getD}
 use Rattle.sums.specs.Sum.{sum, sum-cong, sum-add, sum-const, sum-at}
 use Rattle.sums.specs.Gate.{gate, gate-add}
@@ -362,3 +362,26 @@ module _ {A B : Type 0} (f : A → B) where
   getD-map [] d e i l = absurd (omega arith)
   getD-map (x ∷ xs) d e zero l = refl
   getD-map (x ∷ xs) d e (suc i) l = getD-map xs d e i (le-of-suc-le-suc l)
+
+-- a list given by its places, with one of them changed
+pub set-tabulate : {A : Type 0} (n : ℕ) (f g : ℕ → A) (i : ℕ) (v : A) → g i ≡ v → ((k : ℕ) → k < n → k ≢ i → f k ≡ g k) →
+    set (tabulate n f) i v ≡ tabulate n g
+set-tabulate zero f g i v e h = refl
+set-tabulate (suc n) f g zero v e h =
+    cc (e, tabulate-cong n (λ k. f (suc k)) (λ k. g (suc k)) (λ k l. h (suc k) (omega arith) (omega arith)))
+set-tabulate (suc n) f g (suc i) v e h =
+    cc (
+      h 0 (omega arith) (omega arith),
+      set-tabulate n (λ k. f (suc k)) (λ k. g (suc k)) i v e (λ k l d. h (suc k) (omega arith) (omega arith)),
+    )
+
+pub replicate-tabulate : {A : Type 0} (n : ℕ) (a : A) → replicate n a ≡ tabulate n (λ _. a)
+replicate-tabulate zero a = refl
+replicate-tabulate (suc n) a = ap (λ (l : List _). a ∷ l) (replicate-tabulate n a)
+
+-- the places of a list, and more behind them: the first ones are the list
+pub take-tabulate : {A : Type 0} (xs : List A) (k : ℕ) (d : A) → length xs ≤ k →
+    take (length xs) (tabulate k (λ i. getD xs i d)) ≡ xs
+take-tabulate [] k d h = refl
+take-tabulate (x ∷ xs) zero d h = absurd (omega arith)
+take-tabulate (x ∷ xs) (suc k) d h = ap (λ (l : List _). x ∷ l) (take-tabulate xs k d (le-of-suc-le-suc h))

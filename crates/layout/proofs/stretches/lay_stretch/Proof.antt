@@ -1,0 +1,131 @@
+-- The loop's invariant: the shares of the jobs from place k on go on from the place that the loop has come to.
+use Prim.Native.Nat.{_-_}
+use mathlib.Core.Path.{_≡_}
+use native.Mathlib.Omega.{arith}
+use borrow.Author.Needs.{needs}
+use lib.ListN.{length}
+use Rattle.layout.proofs.Stretching.{
+  Stretching,
+  amount-inside,
+  amount-small,
+  stretching-start,
+  share-room,
+  stretching-more,
+  stretching-end,
+}
+use Rattle.layout.proofs.stretches.lay_stretch.Statement.{statement}
+use Rattle.layout.proofs.stretches.lay_stretch.Tie as tie
+
+abbrev Inv-loop : tie.InvT-loop
+Inv-loop processors w q s start end rows₀ written jobs n m place₀ k₀ rows place k =
+    Stretching start end m processors n jobs q w s written rows₀ place k rows
+
+abbrev μ-loop : tie.MeasureT-loop
+μ-loop processors w q s start end rows₀ written jobs n m place₀ k₀ rows place k = n - k
+
+cast-n : tie.Need-cast-n Inv-loop μ-loop
+cast-n c = search needs
+
+cast-m : tie.Need-cast-m Inv-loop μ-loop
+cast-m c = search needs
+
+loop-holds : tie.Need-loop-holds Inv-loop μ-loop
+loop-holds c = stretching-start _ _ _ _ _ _ _ _ _ _ _ (omega arith)
+
+mul-job : tie.Need-mul-job Inv-loop μ-loop
+mul-job c = search needs
+
+array-read-job : tie.Need-array-read-job Inv-loop μ-loop
+array-read-job c = search needs
+
+sub-minutes : tie.Need-sub-minutes Inv-loop μ-loop
+sub-minutes c =
+    let s = c .before .before .before .before .before .before in
+    s .pre .7 .at (c .before .loop .k) (c .loop-test .taken) .0
+
+cast-minutes : tie.Need-cast-minutes Inv-loop μ-loop
+cast-minutes c =
+    let s = c .before .before .before .before .before .before in
+    omega (arith, s .pre .7 .at (c .before .loop .k) (c .loop-test .taken))
+
+mul-minutes : tie.Need-mul-minutes Inv-loop μ-loop
+mul-minutes c =
+    let s = c .before .before .before .before .before .before in
+    let k = c .before .loop .k in
+    omega (arith, amount-small (s .pre .7) k _ _ (c .loop-test .taken) (s .pre .3) (s .pre .1) (s .pre .2))
+
+add-minutes : tie.Need-add-minutes Inv-loop μ-loop
+add-minutes c =
+    let s = c .before .before .before .before .before .before in
+    let k = c .before .loop .k in
+    omega (arith, amount-small (s .pre .7) k _ _ (c .loop-test .taken) (s .pre .3) (s .pre .1) (s .pre .2))
+
+mul-minutes-2 : tie.Need-mul-minutes-2 Inv-loop μ-loop
+mul-minutes-2 c =
+    let s = c .before .before .before .before .before .before in
+    let k = c .before .loop .k in
+    omega (arith, amount-small (s .pre .7) k _ _ (c .loop-test .taken) (s .pre .3) (s .pre .1) (s .pre .2))
+
+shared-slice-read-minutes : tie.Need-shared-slice-read-minutes Inv-loop μ-loop
+shared-slice-read-minutes c =
+    let s = c .before .before .before .before .before .before .before in
+    let k = c .before .before .loop .k in
+    omega (arith, amount-inside (s .pre .7) k _ _ (c .before .loop-test .taken) (s .pre .3), s .pre .4)
+
+lay-share-requires : tie.Need-lay-share-requires Inv-loop μ-loop
+lay-share-requires c κs =
+    let s = c .before .before .before .before .before .before .before .before in
+    let l = c .before .before .before .loop in
+    let z : length (s .args .t3) ≡ 48 = search needs in (
+      s .pre .0,
+      l .inv .inside,
+      omega (arith, l .inv .few, l .inv .inside .a-processor),
+      share-room (l .inv) (omega arith) (s .pre .7) (c .before .before .loop-test .taken) (s .pre .8),
+    )
+
+add-k : tie.Need-add-k Inv-loop μ-loop
+add-k c = search needs
+
+loop-less : tie.Need-loop-less Inv-loop μ-loop
+loop-less c = search needs
+
+loop-again : tie.Need-loop-again Inv-loop μ-loop
+loop-again c =
+    let s = c .before .before .before .before .before .before .before .before .before .before .before in
+    let l = c .before .before .before .before .before .before .loop in
+    let z : length (s .args .t3) ≡ 48 = search needs in
+    let t = c .before .before .before .before .before .loop-test .taken in
+    stretching-more (l .inv) (omega arith) (s .pre .7) t (s .pre .8) (c .before .before .lay-share .ensures)
+
+returns : tie.Need-returns Inv-loop μ-loop
+returns c =
+    let s = c .before .before .before .before .before .before in
+    let z : length (s .args .t3) ≡ 48 = search needs in
+    stretching-end (c .before .loop .inv) (omega arith) (omega arith)
+
+same-length : tie.Need-same-length Inv-loop μ-loop
+same-length c = returns c .0 .same-length
+
+pub lay-stretch-spec : {M : Type 1} → statement M
+lay-stretch-spec =
+    tie.close
+    (tie.spec
+    Inv-loop
+    μ-loop
+    cast-n
+    cast-m
+    loop-holds
+    mul-job
+    array-read-job
+    sub-minutes
+    cast-minutes
+    mul-minutes
+    add-minutes
+    mul-minutes-2
+    shared-slice-read-minutes
+    lay-share-requires
+    add-k
+    loop-less
+    loop-again
+    same-length
+    returns)

@@ -1,0 +1,2 @@
+mod Dues
+mod Tells

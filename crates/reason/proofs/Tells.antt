@@ -1,0 +1,124 @@
+-- What is told, from what the parts find.
+use Prim.Native.Nat.{ℕ, zero, suc, _+_, _-_, _*_, _≤_, _<_, pred}
+use mathlib.Core.Path.{_≡_, refl, sym, ap, _∙_}
+use mathlib.Core.Bool.{Bool, cond}
+use mathlib.Core.List.{List, [], _∷_, map}
+use native.Mathlib.Omega.{arith}
+use native.Mathlib.Decide.{decLt}
+use borrow.Author.Tests.{lt-ltb, le-ltb}
+use lib.Dec.{ltb}
+use lib.IntN.{ℤ, pos}
+use lib.ListN.{length, getD, replicate}
+use Rattle.sums.specs.Lists.{tabulate}
+use Rattle.sums.specs.ListLaws.{tabulate-cong, tabulate-getD}
+use Rattle.order.specs.Refusals.{Finding, clear, holds, first}
+use Rattle.order.specs.Table.{findingOf}
+use Rattle.profile.specs.Search.{nothing, found}
+use Rattle.tables.specs.Places.{FoundPlaces, firstOverfullAt, pad}
+use Rattle.tables.specs.PlacesLaws.{Falls, ranking-falls, getD-pad, pad-below}
+use Rattle.tables.specs.Tables.{stopAt}
+use Rattle.tables.specs.declared.Outcome.the-variants.{Places, Nothing as Nowhere}
+use Rattle.tables.specs.declared.Stop.{Stop}
+use Rattle.reason.specs.Told.{sixteen}
+use Rattle.reason.specs.Settings.{Fine, firstOf, late, dueAt, dueOr, toldAt, toldBy, toldOf}
+use Rattle.reason.specs.declared.Reason.the-variants.{Job, Stairs, Nothing}
+use Rattle.reason.specs.declared.Setting.{Setting}
+use Rattle.reason.specs.declared.Why.{Why}
+
+module _ (f : ℕ → ℤ) where
+  map-at : (ds : List ℕ) (i : ℕ) → i < length ds → getD (map f ds) i (pos 0) ≡ f (getD ds i 0)
+  map-at [] i l = absurd (omega arith)
+  map-at (d ∷ ds) zero l = refl
+  map-at (d ∷ ds) (suc i) l = map-at ds i (omega arith)
+
+  map-beyond : (ds : List ℕ) (i : ℕ) → length ds ≤ i → getD (map f ds) i (pos 0) ≡ pos 0
+  map-beyond [] i l = refl
+  map-beyond (d ∷ ds) zero l = absurd (omega arith)
+  map-beyond (d ∷ ds) (suc i) l = map-beyond ds i (omega arith)
+
+-- the due times of the places, and 0 beyond
+due-or-map : (grid ds : List ℕ) (i : ℕ) → length ds ≤ 16 →
+    dueOr grid (pad 16 ds) (length ds) i ≡ getD (map (λ d. dueAt (getD grid d 0)) ds) i (pos 0)
+due-or-map grid ds i l =
+    elim (decLt i (length ds)) [
+      | yes h ↦
+          rw (lt-ltb i (length ds) h, getD-pad 16 i ds h l) (sym (map-at (λ d. dueAt (getD grid d 0)) ds i h))
+      | no h ↦ rw (le-ltb i (length ds) (omega arith)) (sym (map-beyond (λ d. dueAt (getD grid d 0)) ds i (omega arith)))
+    ]
+
+-- where a profile was found
+pub record Hit (t : Setting) (reach : ℕ) (w : Stop) (k : ℕ) : Type 0 where
+  pub ds : List ℕ
+  pub is : firstOf t reach ≡ found ds
+  pub count : length ds ≡ k
+  pub at : w .at ≡ pad 16 ds
+  pub few : k ≤ 16
+  pub below : (i : ℕ) → i < k → getD (w .at) i 0 < 48
+
+pub hit-of : (t : Setting) (reach : ℕ) → Fine t → (w : Stop) (k : ℕ) → w ≡ stopAt (firstOf t reach) → w .outcome ≡ Places k →
+    Hit t reach w k
+unfolding stopAt firstOf firstOverfullAt
+hit-of t reach fine w k e r = go (firstOf t reach) refl e
+  where
+    go : (f : FoundPlaces) → firstOf t reach ≡ f → w ≡ stopAt f → Hit t reach w k
+    go nothing g e = let z : _≡_ {A = ℕ} 0 1 = cc (ap (λ (v : Stop). v .outcome) e) in absurd (omega arith)
+    go (found ds) g e =
+        let q = ranking-falls _ (t .s) (t .q) ds g in
+        let n : length ds ≡ k = cc (ap (λ (v : Stop). v .outcome) e) in
+        let a : w .at ≡ pad 16 ds = ap (λ (v : Stop). v .at) e in
+        record {
+          ds = ds;
+          is = g;
+          count = n;
+          at = a;
+          few = omega (arith, q .0, fine .classed);
+          below = λ i l.
+              rw a (omega (arith, fine .dues, pad-below 16 (t .q) i ds (omega arith) (omega (arith, q .0, fine .classed)) (q .1)));
+        }
+
+module _ (t : Setting) (reach j : ℕ) (e : findingOf j ≡ first (late t reach) (tabulate (t .n) (λ j. j))) where
+  -- a job was found
+  pub tell-late : 0 < j → record { reason = Job j (getD (t .times) (j - 1) 0); dues = replicate 16 (pos 0) } ≡ toldOf t reach
+  unfolding toldOf
+  tell-late h = go j h ∙ ap (λ (f : Finding). toldBy t f (firstOf t reach)) e
+    where
+      go : (j : ℕ) → 0 < j → record { reason = Job j (getD (t .times) (j - 1) 0); dues = replicate 16 (pos 0) } ≡
+          toldBy t (findingOf j) (firstOf t reach)
+      go zero h = absurd (omega arith)
+      go (suc i) h =
+          ap (λ (x : ℕ). record { reason = Job (suc i) (getD (t .times) x 0); dues = replicate 16 (pos 0) }) (omega arith)
+
+  module _ (h : j ≤ 0) where
+    by-profile : toldAt t (firstOf t reach) ≡ toldOf t reach
+    unfolding toldOf
+    by-profile =
+        let z : findingOf j ≡ clear = none j h in
+        ap (λ (f : Finding). toldBy t f (firstOf t reach)) (sym z ∙ e)
+      where
+        none : (j : ℕ) → j ≤ 0 → findingOf j ≡ clear
+        none zero h = refl
+        none (suc i) h = absurd (omega arith)
+
+    -- a profile was found
+    pub tell-stairs : (w : Stop) (k : ℕ) → Hit t reach w k → (r : List ℤ) →
+        (length r ≡ 16) × ((i : ℕ) → i < 16 → getD r i (pos 0) ≡ dueOr (t .grid) (w .at) k i) →
+        record { reason = Stairs k; dues = r } ≡ toldOf t reach
+    tell-stairs w k x r f =
+        let d : r ≡ sixteen (map (λ d. dueAt (getD (t .grid) d 0)) (x .ds))
+        = sym (ap (λ (n : ℕ). tabulate n (λ i. getD r i (pos 0))) (sym (f .0)) ∙ tabulate-getD r (pos 0))
+          ∙ tabulate-cong 16 (λ i. getD r i (pos 0)) (λ i. getD (map (λ d. dueAt (getD (t .grid) d 0)) (x .ds)) i (pos 0)) (λ i l.
+            f .1 i l ∙ (rw (x .at, ← x .count) (due-or-map (t .grid) (x .ds) i (omega (arith, x .count, x .few))))) in
+        ap (λ (l : List ℤ). record { reason = Stairs k; dues = l }) d
+        ∙ (ap (λ (n : ℕ). record { reason = Stairs n; dues = sixteen (map (λ d. dueAt (getD (t .grid) d 0)) (x .ds)) }) (sym (x .count))
+        ∙ (ap (toldAt t) (sym (x .is)) ∙ by-profile))
+
+    -- none was
+    pub tell-nothing : (w : Stop) → w ≡ stopAt (firstOf t reach) → w .outcome ≡ Nowhere →
+        record { reason = Nothing; dues = replicate 16 (pos 0) } ≡ toldOf t reach
+    unfolding stopAt
+    tell-nothing w q r = go (firstOf t reach) refl q
+      where
+        go : (f : FoundPlaces) → firstOf t reach ≡ f → w ≡ stopAt f →
+            record { reason = Nothing; dues = replicate 16 (pos 0) } ≡ toldOf t reach
+        go nothing g q = ap (toldAt t) (sym g) ∙ by-profile
+        go (found ds) g q = let z : _≡_ {A = ℕ} 0 1 = cc (ap (λ (v : Stop). v .outcome) q) in absurd (omega arith)

@@ -1,0 +1,21 @@
+use Prim.Native.Nat.{_-_}
+use mir.Syntax.{w32}
+use mir.ValLaws.{toZ-ofZ}
+use Rattle.reason.proofs.Dues.{due-fits, due-machine}
+use borrow.Author.Needs.{needs}
+use Rattle.reason.proofs.lead.due_of.Statement.{statement}
+use Rattle.reason.proofs.lead.due_of.Tie as tie
+use Rattle.reason.proofs.lead.due_of.Reads as reads
+use Rattle.reason.proofs.lead.due_of.Lts as lts
+
+cast-result : tie.Need-cast-result
+cast-result c = search needs
+
+sub-result : tie.Need-sub-result
+sub-result c = rw (due-machine _ (c .pre)) (due-fits _ (c .pre))
+
+returns : tie.Need-returns
+returns c = rw (due-machine _ (c .pre)) (toZ-ofZ w32 _ (due-fits _ (c .pre)))
+
+pub due-of-spec : {M : Type 1} → statement M
+due-of-spec = tie.close (tie.spec cast-result sub-result returns)

@@ -1,0 +1,55 @@
+// Due times as leads: 1,000,000 less the due time, so that no number of a sum is negative. All serve the crates above and have
+// a `requires`.
+use order::Order;
+use super::Members;
+use super::distinct::distinct_down;
+ghost use mathlib.Core.Path.{_≡_};
+ghost use mathlib.Core.Bool.{true};
+ghost use Prim.Native.Nat.{ℕ, _≤_};
+ghost use lib.IntN.{pos};
+ghost use lib.ListN.{getD};
+ghost use Rattle.order.specs.Refusals.{Accepted, dueInRange};
+ghost use Rattle.order.specs.Table.{orderOf};
+ghost use Rattle.profile.specs.Least.{lead};
+ghost use Rattle.tables.specs.Tables.{RowOf};
+ghost use Rattle.reason.specs.Settings.{dueAt, GridOf};
+
+pub fn lead_of(due: i32) -> u32
+    requires { ⌜ dueInRange due ≡ true ⌝ }
+    ensures { λ r. ⌜ r ≡ lead due ⌝ }
+{
+    (1000000 - due) as u32
+}
+
+// The due time of a lead.
+pub fn due_of(lead: u32) -> i32
+    requires { ⌜ lead ≤ 2000000 ⌝ }
+    ensures { λ r. ⌜ r ≡ dueAt lead ⌝ }
+{
+    1000000 - (lead as i32)
+}
+
+// The lead of each job.
+pub fn leads_of(order: Order) -> [u32; 48]
+    requires { ⌜ Accepted (orderOf order) ⌝ }
+    ensures { λ r. ⌜ RowOf (λ j. lead (getD (order .dues) j (pos 0))) (order .jobs) r ⌝ }
+{
+    let n = order.jobs as usize;
+    let mut r = [0u32; 48];
+    let mut j: usize = 0;
+    while j < n {
+        r[j] = lead_of(order.dues[j]);
+        j += 1;
+    }
+    r
+}
+
+// The leads of the distinct due times, by rising due time.
+pub fn grid_of(order: Order) -> Members
+    requires { ⌜ Accepted (orderOf order) ⌝ }
+    ensures { λ r. ⌜ GridOf (orderOf order) r ⌝ }
+{
+    let leads = leads_of(order);
+    let n = order.jobs as usize;
+    distinct_down(&leads, n)
+}

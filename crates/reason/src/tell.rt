@@ -1,0 +1,105 @@
+// The reason at a bound, and the least lateness. All serve the crates above and have a `requires`.
+use order::Order;
+use order::deadline::deadline;
+use super::Reason;
+use super::Setting;
+use super::Why;
+use super::given::setting_of;
+use super::lead::due_of;
+use super::least::least_reach;
+use super::stairs::first_overfull;
+use tables::Outcome;
+ghost use mathlib.Core.Path.{_≡_};
+ghost use mathlib.Core.Bool.{true};
+ghost use Prim.Native.Nat.{ℕ, _<_, _≤_};
+ghost use lib.IntN.{pos};
+ghost use lib.ListN.{length, getD};
+ghost use Rattle.sums.specs.Lists.{tabulate};
+ghost use Rattle.order.specs.Refusals.{Accepted, boundInRange, first};
+ghost use Rattle.order.specs.Table.{orderOf, findingOf};
+ghost use Rattle.profile.specs.Search.{reasonOf};
+ghost use Rattle.profile.specs.Least.{leastLateness};
+ghost use Rattle.reason.specs.Settings.{Fine, late, dueOr, toldOf};
+ghost use Rattle.reason.specs.Told.{whyOf};
+
+// The first job whose time exceeds its end, or 0.
+pub fn first_late(o: Setting, reach: u32) -> u32
+    requires { ⌜ Fine o ⌝ }
+    ensures { λ r. ⌜ (r ≤ o .n) × (findingOf r ≡ first (late o reach) (tabulate (o .n) (λ j. j))) ⌝ }
+{
+    let n = o.n;
+    let mut j: usize = 0;
+    while j < n {
+        let least = o.times[j] + o.leads[j];
+        j += 1;
+        if reach < least {
+            return j as u32;
+        }
+    }
+    0
+}
+
+// The due times of k places, and 0 beyond.
+pub fn dues_of(grid: [u32; 48], at: [u32; 16], k: u32) -> [i32; 16]
+    requires { ⌜ (k ≤ 16) × ((i : ℕ) → i < k → getD at i 0 < 48) × ((d : ℕ) → d < 48 → getD grid d 0 ≤ 2000000) ⌝ }
+    ensures { λ r. ⌜ (length r ≡ 16) × ((i : ℕ) → i < 16 → getD r i (pos 0) ≡ dueOr grid at k i) ⌝ }
+{
+    let count = k as usize;
+    let mut r = [0i32; 16];
+    let mut i: usize = 0;
+    while i < count {
+        let d = at[i] as usize;
+        let g = grid[d];
+        r[i] = due_of(g);
+        i += 1;
+    }
+    r
+}
+
+// Why a reach is too small, or that it is not.
+pub fn tell(o: Setting, reach: u32) -> Why
+    requires { ⌜ Fine o ⌝ }
+    requires { ⌜ reach ≤ 11000000 ⌝ }
+    ensures { λ r. ⌜ r ≡ toldOf o reach ⌝ }
+{
+    let j = first_late(o, reach);
+    if 0 < j {
+        let i = (j - 1) as usize;
+        return Why {
+            reason: Reason::Job(j, o.times[i]),
+            dues: [0i32; 16],
+        };
+    }
+    let stop = first_overfull(o, reach);
+    let outcome = stop.outcome;
+    let at = stop.at;
+    let grid = o.grid;
+    match outcome {
+        Outcome::Places(k) => Why {
+            reason: Reason::Stairs(k),
+            dues: dues_of(grid, at, k),
+        },
+        Outcome::Nothing => Why {
+            reason: Reason::Nothing,
+            dues: [0i32; 16],
+        },
+    }
+}
+
+// Document 01's reason why a bound is too tight, or that there is none.
+pub fn reason_at(order: Order, bound: i32) -> Why
+    requires { ⌜ Accepted (orderOf order) × (boundInRange bound ≡ true) ⌝ }
+    ensures { λ r. ⌜ r ≡ whyOf (orderOf order) (reasonOf (orderOf order) bound) ⌝ }
+{
+    let o = setting_of(order);
+    tell(o, deadline(1000000, bound))
+}
+
+// The least lateness.
+pub fn least_of(order: Order) -> i32
+    requires { ⌜ Accepted (orderOf order) ⌝ }
+    ensures { λ r. ⌜ r ≡ leastLateness (orderOf order) ⌝ }
+{
+    let o = setting_of(order);
+    (least_reach(o) as i32) - 1000000
+}

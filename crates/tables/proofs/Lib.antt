@@ -1,0 +1,3 @@
+mod Greedy
+mod Ranking
+mod Rows

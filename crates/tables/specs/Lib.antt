@@ -1,0 +1,5 @@
+pub mod Places
+pub mod Tables
+pub mod NumberLaws
+pub mod PlacesLaws
+pub mod CompletionLaws
