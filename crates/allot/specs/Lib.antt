@@ -1,1 +1,6 @@
 pub mod Instances
+pub mod Tables
+pub mod Bounds
+pub mod AtTop
+pub mod OrderFlow
+pub mod Feasible

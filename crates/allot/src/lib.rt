@@ -2,8 +2,8 @@
 pub mod filling; // the engine on an instance
 mod tables; // caps, rooms, times and classes as the engine reads them
 
-// An order at a bound in natural numbers: jobs with time, class (from 1) and deadline; where each stretch ends; the processors
-// of each class.
+// An order at a bound in natural numbers: jobs with time, class (from 1) and deadline; where each stretch ends; the
+// processors of each class.
 pub struct Instance {
     pub jobs: usize,
     pub stretches: usize,

@@ -1,10 +1,12 @@
-// An instance as the engine reads it: flat caps and rooms, times and classes with those of the idle job. Each function serves
-// this crate alone and has a `requires`.
+// An instance as the engine reads it: flat caps and rooms, times and classes with those of the idle job. Each function
+// serves this crate alone and has a `requires`.
 use super::Instance;
 ghost use mathlib.Core.Path.{_≡_};
-ghost use Prim.Native.Nat.{ℕ, suc, _+_, _-_, _*_, _<_, _≤_};
-ghost use lib.ListN.{length, getD};
-ghost use Rattle.allot.specs.Instances.{lengthIn};
+ghost use Prim.Native.Nat.{suc, _+_, _*_, _<_, _≤_};
+ghost use lib.ListN.{length};
+ghost use Rattle.sums.specs.Sum.{sum};
+ghost use Rattle.allot.specs.Instances.{lengthIn, capIn, roomIn, Sized};
+ghost use Rattle.allot.specs.Tables.{capAt, countOf, Put, Rows, Times, Classes};
 
 // The length of stretch s.
 pub fn length_of(marks: [u32; 48], s: usize) -> u32
@@ -20,4 +22,109 @@ pub fn length_of(marks: [u32; 48], s: usize) -> u32
         return 0;
     }
     end - start
+}
+
+// What a job may have of stretch s: its length, if it ends by the job's deadline, and else nothing.
+pub fn cap_of(marks: [u32; 48], deadline: u32, s: usize) -> u32
+    requires { ⌜ s < 48 ⌝ }
+    ensures { λ r. ⌜ r ≡ capAt marks deadline s ⌝ }
+{
+    if marks[s] <= deadline {
+        return length_of(marks, s);
+    }
+    0
+}
+
+// The caps of a job, from a place on.
+pub fn put_caps_row(cap: &mut [u32], marks: [u32; 48], deadline: u32, at: usize, stretches: usize)
+    requires { ⌜ (stretches ≤ 48) × (at + stretches ≤ length (now cap)) ⌝ }
+    ensures { λ r. ⌜ Put (now (cap .entry)) (now (cap .exit)) at stretches (capAt marks deadline) ⌝ }
+{
+    let mut s: usize = 0;
+    while s < stretches {
+        cap[at + s] = cap_of(marks, deadline, s);
+        s += 1;
+    }
+}
+
+// The caps of all jobs.
+pub fn put_caps(cap: &mut [u32], t: Instance)
+    requires { ⌜ Sized t × ((t .jobs) * (t .stretches) ≤ length (now cap)) ⌝ }
+    ensures { λ r. ⌜ Rows (now (cap .exit)) (t .jobs) (t .stretches) (capIn t) ⌝ }
+{
+    let marks = t.marks;
+    let mut j: usize = 0;
+    while j < t.jobs {
+        put_caps_row(cap, marks, t.deadlines[j], j * t.stretches, t.stretches);
+        j += 1;
+    }
+}
+
+// How many processors the first k classes have.
+pub fn processors_to(counts: [u32; 16], k: usize) -> u32
+    requires { ⌜ (k ≤ 16) × (sum k (countOf counts) ≤ 16) ⌝ }
+    ensures { λ r. ⌜ r ≡ sum k (countOf counts) ⌝ }
+{
+    let mut total: u32 = 0;
+    let mut i: usize = 0;
+    while i < k {
+        total += counts[i];
+        i += 1;
+    }
+    total
+}
+
+// The rooms of a stretch, from a place on: for no class, for the first, for the first two, ..
+pub fn put_rooms_row(room: &mut [u32], counts: [u32; 16], minutes: u32, at: usize, classes: usize)
+    requires { ⌜ (classes ≤ 16) × (sum classes (countOf counts) ≤ 16) × (minutes ≤ 11000000) ⌝ }
+    requires { ⌜ at + suc classes ≤ length (now room) ⌝ }
+    ensures { λ r. ⌜ Put (now (room .entry)) (now (room .exit)) at (suc classes) (λ k. sum k (countOf counts) * minutes) ⌝ }
+{
+    let mut k: usize = 0;
+    while k <= classes {
+        room[at + k] = processors_to(counts, k) * minutes;
+        k += 1;
+    }
+}
+
+// The rooms of all stretches.
+pub fn put_rooms(room: &mut [u32], t: Instance)
+    requires { ⌜ Sized t × ((t .stretches) * suc (t .classes) ≤ length (now room)) ⌝ }
+    ensures { λ r. ⌜ Rows (now (room .exit)) (t .stretches) (suc (t .classes)) (roomIn t) ⌝ }
+{
+    let marks = t.marks;
+    let counts = t.counts;
+    let mut s: usize = 0;
+    while s < t.stretches {
+        let minutes = length_of(marks, s);
+        put_rooms_row(room, counts, minutes, s * (t.classes + 1), t.classes);
+        s += 1;
+    }
+}
+
+// The times, and that of the idle job: what all processors have up to the last mark.
+pub fn put_times(time: &mut [u32], t: Instance)
+    requires { ⌜ Sized t × (suc (t .jobs) ≤ length (now time)) ⌝ }
+    ensures { λ r. ⌜ Times t (now (time .exit)) ⌝ }
+{
+    let mut j: usize = 0;
+    while j < t.jobs {
+        time[j] = t.times[j];
+        j += 1;
+    }
+    let counts = t.counts;
+    time[t.jobs] = processors_to(counts, t.classes) * t.marks[t.stretches - 1];
+}
+
+// The classes, and behind the last that of the idle job.
+pub fn put_classes(class: &mut [usize], t: Instance)
+    requires { ⌜ Sized t × (suc (t .jobs) ≤ length (now class)) ⌝ }
+    ensures { λ r. ⌜ Classes t (now (class .exit)) ⌝ }
+{
+    let mut j: usize = 0;
+    while j < t.jobs {
+        class[j] = t.job_classes[j] as usize;
+        j += 1;
+    }
+    class[t.jobs] = t.classes + 1;
 }

@@ -1,3 +1,4 @@
 pub mod Rows
 pub mod Written
+pub mod Told
 pub mod Demand

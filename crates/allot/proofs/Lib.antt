@@ -1,0 +1,4 @@
+pub mod Shares
+pub mod Writing
+pub mod Idle
+pub mod Carrying

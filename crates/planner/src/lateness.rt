@@ -1,0 +1,33 @@
+// The least lateness: refusals 1 to 7 and 9; else the least lateness and a right plan at it.
+use order::Acceptance;
+use order::Order;
+use order::Refusal;
+use super::Least;
+use super::making::make_plan;
+use super::setup::rows_asked;
+ghost use mathlib.Core.Path.{_≡_};
+ghost use lib.ListN.{length};
+ghost use Rattle.order.specs.Refusals.{judge, answerBy};
+ghost use Rattle.order.specs.Table.{orderOf};
+ghost use Rattle.profile.specs.Least.{leastLateness};
+ghost use Rattle.planner.specs.Rows.{leastRows};
+ghost use Rattle.planner.specs.Written.{BufferBy};
+ghost use Rattle.planner.specs.Told.{leastTold, leastCount, LeastIn};
+
+// The least lateness, with a right plan at it in the lent buffer.
+pub fn least_lateness(order: Order, rows: &mut [u32]) -> Least
+    ensures { λ r. ⌜ leastTold r ≡ answerBy (judge (leastRows (orderOf order) (length (now (rows .entry))))) (leastLateness (orderOf order)) ⌝ }
+    ensures { λ r. ⌜ LeastIn (orderOf order) r ⌝ }
+    ensures { λ r. ⌜ BufferBy (judge (leastRows (orderOf order) (length (now (rows .entry))))) (orderOf order)
+        (leastLateness (orderOf order)) (now (rows .entry)) (now (rows .exit)) (leastCount r) ⌝ }
+{
+    if let Acceptance::Refused(refusal) = order::accept::accept(order) {
+        return Least::Refused(refusal);
+    }
+    if rows.len() / 4 < rows_asked(order) {
+        return Least::Refused(Refusal::BufferTooShort);
+    }
+    let lateness = reason::tell::least_of(order);
+    let count = make_plan(order, lateness, rows);
+    Least::At(lateness, count as u32)
+}

@@ -1,0 +1,27 @@
+// The planner (document 01): the least lateness of an order with a plan at it, and a plan at a given bound.
+use order::Refusal;
+use reason::Why;
+
+pub mod bound; // plan_at
+pub mod lateness; // least_lateness
+mod making; // a plan where there is no reason against the bound
+mod setup; // an order at a bound, made ready for the engine and the layout
+
+// The least lateness and the number of rows written, or why there is none.
+pub enum Least {
+    At(i32, u32),
+    Refused(Refusal),
+}
+
+// The number of rows written; or that the bound is too tight; or why it was not judged.
+pub enum Planned {
+    Rows(u32),
+    Tight,
+    Refused(Refusal),
+}
+
+// The answer at a bound, and beside it the reason where it is too tight.
+pub struct PlanAnswer {
+    pub planned: Planned,
+    pub why: Why,
+}

@@ -1,0 +1,30 @@
+// A plan where there is no reason against the bound: amounts by the engine, rows by the wrap. It serves this crate alone and has
+// a `requires`.
+use allot::filling::fill_amounts;
+use layout::orderings::job_order;
+use layout::orderings::processor_order;
+use layout::stretches::lay_plan;
+use order::Order;
+use super::setup::instance_of;
+use super::setup::rising_dues;
+ghost use mathlib.Core.Path.{_≡_};
+ghost use mathlib.Core.Bool.{true};
+ghost use Prim.Native.Nat.{_*_, _≤_};
+ghost use lib.ListN.{length};
+ghost use Rattle.order.specs.Refusals.{Accepted, boundInRange};
+ghost use Rattle.order.specs.Table.{orderOf};
+ghost use Rattle.profile.specs.ReasonLaws.{NoReason};
+ghost use Rattle.planner.specs.Rows.{rowsAsked};
+ghost use Rattle.planner.specs.Written.{Written};
+
+pub fn make_plan(order: Order, bound: i32, rows: &mut [u32]) -> usize
+    requires { ⌜ Accepted (orderOf order) × (boundInRange bound ≡ true) × NoReason (orderOf order) bound
+        × (4 * rowsAsked (orderOf order) ≤ length (now rows)) ⌝ }
+    ensures { λ r. ⌜ Written (orderOf order) bound (now (rows .entry)) (now (rows .exit)) r × (r ≤ 3024) ⌝ }
+{
+    let t = instance_of(order, bound);
+    let q = t.stretches;
+    let mut w = [0u32; 2352];
+    fill_amounts(t, &mut w);
+    lay_plan(order, bound, rising_dues(order), q, processor_order(order), job_order(order), &w, rows)
+}
