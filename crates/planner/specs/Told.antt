@@ -1,7 +1,7 @@
 -- What the planner's answers stand for. The number of rows depends on amounts that are left free: it is named, and Written says
 -- what holds of it.
 use Prim.Native.Nat.{ℕ}
-use mathlib.Core.Bool.{cond}
+use mathlib.Core.Bool.{Bool, true, false, cond}
 use lib.Dec.{eqb}
 use lib.IntN.{ℤ, pos}
 use Rattle.order.specs.Order.{Order}
@@ -10,6 +10,8 @@ use Rattle.order.specs.Table.{refusalTold}
 use Rattle.plan.specs.IsLeast.{IsLeast}
 use Rattle.profile.specs.Reason.{Reason}
 use Rattle.profile.specs.Search.{Found, nothing}
+use Rattle.reason.specs.declared.Reason.{Reason as CodeReason}
+use Rattle.reason.specs.declared.Reason.the-variants.{Job, Stairs, Nothing}
 use Rattle.planner.specs.declared.Least.{Least}
 use Rattle.planner.specs.declared.Least.the-variants.{At, Refused as LeastRefused}
 use Rattle.planner.specs.declared.Planned.{Planned}
@@ -25,6 +27,12 @@ abbrev pub rowsOf : Planned → ℕ
 rowsOf (Rows count) = count
 rowsOf Tight = 0
 rowsOf (Refused r) = 0
+
+-- the code's reason is one
+abbrev pub isReason : CodeReason → Bool
+isReason (Job job time) = true
+isReason (Stairs count) = true
+isReason Nothing = false
 
 -- a reason comes with refusal 10 alone
 abbrev pub reasonCarried : Verdict → Found Reason → Found Reason

@@ -9,7 +9,6 @@ use super::Planned;
 use super::making::make_plan;
 use super::setup::rows_asked;
 ghost use mathlib.Core.Path.{_≡_};
-ghost use mathlib.Core.List.{[]};
 ghost use lib.ListN.{length};
 ghost use Rattle.order.specs.Refusals.{judge, answerBy};
 ghost use Rattle.order.specs.Table.{orderOf};
@@ -17,7 +16,7 @@ ghost use Rattle.profile.specs.Search.{reasonOf, nothing};
 ghost use Rattle.reason.specs.Told.{whyOf};
 ghost use Rattle.planner.specs.Rows.{planRows};
 ghost use Rattle.planner.specs.Written.{BufferBy};
-ghost use Rattle.planner.specs.Told.{plannedTold, rowsOf, reasonCarried};
+ghost use Rattle.planner.specs.Told.{plannedTold, rowsOf, reasonCarried, isReason};
 
 // A refusal, with no reason.
 fn refuse(refusal: Refusal, order: Order) -> PlanAnswer
@@ -29,6 +28,17 @@ fn refuse(refusal: Refusal, order: Order) -> PlanAnswer
             reason: Reason::Nothing,
             dues: [0i32; 16],
         },
+    }
+}
+
+// Whether there is a reason.
+fn is_reason(reason: Reason) -> bool
+    ensures { λ r. ⌜ r ≡ isReason reason ⌝ }
+{
+    match reason {
+        Reason::Job(_, _) => true,
+        Reason::Stairs(_) => true,
+        Reason::Nothing => false,
     }
 }
 
@@ -52,9 +62,12 @@ pub fn plan_at(order: Order, bound: i32, rows: &mut [u32]) -> PlanAnswer
     }
     let why = reason::tell::reason_at(order, bound);
     let found = why.reason;
-    let Reason::Nothing = found else {
-        return PlanAnswer { planned: Planned::Tight, why };
-    };
+    if is_reason(found) {
+        return PlanAnswer {
+            planned: Planned::Tight,
+            why,
+        };
+    }
     let count = make_plan(order, bound, rows);
     PlanAnswer {
         planned: Planned::Rows(count as u32),

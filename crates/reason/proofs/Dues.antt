@@ -1,28 +1,29 @@
 -- Due times from leads: they fit the machine, and are filled in one by one.
-use Prim.Native.Nat.{ℕ, zero, suc, _+_, _-_, _<_, _≤_}
+use Prim.Native.Nat.{ℕ, zero, suc, _+_, _<_, _≤_}
 use mathlib.Core.Path.{_≡_, refl, ap, _∙_}
 use mathlib.Core.List.{List}
 use mathlib.Core.Bool.{true}
 use native.Mathlib.Omega.{arith}
-use Rattle.order.specs.Refusals.{dueInRange}
-use Rattle.profile.specs.Least.{lead}
 use native.Mathlib.Decide.{decLt, ℕ-discrete}
+use borrow.Author.Tests.{lt-ltb, le-ltb}
 use lib.IntN.{ℤ, pos, natAbs, _-ℤ_}
 use lib.Signed.{nonNeg}
 use lib.Dec.{T}
 use lib.ListN.{length, getD, set, replicate, getD-replicate}
 use lib.Seq.{getD-set-same, getD-set-other}
 use mir.Syntax.{w32}
-use borrow.Author.Tests.{lt-ltb, le-ltb}
-use Rattle.reason.specs.Settings.{dueAt, dueOr}
-use Rattle.reason.specs.LeadLaws.{due-lead, pos-sub, sub-neg}
 use mir.Val.{toZ, ofZ, SFits, Fits}
 use mir.ValLaws.{toZ-pos, toZ-ofZ}
+use Rattle.order.specs.Refusals.{dueInRange}
+use Rattle.profile.specs.Least.{lead}
+use Rattle.reason.specs.Settings.{dueAt, dueOr}
+use Rattle.reason.specs.LeadLaws.{due-lead, pos-sub, sub-neg}
 
 pub dues-none : (grid at : List ℕ) (x : ℕ) → x < 16 → getD (replicate 16 (pos 0)) x (pos 0) ≡ dueOr grid at 0 x
 dues-none grid at x h = rw (le-ltb x 0 (omega arith)) (getD-replicate 16 x (pos 0) (pos 0) h)
 
-pub dues-more : (grid at : List ℕ) (r : List ℤ) (i : ℕ) (v : ℤ) → i < length r → v ≡ dueAt (getD grid (getD at i 0) 0) → ((x : ℕ) → x < 16 → getD r x (pos 0) ≡ dueOr grid at i x)
+pub dues-more : (grid at : List ℕ) (r : List ℤ) (i : ℕ) (v : ℤ) → i < length r → v ≡ dueAt (getD grid (getD at i 0) 0) →
+    ((x : ℕ) → x < 16 → getD r x (pos 0) ≡ dueOr grid at i x)
     → (x : ℕ) → x < 16 → getD (set r i v) x (pos 0) ≡ dueOr grid at (i + 1) x
 dues-more grid at r i v l e h x b =
     elim (ℕ-discrete x i) [

@@ -1,21 +1,19 @@
 -- What is told, from what the parts find.
-use Prim.Native.Nat.{ℕ, zero, suc, _+_, _-_, _*_, _≤_, _<_, pred}
+use Prim.Native.Nat.{ℕ, zero, suc, _-_, _≤_, _<_}
 use mathlib.Core.Path.{_≡_, refl, sym, ap, _∙_}
-use mathlib.Core.Bool.{Bool, cond}
 use mathlib.Core.List.{List, [], _∷_, map}
 use native.Mathlib.Omega.{arith}
 use native.Mathlib.Decide.{decLt}
 use borrow.Author.Tests.{lt-ltb, le-ltb}
-use lib.Dec.{ltb}
 use lib.IntN.{ℤ, pos}
 use lib.ListN.{length, getD, replicate}
 use Rattle.sums.specs.Lists.{tabulate}
 use Rattle.sums.specs.ListLaws.{tabulate-cong, tabulate-getD}
-use Rattle.order.specs.Refusals.{Finding, clear, holds, first}
+use Rattle.order.specs.Refusals.{Finding, clear, first}
 use Rattle.order.specs.Table.{findingOf}
 use Rattle.profile.specs.Search.{nothing, found}
 use Rattle.tables.specs.Places.{FoundPlaces, firstOverfullAt, pad}
-use Rattle.tables.specs.PlacesLaws.{Falls, ranking-falls, getD-pad, pad-below}
+use Rattle.tables.specs.PlacesLaws.{ranking-falls, getD-pad, pad-below}
 use Rattle.tables.specs.Tables.{stopAt}
 use Rattle.tables.specs.declared.Outcome.the-variants.{Places, Nothing as Nowhere}
 use Rattle.tables.specs.declared.Stop.{Stop}
@@ -23,7 +21,6 @@ use Rattle.reason.specs.Told.{sixteen}
 use Rattle.reason.specs.Settings.{Fine, firstOf, late, dueAt, dueOr, toldAt, toldBy, toldOf}
 use Rattle.reason.specs.declared.Reason.the-variants.{Job, Stairs, Nothing}
 use Rattle.reason.specs.declared.Setting.{Setting}
-use Rattle.reason.specs.declared.Why.{Why}
 
 module _ (f : ℕ → ℤ) where
   map-at : (ds : List ℕ) (i : ℕ) → i < length ds → getD (map f ds) i (pos 0) ≡ f (getD ds i 0)
@@ -73,7 +70,12 @@ hit-of t reach fine w k e r = go (firstOf t reach) refl e
           at = a;
           few = omega (arith, q .0, fine .classed);
           below = λ i l.
-              rw a (omega (arith, fine .dues, pad-below 16 (t .q) i ds (omega arith) (omega (arith, q .0, fine .classed)) (q .1)));
+              rw a (omega (
+                arith,
+                fine .dues,
+                pad-below 16 (t .q) i ds (omega arith) (omega (arith, q .0, fine .classed))
+                    (q .1),
+              ));
         }
 
 module _ (t : Setting) (reach j : ℕ) (e : findingOf j ≡ first (late t reach) (tabulate (t .n) (λ j. j))) where
@@ -106,10 +108,12 @@ module _ (t : Setting) (reach j : ℕ) (e : findingOf j ≡ first (late t reach)
     tell-stairs w k x r f =
         let d : r ≡ sixteen (map (λ d. dueAt (getD (t .grid) d 0)) (x .ds))
         = sym (ap (λ (n : ℕ). tabulate n (λ i. getD r i (pos 0))) (sym (f .0)) ∙ tabulate-getD r (pos 0))
-          ∙ tabulate-cong 16 (λ i. getD r i (pos 0)) (λ i. getD (map (λ d. dueAt (getD (t .grid) d 0)) (x .ds)) i (pos 0)) (λ i l.
-            f .1 i l ∙ (rw (x .at, ← x .count) (due-or-map (t .grid) (x .ds) i (omega (arith, x .count, x .few))))) in
+        ∙ tabulate-cong 16 (λ i. getD r i (pos 0)) (λ i. getD (map (λ d. dueAt (getD (t .grid) d 0)) (x .ds)) i (pos 0))
+        (λ i l.
+        f .1 i l ∙ (rw (x .at, ← x .count) (due-or-map (t .grid) (x .ds) i (omega (arith, x .count, x .few))))) in
         ap (λ (l : List ℤ). record { reason = Stairs k; dues = l }) d
-        ∙ (ap (λ (n : ℕ). record { reason = Stairs n; dues = sixteen (map (λ d. dueAt (getD (t .grid) d 0)) (x .ds)) }) (sym (x .count))
+        ∙ (ap (λ (n : ℕ). record { reason = Stairs n; dues = sixteen (map (λ d. dueAt (getD (t .grid) d 0)) (x .ds)) })
+        (sym (x .count))
         ∙ (ap (toldAt t) (sym (x .is)) ∙ by-profile))
 
     -- none was

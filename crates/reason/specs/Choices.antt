@@ -1,7 +1,7 @@
--- The profiles of a falling list of due times are those by places, each place read as its due time; so the first that passes a
--- test, and the largest value, are found by places.
-use Prim.Native.Nat.{ℕ, zero, suc, _+_, _≤_, _<_, max}
-use mathlib.Core.Path.{_≡_, refl, sym, ap, _∙_}
+-- The profiles of a falling list of due times are those by places, each place read as its due time; so the first that
+-- passes a test, and the largest value, are found by places.
+use Prim.Native.Nat.{ℕ, zero, suc, _≤_, max}
+use mathlib.Core.Path.{_≡_, refl, sym, ap}
 use mathlib.Core.Bool.{Bool, true, false, cond}
 use mathlib.Core.List.{List, [], _∷_, _++_, map}
 use native.Mathlib.Omega.{arith}
@@ -81,7 +81,8 @@ below-mono : (b c : ℕ) (ds : List ℕ) → b ≤ c → Below b ds → Below c 
 below-mono b c [] l h = tt
 below-mono b c (d ∷ ds) l h = (omega (arith, h .0), below-mono b c ds l (h .1))
 
-behind : (k b : ℕ) (xs : List (List ℕ)) → All (Sized k (suc b)) xs → All (Sized (suc k) (suc b)) (map (λ (ds : List ℕ). b ∷ ds) xs)
+behind : (k b : ℕ) (xs : List (List ℕ)) → All (Sized k (suc b)) xs →
+    All (Sized (suc k) (suc b)) (map (λ (ds : List ℕ). b ∷ ds) xs)
 behind k b [] h = tt
 behind k b (x ∷ xs) h = ((ap suc (h .0 .0), (omega arith, h .0 .1)), behind k b xs (h .1))
 
@@ -92,7 +93,7 @@ profiles-sized (suc k) zero = tt
 profiles-sized (suc k) (suc b) =
     All-append (Sized (suc k) (suc b)) (profiles (suc k) b) _
     (All-map (Sized (suc k) b) (Sized (suc k) (suc b)) (profiles (suc k) b)
-      (λ ds h. (h .0, below-mono b (suc b) ds (omega arith) (h .1))) (profiles-sized (suc k) b))
+    (λ ds h. (h .0, below-mono b (suc b) ds (omega arith) (h .1))) (profiles-sized (suc k) b))
     (behind k b (profiles k (suc b)) (profiles-sized k (suc b)))
 
 pub ranking-sized : (s b : ℕ) → All (λ (ds : List ℕ). (length ds ≤ s) × Below b ds) (ranking s b)
@@ -100,7 +101,8 @@ unfolding ranking
 ranking-sized zero b = tt
 ranking-sized (suc s) b =
     All-append (λ (ds : List ℕ). (length ds ≤ suc s) × Below b ds) (ranking s b) (profiles (suc s) b)
-    (All-map (λ (ds : List ℕ). (length ds ≤ s) × Below b ds) (λ (ds : List ℕ). (length ds ≤ suc s) × Below b ds) (ranking s b)
-      (λ ds h. (omega (arith, h .0), h .1)) (ranking-sized s b))
+    (All-map (λ (ds : List ℕ). (length ds ≤ s) × Below b ds) (λ (ds : List ℕ). (length ds ≤ suc s) × Below b ds)
+    (ranking s b)
+    (λ ds h. (omega (arith, h .0), h .1)) (ranking-sized s b))
     (All-map (Sized (suc s) b) (λ (ds : List ℕ). (length ds ≤ suc s) × Below b ds) (profiles (suc s) b)
-      (λ ds h. (omega (arith, h .0), h .1)) (profiles-sized (suc s) b))
+    (λ ds h. (omega (arith, h .0), h .1)) (profiles-sized (suc s) b))

@@ -1,17 +1,16 @@
 -- Classes from the listed memories: the last that suffices, counted in a walk, and the processors of a class.
-use Prim.Native.Nat.{ℕ, zero, suc, _+_, _≤_, _<_}
-use mathlib.Core.Path.{_≡_, refl, sym, ap, _∙_}
-use mathlib.Core.Bool.{Bool, true, false}
+use Prim.Native.Nat.{ℕ, zero, suc, _≤_, _<_}
+use mathlib.Core.Path.{_≡_, sym, ap, _∙_}
 use mathlib.Core.List.{List, [], _∷_}
-use mathlib.Core.Logic.{_⊎_, inl, inr}
+use mathlib.Core.Logic.{inl, inr}
 use native.Mathlib.Omega.{arith}
 use native.Mathlib.Decide.{decLt}
 use borrow.Author.Tests.{le-leb, lt-leb, eq-eqb}
-use lib.Dec.{eqb, ltb}
+use lib.Dec.{eqb}
 use lib.ListN.{length, getD}
 use Rattle.sums.specs.Sum.{sum, sum-cong}
 use Rattle.sums.specs.Lists.{In, total, only, tabulate}
-use Rattle.sums.specs.ListLaws.{only-le, at-in, length-tabulate, total-tabulate}
+use Rattle.sums.specs.ListLaws.{only-le, at-in, total-tabulate}
 use Rattle.order.specs.Order.{Order, Job, processorCount}
 use Rattle.order.specs.Class.{classes, lastThatSuffices, classFor, classOf, processorsIn}
 use Rattle.order.specs.ClassLaws.{class-in-memories, class-of-memory, classes-fall}

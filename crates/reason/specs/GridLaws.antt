@@ -1,9 +1,9 @@
 -- The distinct due times of an order, by rising due time: the distinct leads of its jobs, by falling lead.
-use Prim.Native.Nat.{ℕ, zero, suc, _+_, _≤_, _<_}
+use Prim.Native.Nat.{ℕ, zero, suc, _≤_, _<_}
 use mathlib.Core.Path.{_≡_, refl, sym, ap, _∙_, subst}
-use mathlib.Core.Bool.{Bool, true}
+use mathlib.Core.Bool.{true}
 use mathlib.Core.List.{List, [], _∷_, map}
-use mathlib.Core.Logic.{_⊎_, inl, inr}
+use mathlib.Core.Logic.{inl, inr}
 use native.Mathlib.Omega.{arith}
 use native.Mathlib.Decide.{decLt, ℕ-discrete}
 use borrow.Author.Tests.{ltb-true}
@@ -13,18 +13,25 @@ use lib.ListN.{length, getD}
 use lib.Signed.{ltZ}
 use Rattle.sums.specs.Lists.{All, In, Pairwise, tabulate}
 use Rattle.sums.specs.ListLaws.{
-  All-map, All-at, All-in, All-both, in-at, at-in, Pairwise-at, length-tabulate, getD-tabulate, tabulate-cong,
+  All-map,
+  All-in,
+  in-at,
+  at-in,
+  Pairwise-at,
+  length-tabulate,
+  getD-tabulate,
+  tabulate-cong,
 }
-use Rattle.order.specs.Order.{Order, Job, jobCount, jobOf, noJob}
+use Rattle.order.specs.Order.{Order, Job, jobOf, noJob}
 use Rattle.order.specs.Sorted.{distinct, dueTimes}
-use Rattle.order.specs.SortedLaws.{ltb-strict, ltZ-strict, distinct-falls, distinct-all, in-distinct, distinct-in}
+use Rattle.order.specs.SortedLaws.{ltb-strict, ltZ-strict, distinct-falls, in-distinct, distinct-in}
 use Rattle.order.specs.Refusals.{dueInRange}
 use Rattle.order.specs.RefusalLaws.{Acceptable, true-leZ}
 use Rattle.order.specs.Table.{orderOf, jobAt}
 use Rattle.order.specs.declared.Order.{Order as OrderTable}
 use Rattle.profile.specs.Least.{lead}
 use Rattle.tables.specs.Tables.{RowOf}
-use Rattle.reason.specs.Downwards.{listed, DistinctOf}
+use Rattle.reason.specs.Downwards.{DistinctOf}
 use Rattle.reason.specs.Settings.{dueAt, downTo, GridOf}
 use Rattle.reason.specs.SameMembers.{same-members, ltZ-never}
 use Rattle.reason.specs.LeadLaws.{due-lead, due-falls}
@@ -94,22 +101,26 @@ module _ (o : Order) (a : Acceptable o) (m : Members)
   entry-job : (i : ℕ) → i < m .count → (job : Job) × In job (o .jobs) × (getD (m .at) i 0 ≡ lead (job .due))
   entry-job i l =
       let r = map-in (λ (job : Job). lead (job .due)) (getD (distinct ltb leads) i 0) (o .jobs)
-        (distinct-in ltb ltb-strict _ leads (at-in (distinct ltb leads) 0 i (omega (arith, count-is)))) in
+      (distinct-in ltb ltb-strict _ leads (at-in (distinct ltb leads) 0 i (omega (arith, count-is)))) in
       (r .0, r .1, at-listed i l ∙ r .2)
 
   job-entry : (job : Job) → In job (o .jobs) → (i : ℕ) × (i < m .count) × (getD (m .at) i 0 ≡ lead (job .due))
   job-entry job h =
       let r = in-at (distinct ltb leads) 0 (lead (job .due))
-        (in-distinct ltb ltb-strict _ leads (in-map (λ (job : Job). lead (job .due)) job (o .jobs) h)) in
+      (in-distinct ltb ltb-strict _ leads (in-map (λ (job : Job). lead (job .due)) job (o .jobs) h)) in
       let l : r .0 < m .count = omega (arith, count-is, r .1) in
       (r .0, l, at-listed (r .0) l ∙ r .2)
 
   falls : (i k : ℕ) → i < k → k < m .count → getD (m .at) k 0 < getD (m .at) i 0
   falls i k l b =
-      omega (arith, at-listed i (omega arith), at-listed k b,
+      omega (
+        arith,
+        at-listed i (omega arith),
+        at-listed k b,
         ltb-true (getD (distinct ltb leads) k 0) (getD (distinct ltb leads) i 0)
-        (Pairwise-at (λ (x y : ℕ). ltb y x ≡ true) (distinct ltb leads) 0 (distinct-falls ltb ltb-strict leads) i k l
-        (omega (arith, count-is))))
+            (Pairwise-at (λ (x y : ℕ). ltb y x ≡ true) (distinct ltb leads) 0 (distinct-falls ltb ltb-strict leads) i k l
+            (omega (arith, count-is))),
+      )
 
   due-of-entry : (i : ℕ) → i < m .count → In (dueAt (getD (m .at) i 0)) (map (λ (job : Job). job .due) (o .jobs))
   due-of-entry i l =
@@ -134,15 +145,15 @@ module _ (o : Order) (a : Acceptable o) (m : Members)
             (distinct-falls ltZ ltZ-strict (map (λ (job : Job). job .due) (o .jobs)))
             (Pairwise-down (λ i. dueAt (getD (m .at) i 0)) _ (m .count) (λ i k l b. due-falls _ _ (falls i k l b)))
             (λ z i.
-              let r = map-in (λ (job : Job). job .due) z (o .jobs) (distinct-in ltZ ltZ-strict z _ i) in
-              let e = job-entry (r .0) (r .1) in
-              subst (λ (y : ℤ). In y (downTo (λ i. dueAt (getD (m .at) i 0)) (m .count)))
-              (ap dueAt (e .2) ∙ (due-lead (r .0 .due) (in-range (r .0) (r .1)) .2 ∙ sym (r .2)))
-              (in-down (λ i. dueAt (getD (m .at) i 0)) (m .count) (e .0) (e .1)))
+            let r = map-in (λ (job : Job). job .due) z (o .jobs) (distinct-in ltZ ltZ-strict z _ i) in
+            let e = job-entry (r .0) (r .1) in
+            subst (λ (y : ℤ). In y (downTo (λ i. dueAt (getD (m .at) i 0)) (m .count)))
+            (ap dueAt (e .2) ∙ (due-lead (r .0 .due) (in-range (r .0) (r .1)) .2 ∙ sym (r .2)))
+            (in-down (λ i. dueAt (getD (m .at) i 0)) (m .count) (e .0) (e .1)))
             (λ z i.
-              let r = down-in (λ i. dueAt (getD (m .at) i 0)) (m .count) z i in
-              in-distinct ltZ ltZ-strict z _
-              (subst (λ (y : ℤ). In y (map (λ (job : Job). job .due) (o .jobs))) (sym (r .2)) (due-of-entry (r .0) (r .1))));
+            let r = down-in (λ i. dueAt (getD (m .at) i 0)) (m .count) z i in
+            in-distinct ltZ ltZ-strict z _
+            (subst (λ (y : ℤ). In y (map (λ (job : Job). job .due) (o .jobs))) (sym (r .2)) (due-of-entry (r .0) (r .1))));
       }
 
 -- the leads of a struct's jobs

@@ -1,14 +1,14 @@
--- Due times and leads: a due time in range is told by its lead, later due times have smaller leads, and a job's end is the reach
--- less its lead.
+-- Due times and leads: a due time in range is told by its lead, later due times have smaller leads, and a job's end is
+-- the reach less its lead.
 use Prim.Native.Nat.{ℕ, zero, suc, _+_, _-_, _≤_, _<_}
 use mathlib.Core.Path.{_≡_, refl, sym, ap, _∙_}
-use mathlib.Core.Bool.{Bool, true, false, cond, _&&_}
+use mathlib.Core.Bool.{true}
 use native.Mathlib.Omega.{arith}
 use native.Mathlib.Decide.{decLt}
 use borrow.Author.Tests.{leb-true, lt-ltb, le-ltb}
 use lib.Dec.{leb, ltb}
 use lib.IntN.{ℤ, pos, negsuc, negℤ, _+ℤ_, _-ℤ_, +ℤ-assoc, +ℤ-comm}
-use lib.Signed.{leZ, ltZ}
+use lib.Signed.{ltZ}
 use Rattle.order.specs.Refusals.{dueInRange, boundInRange}
 use Rattle.order.specs.RefusalLaws.{both-true}
 use Rattle.order.specs.Deadline.{cut}
@@ -43,9 +43,11 @@ pub due-lead : (d : ℤ) → dueInRange d ≡ true → (pos 1000000 -ℤ d ≡ p
 due-lead (pos n) h =
     let l : n ≤ 1000000 = below-range n h in
     let e : pos 1000000 -ℤ pos n ≡ pos (1000000 - n) = pos-sub 1000000 n l in
-    let f : lead (pos n) ≡ 1000000 - n = ap cut e in
-    (e ∙ ap pos (sym f), omega arith,
-    ap dueAt f ∙ (pos-sub 1000000 (1000000 - n) (omega arith) ∙ ap pos (omega arith)))
+    let f : lead (pos n) ≡ 1000000 - n = ap cut e in (
+      e ∙ ap pos (sym f),
+      omega arith,
+      ap dueAt f ∙ (pos-sub 1000000 (1000000 - n) (omega arith) ∙ ap pos (omega arith)),
+    )
 due-lead (negsuc n) h =
     let l : n ≤ 999999 = above-range n h in
     let f : lead (negsuc n) ≡ 1000001 + n = omega arith in
@@ -64,11 +66,13 @@ pub due-falls : (a b : ℕ) → a < b → ltZ (dueAt b) (dueAt a) ≡ true
 due-falls a b h =
     elim (decLt 1000000 b) [
       | no l ↦
-          rw (pos-sub 1000000 b (omega arith), pos-sub 1000000 a (omega arith)) (lt-ltb (1000000 - b) (1000000 - a) (omega arith))
+          rw (pos-sub 1000000 b (omega arith), pos-sub 1000000 a (omega arith))
+          (lt-ltb (1000000 - b) (1000000 - a) (omega arith))
       | yes l ↦
           elim (decLt 1000000 a) [
             | no k ↦ rw (sub-neg 1000000 b l, pos-sub 1000000 a (omega arith))
-            | yes k ↦ rw (sub-neg 1000000 b l, sub-neg 1000000 a k) (lt-ltb (a - suc 1000000) (b - suc 1000000) (omega arith))
+            | yes k ↦ rw (sub-neg 1000000 b l, sub-neg 1000000 a k)
+                (lt-ltb (a - suc 1000000) (b - suc 1000000) (omega arith))
           ]
     ]
 

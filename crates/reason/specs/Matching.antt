@@ -1,32 +1,37 @@
--- A setting that is an order's: its numbers are in range, its weights are the order's, and so its least reach is the order's.
-use Prim.Native.Nat.{ℕ, zero, suc, _+_, _-_, _*_, _≤_, _<_, max}
+-- A setting that is an order's: its numbers are in range, its weights are the order's, and so its least reach is the
+-- order's.
+use Prim.Native.Nat.{ℕ, zero, suc, _+_, _*_, _≤_, _<_, max}
 use mathlib.Core.Path.{_≡_, refl, sym, ap, _∙_}
-use mathlib.Core.Bool.{true}
 use mathlib.Core.List.{List, [], _∷_, map}
 use native.Mathlib.Omega.{arith}
-use native.Mathlib.Decide.{decLt}
 use lib.Dec.{eqb}
-use lib.IntN.{ℤ, pos, negsuc, _-ℤ_}
+use lib.IntN.{ℤ, pos}
 use lib.ListN.{length, getD}
 use Rattle.sums.specs.Sum.{sum, sum-cong}
-use Rattle.sums.specs.Lists.{All, In, total, only, tabulate}
+use Rattle.sums.specs.Lists.{total, only}
 use Rattle.sums.specs.ListLaws.{All-at, All-map, tabulate-getD, total-tabulate, length-tabulate, getD-tabulate}
 use Rattle.order.specs.Order.{Order, Job, jobCount, jobOf, noJob}
 use Rattle.order.specs.Class.{classes, classOf, processorsIn, processorsTo}
-use Rattle.order.specs.Refusals.{dueInRange}
 use Rattle.order.specs.RefusalLaws.{Acceptable}
 use Rattle.order.specs.Table.{orderOf, jobAt}
 use Rattle.order.specs.declared.Order.{Order as OrderTable}
-use Rattle.profile.specs.Least.{
-  lead, owedAt, weightAt, weightFrom, largest, heaviest, ceiling, most, leastReach,
-}
+use Rattle.profile.specs.Least.{lead, owedAt, weightAt, weightFrom, largest, heaviest, ceiling, most, leastReach}
 use Rattle.tables.specs.Places.{profiles, value, best}
-use Rattle.tables.specs.PlacesLaws.{Below}
-use Rattle.tables.specs.NumberLaws.{most-suc, most-cong}
+use Rattle.tables.specs.NumberLaws.{most-cong}
 use Rattle.tables.specs.Tables.{RowOf}
-use Rattle.reason.specs.Downwards.{listed}
 use Rattle.reason.specs.Settings.{
-  owes, minutesAt, weight, procsTo, latestOf, leastFor, reachOf, Fine, dueAt, ClassesOf, GridOf, Matches,
+  owes,
+  minutesAt,
+  weight,
+  procsTo,
+  latestOf,
+  leastFor,
+  reachOf,
+  Fine,
+  dueAt,
+  ClassesOf,
+  GridOf,
+  Matches,
 }
 use Rattle.reason.specs.LeadLaws.{due-lead, lead-due}
 use Rattle.reason.specs.ClassRows.{processors-few, processors-some}
@@ -40,7 +45,14 @@ pub matches-made : (t : OrderTable) (m g : Members) (cs ls ps : List ℕ) → Cl
     RowOf (λ j. classOf (orderOf t) (jobAt t j)) (t .jobs) cs → RowOf (λ j. lead (getD (t .dues) j (pos 0))) (t .jobs) ls →
     RowOf (λ i. processorsIn (orderOf t) (suc i)) 16 ps →
     Matches (orderOf t) (record {
-      n = t .jobs; s = m .count; q = g .count; times = t .times; classes = cs; leads = ls; procs = ps; grid = g .at;
+      n = t .jobs;
+      s = m .count;
+      q = g .count;
+      times = t .times;
+      classes = cs;
+      leads = ls;
+      procs = ps;
+      grid = g .at;
     })
 matches-made t m g cs ls ps c d hc hl hp =
     record {
@@ -85,11 +97,18 @@ module _ (o : Order) (t : Setting) (m : Matches o t) where
         some-due = m .grid .some;
         dues = m .grid .few;
         times = λ j l. omega (arith, m .times j (at l), All-at _ (o .jobs) noJob (a .times) j (at l) .1);
-        leads = λ j l. omega (arith, m .leads j (at l),
-          due-lead (jobOf o (suc j) .due) (All-at _ (o .jobs) noJob (dues-in-range o a) j (at l)) .1);
+        leads = λ j l. omega (
+          arith,
+          m .leads j (at l),
+          due-lead (jobOf o (suc j) .due) (All-at _ (o .jobs) noJob (dues-in-range o a) j (at l)) .1,
+        );
         grid = m .grid .small;
         procs = λ i l. omega (arith, m .procs i l, processors-few o (suc i), a .few-processors);
-        some-proc = λ i l. omega (arith, m .procs i (omega (arith, m .few-classes)), processors-some o i (omega (arith, m .classed)));
+        some-proc = λ i l. omega (
+          arith,
+          m .procs i (omega (arith, m .few-classes)),
+          processors-some o i (omega (arith, m .classed)),
+        );
       }
     where
       at : {j : ℕ} → j < t .n → j < jobCount o
@@ -105,15 +124,19 @@ module _ (o : Order) (t : Setting) (m : Matches o t) where
   minutes-same k g d e =
       total-sum (o .jobs) noJob (λ (job : Job). only (eqb (classOf o job) k) (owedAt g job))
       ∙ (sum-cong (jobCount o) _ (owes t k d)
-        (λ j l. rw (m .times j l, m .leads j l, m .classes-of j l, e) refl)
+      (λ j l. rw (m .times j l, m .leads j l, m .classes-of j l, e) refl)
       ∙ ap (λ (n : ℕ). sum n (owes t k d)) (sym (m .jobs)))
 
   weight-same : (i d : ℕ) → i < 16 → weightAt o (suc i) (lead (dueIn d)) ≡ weight t i d
   unfolding weightAt weight
   weight-same i d l =
       let g = lead-due (getD (t .grid) d 0) in
-      omega (arith, minutes-same (suc i) (lead (dueIn d)) d g,
-        ap (λ (x : ℕ). processorsIn o (suc i) * x) g, ap (λ (x : ℕ). x * getD (t .grid) d 0) (m .procs i l))
+      omega (
+        arith,
+        minutes-same (suc i) (lead (dueIn d)) d g,
+        ap (λ (x : ℕ). processorsIn o (suc i) * x) g,
+        ap (λ (x : ℕ). x * getD (t .grid) d 0) (m .procs i l),
+      )
 
   pub value-same : (i : ℕ) (ds : List ℕ) → i + length ds ≤ 16 → weightFrom o (suc i) (map dueIn ds) ≡ value (weight t) i ds
   unfolding weightFrom value
@@ -129,18 +152,21 @@ module _ (o : Order) (t : Setting) (m : Matches o t) where
   heaviest-same k l =
       rw (m .grid .dues, choices-places dueIn k (t .q), largest-image (map dueIn) (weightFrom o 1) (profiles k (t .q)))
       (largest-agree (λ (ds : List ℕ). weightFrom o 1 (map dueIn ds)) (value (weight t) 0) (profiles k (t .q))
-        (All-map (Sized k (t .q)) _ (profiles k (t .q)) (λ ds h. value-same 0 ds (omega (arith, h .0))) (profiles-sized k (t .q))))
+      (All-map (Sized k (t .q)) _ (profiles k (t .q)) (λ ds h. value-same 0 ds (omega (arith, h .0)))
+      (profiles-sized k (t .q))))
 
   pub reach-same : leastReach o ≡ reachOf t
   unfolding leastReach reachOf
   reach-same =
       let a : largest (λ (job : Job). job .time + lead (job .due)) (o .jobs) ≡ latestOf t
       = largest-most (o .jobs) noJob (λ (job : Job). job .time + lead (job .due))
-        ∙ (most-cong (jobCount o) _ (λ j. getD (t .times) j 0 + getD (t .leads) j 0) (λ j l. omega (arith, m .times j l, m .leads j l))
-        ∙ ap (λ (n : ℕ). most n (λ j. getD (t .times) j 0 + getD (t .leads) j 0)) (sym (m .jobs))) in
-      let b : most (length (classes o)) (λ k. ceiling (heaviest o (suc k)) (processorsTo o (suc k))) ≡ most (t .s) (λ k. leastFor t (suc k))
+      ∙ (most-cong (jobCount o) _ (λ j. getD (t .times) j 0 + getD (t .leads) j 0)
+      (λ j l. omega (arith, m .times j l, m .leads j l))
+      ∙ ap (λ (n : ℕ). most n (λ j. getD (t .times) j 0 + getD (t .leads) j 0)) (sym (m .jobs))) in
+      let b : most (length (classes o)) (λ k. ceiling (heaviest o (suc k)) (processorsTo o (suc k))) ≡ most (t .s)
+      (λ k. leastFor t (suc k))
       = ap (λ (n : ℕ). most n (λ k. ceiling (heaviest o (suc k)) (processorsTo o (suc k)))) (sym (m .classed))
-        ∙ most-cong (t .s) _ _ (λ k l.
-          let n : suc k ≤ 16 = omega (arith, m .few-classes) in
-          rw (heaviest-same (suc k) n, procs-same (suc k) n)) in
+      ∙ most-cong (t .s) _ _ (λ k l.
+      let n : suc k ≤ 16 = omega (arith, m .few-classes) in
+      rw (heaviest-same (suc k) n, procs-same (suc k) n)) in
       rw (a, b)

@@ -1,5 +1,5 @@
--- An order as the tables need it, and what they are asked: what a class weighs at a due time, the first overfull profile at a
--- reach, the least reach, what is told. Due times stand as leads, and a bound as its reach, 1,000,000 more.
+-- An order as the tables need it, and what they are asked: what a class weighs at a due time, the first overfull profile
+-- at a reach, the least reach, what is told. Due times stand as leads, and a bound as its reach, 1,000,000 more.
 use Prim.Native.Nat.{ℕ, zero, suc, _+_, _-_, _*_, _<_, _≤_, max, pred}
 use mathlib.Core.Path.{_≡_}
 use mathlib.Core.Bool.{Bool, cond}

@@ -1,5 +1,5 @@
 -- What is known of the struct of an accepted order: its counts, and the due time and time at each place.
-use Prim.Native.Nat.{ℕ, suc, _≤_, _<_}
+use Prim.Native.Nat.{ℕ, _≤_, _<_}
 use mathlib.Core.Path.{_≡_}
 use mathlib.Core.Bool.{true}
 use native.Mathlib.Omega.{arith}
@@ -19,10 +19,15 @@ module _ (t : OrderTable) (a : Accepted (orderOf t)) where
 
   pub few-processors : t .processors ≤ 16
   few-processors =
-      omega (arith, accepted-iff (orderOf t) .0 a .few-processors, length-tabulate (t .processors) (λ i. getD (t .memories) i 0))
+      omega (
+        arith,
+        accepted-iff (orderOf t) .0 a .few-processors,
+        length-tabulate (t .processors) (λ i. getD (t .memories) i 0),
+      )
 
   pub due-in-range-at : (j : ℕ) → j < t .jobs → dueInRange (getD (t .dues) j (pos 0)) ≡ true
   due-in-range-at j l =
       rw (getD-tabulate (t .jobs) (jobAt t) noJob j l) at
-      (All-at (λ (job : Job). dueInRange (job .due) ≡ true) (orderOf t .jobs) noJob (dues-in-range (orderOf t) (accepted-iff (orderOf t) .0 a))
+      (All-at (λ (job : Job). dueInRange (job .due) ≡ true) (orderOf t .jobs) noJob
+      (dues-in-range (orderOf t) (accepted-iff (orderOf t) .0 a))
       j (rw length-tabulate l))

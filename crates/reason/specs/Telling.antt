@@ -1,12 +1,11 @@
--- What is told of a setting is document 01's reason: the same job is over its end, and where none is, the same profile is the
--- first overfull one.
-use Prim.Native.Nat.{ℕ, zero, suc, _+_, _-_, _*_, _≤_, _<_, pred}
+-- What is told of a setting is document 01's reason: the same job is over its end, and where none is, the same profile is
+-- the first overfull one.
+use Prim.Native.Nat.{ℕ, zero, suc, _+_, _*_, _≤_, _<_}
 use mathlib.Core.Path.{_≡_, refl, sym, ap, _∙_, subst}
 use mathlib.Core.Bool.{Bool, true, false, cond}
 use mathlib.Core.List.{List, [], _∷_, map}
-use mathlib.Core.Logic.{_⊎_, inl, inr}
 use native.Mathlib.Omega.{arith}
-use borrow.Author.Tests.{ltb-true, ltb-false}
+use borrow.Author.Tests.{ltb-false}
 use lib.Dec.{ltb}
 use lib.IntN.{ℤ, pos, negsuc, _+ℤ_}
 use lib.ListN.{length, getD, length-map}
@@ -14,18 +13,14 @@ use lib.Signed.{ltZ}
 use Rattle.sums.specs.Lists.{All, In, tabulate}
 use Rattle.sums.specs.ListLaws.{All-map, All-at, All-in, All-from}
 use Rattle.order.specs.Order.{Order, Job, jobCount, jobOf, noJob, endOf}
-use Rattle.order.specs.Sorted.{dueTimes, distinct}
+use Rattle.order.specs.Sorted.{dueTimes}
 use Rattle.order.specs.SortedLaws.{ltZ-strict, distinct-in}
-use Rattle.order.specs.Class.{classes, processorsTo}
 use Rattle.order.specs.Refusals.{Finding, clear, holds, firstAfter, first, dueInRange}
 use Rattle.order.specs.RefusalLaws.{Acceptable}
 use Rattle.order.specs.Deadline.{cut}
-use Rattle.profile.specs.Reason.{overEnd, stairs}
-use Rattle.profile.specs.Search.{
-  Found, nothing, found, ranked, firstSuch, isOverfull, firstOverfull, firstOverEnd, reasonBy, reasonOf,
-}
-use Rattle.profile.specs.Least.{lead, weightFrom}
-use Rattle.tables.specs.Places.{FoundPlaces, ranking, value, overfullAt, firstOverfullAt}
+use Rattle.profile.specs.Search.{Found, nothing, found, isOverfull, firstOverfull, firstOverEnd, reasonBy, reasonOf}
+use Rattle.profile.specs.Least.{lead}
+use Rattle.tables.specs.Places.{FoundPlaces, ranking, overfullAt, firstOverfullAt}
 use Rattle.tables.specs.PlacesLaws.{Below}
 use Rattle.reason.specs.Told.{sixteen, whyOf}
 use Rattle.reason.specs.Settings.{weight, procsTo, firstOf, late, toldAt, toldBy, toldOf, Matches}
@@ -36,17 +31,21 @@ use Rattle.reason.specs.Weighing.{Within, overfull-weighs}
 use Rattle.reason.specs.Matching.{dueIn, value-same, procs-same}
 use Rattle.reason.specs.declared.Reason.the-variants.{Job as JobReason, Stairs}
 use Rattle.reason.specs.declared.Setting.{Setting}
-use Rattle.reason.specs.declared.Why.{Why}
 
 -- a condition about single ones, asked place by place
 first-places : {A B : Type 0} (test : A → Bool) (xs : List A) (d : A) (test' : B → Bool) (n : ℕ) (g : ℕ → B) (k : ℕ) →
-    length xs ≡ n → ((i : ℕ) → i < n → test (getD xs i d) ≡ test' (g i)) → firstAfter k test xs ≡ firstAfter k test' (tabulate n g)
+    length xs ≡ n → ((i : ℕ) → i < n → test (getD xs i d) ≡ test' (g i)) →
+    firstAfter k test xs ≡ firstAfter k test' (tabulate n g)
 unfolding firstAfter
 first-places test [] d test' zero g k e h = refl
 first-places test [] d test' (suc n) g k e h = absurd (omega arith)
 first-places test (x ∷ xs) d test' zero g k e h = absurd (omega arith)
 first-places test (x ∷ xs) d test' (suc n) g k e h =
-    rw (h 0 (omega arith), first-places test xs d test' n (λ i. g (suc i)) (suc k) (omega arith) (λ i l. h (suc i) (omega arith)))
+    rw (
+      h 0 (omega arith),
+      first-places test xs d test' n (λ i. g (suc i)) (suc k) (omega arith)
+          (λ i l. h (suc i) (omega arith)),
+    )
 
 -- what it finds is a member's number; where it finds nothing, the condition holds of none
 first-holds : {A : Type 0} (test : A → Bool) (xs : List A) (k c : ℕ) → firstAfter k test xs ≡ holds c →
@@ -61,7 +60,8 @@ first-holds test (x ∷ xs) k c e = at (test x) e (first-holds test xs (suc k) c
     at true e f = let q : c ≡ suc k = cc in (0, omega arith, omega arith)
     at false e f = let r = f e in (suc (r .0), omega (arith, r .1), omega (arith, r .2))
 
-first-nowhere : {A : Type 0} (test : A → Bool) (xs : List A) (k : ℕ) → firstAfter k test xs ≡ clear → All (λ x. test x ≡ false) xs
+first-nowhere : {A : Type 0} (test : A → Bool) (xs : List A) (k : ℕ) → firstAfter k test xs ≡ clear →
+    All (λ x. test x ≡ false) xs
 unfolding firstAfter
 first-nowhere test [] k e = tt
 first-nowhere test (x ∷ xs) k e = at (test x) refl e (first-nowhere test xs (suc k))
@@ -94,8 +94,9 @@ module _ (o : Order) (t : Setting) (m : Matches o t) (a : Acceptable o) (bound :
   same-job =
       first-places over (o .jobs) noJob (late t reach) (t .n) (λ j. j) 0 (sym (m .jobs))
       (λ j b.
-        let l : j < jobCount o = omega (arith, m .jobs) in
-        over-late (jobOf o (suc j)) (in-range j l) (some-time j l) ∙ ap (ltb reach) (omega (arith, m .times j l, m .leads j l)))
+      let l : j < jobCount o = omega (arith, m .jobs) in
+      over-late (jobOf o (suc j)) (in-range j l) (some-time j l)
+      ∙ ap (ltb reach) (omega (arith, m .times j l, m .leads j l)))
 
   module _ (c : firstOverEnd o bound ≡ clear) where
     in-time : (j : ℕ) → j < jobCount o → jobOf o (suc j) .time + lead (jobOf o (suc j) .due) ≤ reach
@@ -121,8 +122,10 @@ module _ (o : Order) (t : Setting) (m : Matches o t) (a : Acceptable o) (bound :
     due-within d l =
         let i : In (dueIn o t m d) (dueTimes o)
         = subst (λ (ds : List ℤ). In (dueIn o t m d) ds) (sym (m .grid .dues)) (in-down (dueIn o t m) (t .q) d l) in
-        let r = map-in (λ (job : Job). job .due) (dueIn o t m d) (o .jobs) (distinct-in ltZ ltZ-strict (dueIn o t m d) _ i) in
-        subst (Within reach) (sym (r .2)) (All-in (λ (job : Job). Within reach (job .due)) (o .jobs) jobs-within (r .0) (r .1))
+        let r = map-in (λ (job : Job). job .due) (dueIn o t m d) (o .jobs)
+        (distinct-in ltZ ltZ-strict (dueIn o t m d) _ i) in
+        subst (Within reach) (sym (r .2)) (All-in (λ (job : Job). Within reach (job .due)) (o .jobs) jobs-within (r .0)
+        (r .1))
 
     dues-within : (ds : List ℕ) → Below (t .q) ds → All (Within reach) (map (dueIn o t m) ds)
     dues-within [] h = tt
@@ -140,13 +143,18 @@ module _ (o : Order) (t : Setting) (m : Matches o t) (a : Acceptable o) (bound :
     same-profile : firstOverfull o bound ≡ foundMap (map (dueIn o t m)) (firstOf t reach)
     unfolding firstOverfull firstOf firstOverfullAt
     same-profile =
-        rw (m .grid .dues, ← m .classed, ranked-places (dueIn o t m) (t .s) (t .q),
-          first-image (map (dueIn o t m)) (isOverfull o bound) (ranking (t .s) (t .q)))
+        rw (
+          m .grid .dues,
+          ← m .classed,
+          ranked-places (dueIn o t m) (t .s) (t .q),
+          first-image (map (dueIn o t m)) (isOverfull o bound) (ranking (t .s) (t .q)),
+        )
         (ap (foundMap (map (dueIn o t m)))
-          (first-agree (λ (ds : List ℕ). isOverfull o bound (map (dueIn o t m) ds)) (overfullAt (weight t) (λ k. procsTo t k * reach))
-            (ranking (t .s) (t .q))
-            (All-map (λ (ds : List ℕ). (length ds ≤ t .s) × Below (t .q) ds) _ (ranking (t .s) (t .q))
-              (λ ds h. overfull-same ds (h .0) (h .1)) (ranking-sized (t .s) (t .q)))))
+        (first-agree (λ (ds : List ℕ). isOverfull o bound (map (dueIn o t m) ds))
+        (overfullAt (weight t) (λ k. procsTo t k * reach))
+        (ranking (t .s) (t .q))
+        (All-map (λ (ds : List ℕ). (length ds ≤ t .s) × Below (t .q) ds) _ (ranking (t .s) (t .q))
+        (λ ds h. overfull-same ds (h .0) (h .1)) (ranking-sized (t .s) (t .q)))))
 
     told-profile : whyOf o (reasonBy clear (firstOverfull o bound)) ≡ toldAt t (firstOf t reach)
     told-profile = ap (λ (f : Found (List ℤ)). whyOf o (reasonBy clear f)) same-profile ∙ at (firstOf t reach)
@@ -156,7 +164,8 @@ module _ (o : Order) (t : Setting) (m : Matches o t) (a : Acceptable o) (bound :
         at (found ds) =
             ap (λ (n : ℕ). record { reason = Stairs n; dues = sixteen (map (dueIn o t m) ds) }) (length-map ds (dueIn o t m))
 
-  told-by : (f : Finding) → firstOverEnd o bound ≡ f → whyOf o (reasonBy f (firstOverfull o bound)) ≡ toldBy t f (firstOf t reach)
+  told-by : (f : Finding) → firstOverEnd o bound ≡ f → whyOf o (reasonBy f (firstOverfull o bound)) ≡ toldBy t f
+      (firstOf t reach)
   unfolding over
   told-by clear e = told-profile e
   told-by (holds j) e =

@@ -1,5 +1,4 @@
 -- What the code's reason stands for: document 01's reason at a bound, the due times beyond k reading 0.
-use Prim.Native.Nat.{ℕ}
 use mathlib.Core.List.{List, []}
 use lib.IntN.{ℤ, pos}
 use lib.ListN.{length, getD}

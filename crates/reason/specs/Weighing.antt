@@ -1,23 +1,21 @@
--- Where every job has its time by its end, a profile is overfull exactly if it weighs more than the processors of its classes
--- times the reach.
-use Prim.Native.Nat.{ℕ, zero, suc, _+_, _-_, _*_, _≤_, _<_}
+-- Where every job has its time by its end, a profile is overfull exactly if it weighs more than the processors of its
+-- classes times the reach.
+use Prim.Native.Nat.{ℕ, suc, _+_, _-_, _*_, _≤_}
 use mathlib.Core.Path.{_≡_, refl, sym, ap, _∙_}
-use mathlib.Core.Bool.{Bool, true, false, cond}
+use mathlib.Core.Bool.{true}
 use mathlib.Core.List.{List, [], _∷_}
 use native.Mathlib.Omega.{arith}
 use native.Mathlib.Decide.{decLe, decLt}
 use borrow.Author.Tests.{le-leb, lt-leb, lt-ltb, le-ltb}
 use lib.Dec.{ltb, eqb}
-use lib.IntN.{ℤ, pos, _+ℤ_, _-ℤ_, _*ℤ_}
+use lib.IntN.{ℤ, pos, _+ℤ_}
 use lib.ListN.{length}
-use lib.Signed.{leZ, ltZ}
 use Rattle.sums.specs.Sum.{sum}
-use Rattle.sums.specs.Lists.{All, total, only}
+use Rattle.sums.specs.Lists.{All, only}
 use Rattle.sums.specs.ListLaws.{All-map, total-cong}
 use Rattle.order.specs.Order.{Order, Job, endAt, endOf}
 use Rattle.order.specs.Class.{classOf, processorsIn, processorsTo}
 use Rattle.order.specs.Refusals.{dueInRange}
-use Rattle.order.specs.Deadline.{cut}
 use Rattle.profile.specs.Profile.{owed, classOwes, owedFrom, onHandFrom}
 use Rattle.profile.specs.Search.{isOverfull}
 use Rattle.profile.specs.Least.{lead, owedAt, weightAt, weightFrom}
@@ -59,21 +57,31 @@ rooms o r k [] h = let e : k + 0 ≡ k = omega arith in rw e (omega arith)
 rooms o r k (due ∷ dues) h =
     let e : k + suc (length dues) ≡ suc k + length dues = omega arith in
     let f : (r - lead due) + lead due ≡ r = omega (arith, h .0 .1) in
-    omega (arith, ap (λ (x : ℕ). processorsTo o x * r) e, ap (λ (x : ℕ). processorsIn o (suc k) * x) f,
-      ap (λ (x : ℕ). x * r) (processors-next o k), rooms o r (suc k) dues (h .1))
+    omega (
+      arith,
+      ap (λ (x : ℕ). processorsTo o x * r) e,
+      ap (λ (x : ℕ). processorsIn o (suc k) * x) f,
+      ap (λ (x : ℕ). x * r) (processors-next o k),
+      rooms o r (suc k) dues (h .1),
+    )
 
 module _ (o : Order) (bound : ℤ) (r : ℕ) (e : pos 1000000 +ℤ bound ≡ pos r)
     (jobs : All (λ (job : Job). Within r (job .due)) (o .jobs)) where
   -- what a job owes at the end of a due time does not mention the bound
-  owed-is : (job : Job) → Within r (job .due) → (due : ℤ) → Within r due → owed bound (endAt bound due) job ≡ owedAt (lead due) job
+  owed-is : (job : Job) → Within r (job .due) → (due : ℤ) → Within r due →
+      owed bound (endAt bound due) job ≡ owedAt (lead due) job
   unfolding owed endOf
   owed-is job j due d =
       rw (end-at bound (job .due) (j .0) r e (j .1), end-at bound due (d .0) r e (d .1))
       (elim (decLe (r - lead (job .due)) (r - lead due)) [
         | yes h ↦ rw (le-leb (r - lead (job .due)) (r - lead due) h) (omega (arith, j .1, d .1))
         | no h ↦
-            rw (lt-leb (r - lead (job .due)) (r - lead due) (omega arith), pos-sub (r - lead (job .due)) (r - lead due) (omega arith),
-              cut-sub (job .time) ((r - lead (job .due)) - (r - lead due)))
+            rw (
+              lt-leb (r - lead (job .due)) (r - lead due) (omega arith),
+              pos-sub (r - lead (job .due)) (r - lead due)
+                  (omega arith),
+              cut-sub (job .time) ((r - lead (job .due)) - (r - lead due)),
+            )
             (omega (arith, j .1, d .1))
       ])
 
@@ -82,9 +90,9 @@ module _ (o : Order) (bound : ℤ) (r : ℕ) (e : pos 1000000 +ℤ bound ≡ pos
   weighs k [] h = refl
   weighs k (due ∷ dues) h =
       let one = total-cong (o .jobs)
-        (λ (job : Job). only (eqb (classOf o job) k) (owed bound (endAt bound due) job))
-        (λ (job : Job). only (eqb (classOf o job) k) (owedAt (lead due) job))
-        (All-map _ _ (o .jobs) (λ (job : Job) j. ap (only (eqb (classOf o job) k)) (owed-is job j due (h .0))) jobs) in
+      (λ (job : Job). only (eqb (classOf o job) k) (owed bound (endAt bound due) job))
+      (λ (job : Job). only (eqb (classOf o job) k) (owedAt (lead due) job))
+      (All-map _ _ (o .jobs) (λ (job : Job) j. ap (only (eqb (classOf o job) k)) (owed-is job j due (h .0))) jobs) in
       omega (arith, one, weighs (suc k) dues (h .1))
 
   on-hand : (k : ℕ) (dues : List ℤ) → All (Within r) dues → onHandFrom o bound k dues ≡ pos (handFrom o r k dues)
@@ -98,7 +106,7 @@ module _ (o : Order) (bound : ℤ) (r : ℕ) (e : pos 1000000 +ℤ bound ≡ pos
   overfull-weighs dues h =
       rw (on-hand 1 dues h)
       (ltb-shift (handFrom o r 1 dues) (owedFrom o bound 1 dues) (processorsTo o (length dues) * r) (weightFrom o 1 dues)
-        (leadsFrom o 1 dues)
-        (let z : 0 + length dues ≡ length dues = omega arith in
-        omega (arith, rooms o r 0 dues h, ap (λ (x : ℕ). processorsTo o x * r) z, ap (λ (x : ℕ). x * r) (processors-zero o)))
-        (weighs 1 dues h))
+      (leadsFrom o 1 dues)
+      (let z : 0 + length dues ≡ length dues = omega arith in
+      omega (arith, rooms o r 0 dues h, ap (λ (x : ℕ). processorsTo o x * r) z, ap (λ (x : ℕ). x * r) (processors-zero o)))
+      (weighs 1 dues h))

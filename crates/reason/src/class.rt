@@ -1,8 +1,8 @@
-// Document 01's classes: the distinct memories downwards, the last class whose memory still suffices for a need, and how many
-// processors are in each class. All serve the crates above and have a `requires`.
-use order::Order;
+// Document 01's classes: the distinct memories downwards, the last class whose memory still suffices for a need, and how
+// many processors are in each class. All serve the crates above and have a `requires`.
 use super::Members;
 use super::distinct::distinct_down;
+use order::Order;
 ghost use mathlib.Core.Path.{_≡_};
 ghost use Prim.Native.Nat.{ℕ, suc, _≤_};
 ghost use lib.Dec.{eqb};

@@ -1,11 +1,11 @@
 // What the tables are filled from. It serves the crates above and has a `requires`.
-use order::Order;
 use super::Setting;
 use super::class::classes_of;
 use super::class::classes_of_jobs;
 use super::class::processors_by_class;
 use super::lead::grid_of;
 use super::lead::leads_of;
+use order::Order;
 ghost use Rattle.order.specs.Refusals.{Accepted};
 ghost use Rattle.order.specs.Table.{orderOf};
 ghost use Rattle.reason.specs.Settings.{Matches};

@@ -1,8 +1,8 @@
-// Due times as leads: 1,000,000 less the due time, so that no number of a sum is negative. All serve the crates above and have
-// a `requires`.
-use order::Order;
+// Due times as leads: 1,000,000 less the due time, so that no number of a sum is negative. All serve the crates above and
+// have a `requires`.
 use super::Members;
 use super::distinct::distinct_down;
+use order::Order;
 ghost use mathlib.Core.Path.{_≡_};
 ghost use mathlib.Core.Bool.{true};
 ghost use Prim.Native.Nat.{ℕ, _≤_};

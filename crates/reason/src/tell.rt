@@ -1,6 +1,4 @@
 // The reason at a bound, and the least lateness. All serve the crates above and have a `requires`.
-use order::Order;
-use order::deadline::deadline;
 use super::Reason;
 use super::Setting;
 use super::Why;
@@ -8,6 +6,8 @@ use super::given::setting_of;
 use super::lead::due_of;
 use super::least::least_reach;
 use super::stairs::first_overfull;
+use order::Order;
+use order::deadline::deadline;
 use tables::Outcome;
 ghost use mathlib.Core.Path.{_≡_};
 ghost use mathlib.Core.Bool.{true};

@@ -11,7 +11,14 @@ use Rattle.tables.specs.Places.{FoundPlaces, pad, places}
 use Rattle.tables.specs.Tables.{comp, firstFrom, put, cell, Completed, Least}
 use Rattle.tables.specs.PlacesLaws.{set-pad, length-pad}
 use Rattle.tables.specs.CompletionLaws.{
-  first-suc, first-done, outcome, fails, finds, finds-where, none-below, hit,
+  first-suc,
+  first-done,
+  outcome,
+  fails,
+  finds,
+  finds-where,
+  none-below,
+  hit,
 }
 
 -- the profile so far, then what is found
@@ -37,7 +44,8 @@ pub record Greedy (w : ℕ → ℕ → ℕ) (room : ℕ) (target : FoundPlaces) 
   pub target-is : target ≡ glue pre (firstFrom w room acc i m (suc top))
   pub can : room < acc + comp w i m (suc top)
 
-module _ {w : ℕ → ℕ → ℕ} {room : ℕ} {target : FoundPlaces} {s i top acc : ℕ} {out : List ℕ} (g : Greedy w room target s i top acc out) where
+module _ {w : ℕ → ℕ → ℕ} {room : ℕ} {target : FoundPlaces} {s i top acc : ℕ} {out : List ℕ}
+    (g : Greedy w room target s i top acc out) where
   pub greedy-length : length out ≡ 16
   greedy-length = ap length (g .out-is) ∙ length-pad 16 (g .pre)
 
@@ -47,7 +55,8 @@ module _ {w : ℕ → ℕ → ℕ} {room : ℕ} {target : FoundPlaces} {s i top 
       → Greedy w room target s (suc i) e (acc + w i e) (set out i e)
   greedy-step e l b t below here = at (g .m) (g .left) (g .target-is) (g .can)
     where
-      at : (m : ℕ) → i + m ≡ s → target ≡ glue (g .pre) (firstFrom w room acc i m (suc top)) → room < acc + comp w i m (suc top) → Greedy w room target s (suc i) e (acc + w i e) (set out i e)
+      at : (m : ℕ) → i + m ≡ s → target ≡ glue (g .pre) (firstFrom w room acc i m (suc top)) →
+          room < acc + comp w i m (suc top) → Greedy w room target s (suc i) e (acc + w i e) (set out i e)
       at zero q r c = absurd (omega arith)
       at (suc m) q r c =
           let clear = none-below w room acc i m e (λ x h. below x m q h) in
@@ -59,7 +68,8 @@ module _ {w : ℕ → ℕ → ℕ} {room : ℕ} {target : FoundPlaces} {s i top 
                 elim (outcome w room (acc + w i e) (suc i) m e) [
                   | finds ds f k ↦ k
                   | fails f k ↦
-                      let n : firstFrom w room acc i (suc m) (suc top) ≡ nothing = rw (← same) (first-suc w room acc i m e ∙ rw (clear, f)) in
+                      let n : firstFrom w room acc i (suc m) (suc top) ≡ nothing =
+                      rw (← same) (first-suc w room acc i m e ∙ rw (clear, f)) in
                       let y = finds-where w room acc i (suc m) top c in
                       let z : _≡_ {A = ℕ} 0 1 = cc (n, y .1) in
                       omega arith
@@ -70,8 +80,10 @@ module _ {w : ℕ → ℕ → ℕ} {room : ℕ} {target : FoundPlaces} {s i top 
             m = m;
             left = omega arith;
             long = length-append (g .pre) (e ∷ []) ∙ omega (arith, g .long);
-            out-is = ap (λ (l : List ℕ). set l i e) (g .out-is) ∙ (rw (← g .long) (set-pad 16 (g .pre) e (omega (arith, g .long))));
-            target-is = r ∙ (ap (glue (g .pre)) (hit w room acc i m e (suc top) clear can' (omega arith)) ∙ sym (glue-append (g .pre) e _));
+            out-is = ap (λ (l : List ℕ). set l i e) (g .out-is)
+                ∙ (rw (← g .long) (set-pad 16 (g .pre) e (omega (arith, g .long))));
+            target-is = r ∙ (ap (glue (g .pre)) (hit w room acc i m e (suc top) clear can' (omega arith))
+                ∙ sym (glue-append (g .pre) e _));
             can = can';
           }
 
@@ -91,7 +103,8 @@ greedy-start w room k d h =
     record { pre = d ∷ []; m = k; left = omega arith; long = refl; out-is = refl; target-is = refl; can = h }
 
 -- the next class, at the least due time that can be completed
-pub greedy-least : (t c : List (List ℕ)) (q k : ℕ) → Completed t (suc k) q k c → {room : ℕ} {target : FoundPlaces} {i top acc : ℕ} {out : List ℕ}
+pub greedy-least : (t c : List (List ℕ)) (q k : ℕ) → Completed t (suc k) q k c →
+    {room : ℕ} {target : FoundPlaces} {i top acc : ℕ} {out : List ℕ}
     → Greedy (cell t) room target (suc k) i top acc out → (e : ℕ) → i ≤ k → k < 16 → top < q
     → Least (λ x. acc + cell t i x + cell c (k - i) x) room top e
     → Greedy (cell t) room target (suc k) (i + 1) e (acc + cell t i e) (set out i e)
@@ -104,5 +117,6 @@ greedy-least t c q k a {room} {target} {i} {top} {acc} {out} g e l b h f =
     is : (m x : ℕ) → i + suc m ≡ suc k → x < q → cell c (k - i) x ≡ comp (cell t) (suc i) m (suc x)
     is m x p y = let z : k - i ≡ m = omega arith in rw z (a .at (suc i) m x (omega arith) (omega arith) y)
 
-pub greedy-done : {w : ℕ → ℕ → ℕ} {room : ℕ} {target : FoundPlaces} {s i top acc : ℕ} {out : List ℕ} → Greedy w room target s i top acc out → s ≤ i → out ≡ places target
+pub greedy-done : {w : ℕ → ℕ → ℕ} {room : ℕ} {target : FoundPlaces} {s i top acc : ℕ} {out : List ℕ} →
+    Greedy w room target s i top acc out → s ≤ i → out ≡ places target
 greedy-done g l = greedy-end g l .1

@@ -1,5 +1,5 @@
--- The best completion tells whether a search among the profiles finds one; so the first overfull profile is found greedily, and
--- the heaviest profile is the best completion from class 0 on. Only the classes and due times in use count.
+-- The best completion tells whether a search among the profiles finds one; so the first overfull profile is found
+-- greedily, and the heaviest profile is the best completion from class 0 on. Only the classes and due times in use count.
 use Prim.Native.Nat.{ℕ, zero, suc, _+_, _*_, _<_, _≤_, max}
 use mathlib.Core.Path.{_≡_, refl, sym, ap, _∙_}
 use mathlib.Core.List.{List, [], _∷_, _++_, map}
@@ -17,11 +17,13 @@ use Rattle.tables.specs.Tables.{comp, firstFrom, put}
 use Rattle.tables.specs.PlacesLaws.{orElse, first-append, first-step, Below, first-cong}
 use Rattle.tables.specs.NumberLaws.{most-cong, most-le}
 
-pub comp-le : (w : ℕ → ℕ → ℕ) → ((i d : ℕ) → i < 16 → d < 48 → w i d ≤ 40000000) → (i m b : ℕ) → i + m ≤ 16 → b ≤ 48 → comp w i m b ≤ m * 40000000
+pub comp-le : (w : ℕ → ℕ → ℕ) → ((i d : ℕ) → i < 16 → d < 48 → w i d ≤ 40000000) → (i m b : ℕ) → i + m ≤ 16 → b ≤ 48 →
+    comp w i m b ≤ m * 40000000
 unfolding comp
 comp-le w h i zero b l k = omega arith
 comp-le w h i (suc m) b l k =
-    most-le b (suc m * 40000000) _ (λ e q. omega (arith, h i e (omega arith) (omega arith), comp-le w h (suc i) m (suc e) (omega arith) (omega arith)))
+    most-le b (suc m * 40000000) _
+    (λ e q. omega (arith, h i e (omega arith) (omega arith), comp-le w h (suc i) m (suc e) (omega arith) (omega arith)))
 
 pub comp-none : (w : ℕ → ℕ → ℕ) (i b : ℕ) → comp w i 0 b ≡ 0
 unfolding comp
@@ -36,7 +38,8 @@ module _ (w : ℕ → ℕ → ℕ) (room : ℕ) where
   unfolding firstFrom firstSuch profiles
   first-zero acc i m = refl
 
-  pub first-suc : (acc i m b : ℕ) → firstFrom w room acc i (suc m) (suc b) ≡ orElse (firstFrom w room acc i (suc m) b) (put b (firstFrom w room (acc + w i b) (suc i) m (suc b)))
+  pub first-suc : (acc i m b : ℕ) → firstFrom w room acc i (suc m) (suc b) ≡ orElse (firstFrom w room acc i (suc m) b)
+      (put b (firstFrom w room (acc + w i b) (suc i) m (suc b)))
   unfolding firstFrom value
   first-suc acc i m b =
       first-step (λ ds. ltb room (acc + value w i ds)) m b
@@ -78,21 +81,26 @@ module _ (w : ℕ → ℕ → ℕ) (room : ℕ) where
             ]
       ]
 
-  pub finds-where : (acc i m b : ℕ) → room < acc + comp w i m (suc b) → (ds : List ℕ) × (firstFrom w room acc i m (suc b) ≡ found ds)
+  pub finds-where : (acc i m b : ℕ) → room < acc + comp w i m (suc b) →
+      (ds : List ℕ) × (firstFrom w room acc i m (suc b) ≡ found ds)
   finds-where acc i m b h = elim (outcome acc i m b) [ fails e l ↦ absurd (omega arith) | finds ds e l ↦ (ds, e) ]
 
-  pub none-more : (acc i m d : ℕ) → firstFrom w room acc i (suc m) d ≡ nothing → acc + w i d + comp w (suc i) m (suc d) ≤ room → firstFrom w room acc i (suc m) (suc d) ≡ nothing
+  pub none-more : (acc i m d : ℕ) → firstFrom w room acc i (suc m) d ≡ nothing →
+      acc + w i d + comp w (suc i) m (suc d) ≤ room → firstFrom w room acc i (suc m) (suc d) ≡ nothing
   none-more acc i m d e h =
       elim (outcome (acc + w i d) (suc i) m d) [
         | fails e' l ↦ first-suc acc i m d ∙ rw (e, e')
         | finds ds e' l ↦ absurd (omega arith)
       ]
 
-  pub none-below : (acc i m d : ℕ) → ((e : ℕ) → e < d → acc + w i e + comp w (suc i) m (suc e) ≤ room) → firstFrom w room acc i (suc m) d ≡ nothing
+  pub none-below : (acc i m d : ℕ) → ((e : ℕ) → e < d → acc + w i e + comp w (suc i) m (suc e) ≤ room) →
+      firstFrom w room acc i (suc m) d ≡ nothing
   none-below acc i m zero h = first-zero acc i m
   none-below acc i m (suc d) h = none-more acc i m d (none-below acc i m d (λ e l. h e (omega arith))) (h d (omega arith))
 
-  pub hit : (acc i m d b : ℕ) → firstFrom w room acc i (suc m) d ≡ nothing → room < acc + w i d + comp w (suc i) m (suc d) → d < b → firstFrom w room acc i (suc m) b ≡ put d (firstFrom w room (acc + w i d) (suc i) m (suc d))
+  pub hit : (acc i m d b : ℕ) → firstFrom w room acc i (suc m) d ≡ nothing →
+      room < acc + w i d + comp w (suc i) m (suc d) → d < b →
+      firstFrom w room acc i (suc m) b ≡ put d (firstFrom w room (acc + w i d) (suc i) m (suc d))
   hit acc i m d zero e h l = absurd (omega arith)
   hit acc i m d (suc b) e h l =
       elim (ℕ-discrete d b) [
@@ -107,7 +115,8 @@ module _ (w : ℕ → ℕ → ℕ) (room : ℕ → ℕ) (q : ℕ) where
   unfolding firstOverfullAt ranking firstSuch
   overfull-zero = refl
 
-  pub overfull-suc : (k : ℕ) → firstOverfullAt w room (suc k) q ≡ orElse (firstOverfullAt w room k q) (firstFrom w (room (suc k)) 0 0 (suc k) q)
+  pub overfull-suc : (k : ℕ) → firstOverfullAt w room (suc k) q ≡ orElse (firstOverfullAt w room k q)
+      (firstFrom w (room (suc k)) 0 0 (suc k) q)
   unfolding firstOverfullAt ranking overfullAt firstFrom
   overfull-suc k =
       first-append (overfullAt w room) (ranking k q) (profiles (suc k) q)
@@ -115,7 +124,8 @@ module _ (w : ℕ → ℕ → ℕ) (room : ℕ → ℕ) (q : ℕ) where
       (first-cong (suc k) q _ _ (λ ds l b. rw (l, zero-add)))
 
   -- the search stops at the first
-  pub overfull-stays : (k s : ℕ) (ds : List ℕ) → k ≤ s → firstOverfullAt w room k q ≡ found ds → firstOverfullAt w room s q ≡ found ds
+  pub overfull-stays : (k s : ℕ) (ds : List ℕ) → k ≤ s → firstOverfullAt w room k q ≡ found ds →
+      firstOverfullAt w room s q ≡ found ds
   overfull-stays k zero ds l e = let z : k ≡ 0 = omega arith in rw z at e
   overfull-stays k (suc s) ds l e =
       elim (ℕ-discrete k (suc s)) [
@@ -123,7 +133,8 @@ module _ (w : ℕ → ℕ → ℕ) (room : ℕ → ℕ) (q : ℕ) where
         | no z ↦ overfull-suc s ∙ rw (overfull-stays k s ds (omega arith) e)
       ]
 
-  pub overfull-none : (k : ℕ) → firstOverfullAt w room k q ≡ nothing → firstFrom w (room (suc k)) 0 0 (suc k) q ≡ nothing → firstOverfullAt w room (k + 1) q ≡ nothing
+  pub overfull-none : (k : ℕ) → firstOverfullAt w room k q ≡ nothing →
+      firstFrom w (room (suc k)) 0 0 (suc k) q ≡ nothing → firstOverfullAt w room (k + 1) q ≡ nothing
   overfull-none k e f = rw (add-one, overfull-suc k, e, f)
 
 largest-append : (f : List ℕ → ℕ) (xs ys : List (List ℕ)) → largest f (xs ++ ys) ≡ max (largest f xs) (largest f ys)
@@ -131,7 +142,8 @@ unfolding largest
 largest-append f [] ys = omega arith
 largest-append f (x ∷ xs) ys = omega (arith, largest-append f xs ys)
 
-largest-map : (f : List ℕ → ℕ) (d : ℕ) (xs : List (List ℕ)) → largest f (map (λ (ds : List ℕ). d ∷ ds) xs) ≡ largest (λ ds. f (d ∷ ds)) xs
+largest-map : (f : List ℕ → ℕ) (d : ℕ) (xs : List (List ℕ)) →
+    largest f (map (λ (ds : List ℕ). d ∷ ds) xs) ≡ largest (λ ds. f (d ∷ ds)) xs
 unfolding largest
 largest-map f d [] = refl
 largest-map f d (x ∷ xs) = omega (arith, largest-map f d xs)
@@ -146,7 +158,12 @@ profiles-some : (m b : ℕ) → 0 < length (profiles m (suc b))
 unfolding profiles
 profiles-some zero b = omega arith
 profiles-some (suc m) b =
-    omega (arith, length-append (profiles (suc m) b) (map (λ (ds : List ℕ). b ∷ ds) (profiles m (suc b))), length-map (profiles m (suc b)) (λ (ds : List ℕ). b ∷ ds), profiles-some m b)
+    omega (
+      arith,
+      length-append (profiles (suc m) b) (map (λ (ds : List ℕ). b ∷ ds) (profiles m (suc b))),
+      length-map (profiles m (suc b)) (λ (ds : List ℕ). b ∷ ds),
+      profiles-some m b,
+    )
 
 pub largest-comp : (w : ℕ → ℕ → ℕ) (i m b : ℕ) → largest (value w i) (profiles m b) ≡ comp w i m b
 unfolding largest profiles value comp most
@@ -168,21 +185,33 @@ best-comp w k q = largest-comp w 0 k q
 
 -- only the classes below s and the due times below q count
 module _ (w w' : ℕ → ℕ → ℕ) where
-  value-cong : (b i : ℕ) (ds : List ℕ) → ((x d : ℕ) → x < i + length ds → d < b → w x d ≡ w' x d) → Below b ds → value w i ds ≡ value w' i ds
+  value-cong : (b i : ℕ) (ds : List ℕ) → ((x d : ℕ) → x < i + length ds → d < b → w x d ≡ w' x d) → Below b ds →
+      value w i ds ≡ value w' i ds
   unfolding value
   value-cong b i [] h k = refl
-  value-cong b i (d ∷ ds) h k = omega (arith, h i d (omega arith) (k .0), value-cong b (suc i) ds (λ x d l m. h x d (omega arith) m) (k .1))
+  value-cong b i (d ∷ ds) h k = omega (
+    arith,
+    h i d (omega arith) (k .0),
+    value-cong b (suc i) ds
+        (λ x d l m. h x d (omega arith) m) (k .1),
+  )
 
   pub comp-cong : (i m b : ℕ) → ((x d : ℕ) → x < i + m → d < b → w x d ≡ w' x d) → comp w i m b ≡ comp w' i m b
   unfolding comp
   comp-cong i zero b h = refl
   comp-cong i (suc m) b h =
-      most-cong b _ _ (λ e l. omega (arith, h i e (omega arith) l, comp-cong (suc i) m (suc e) (λ x d p r. h x d (omega arith) (omega arith))))
+      most-cong b _ _ (λ e l. omega (
+        arith,
+        h i e (omega arith) l,
+        comp-cong (suc i) m (suc e)
+            (λ x d p r. h x d (omega arith) (omega arith)),
+      ))
 
   pub best-cong : (k q : ℕ) → ((x d : ℕ) → x < k → d < q → w x d ≡ w' x d) → best w k q ≡ best w' k q
   best-cong k q h = best-comp w k q ∙ (comp-cong 0 k q (λ x d l m. h x d (omega arith) m) ∙ sym (best-comp w' k q))
 
-  pub overfull-cong : (room room' : ℕ → ℕ) (s q : ℕ) → ((x d : ℕ) → x < s → d < q → w x d ≡ w' x d) → ((k : ℕ) → k < s → room (suc k) ≡ room' (suc k))
+  pub overfull-cong : (room room' : ℕ → ℕ) (s q : ℕ) → ((x d : ℕ) → x < s → d < q → w x d ≡ w' x d) →
+      ((k : ℕ) → k < s → room (suc k) ≡ room' (suc k))
       → firstOverfullAt w room s q ≡ firstOverfullAt w' room' s q
   unfolding firstFrom
   overfull-cong room room' zero q h r = overfull-zero w room q ∙ sym (overfull-zero w' room' q)
@@ -190,5 +219,6 @@ module _ (w w' : ℕ → ℕ → ℕ) where
       overfull-suc w room q s
       ∙ (rw (overfull-cong room room' s q (λ x d l m. h x d (omega arith) m) (λ k l. r k (omega arith)), r s (omega arith))
       (ap (orElse (firstOverfullAt w' room' s q))
-      (first-cong (suc s) q _ _ (λ ds l b. ap (λ (v : ℕ). ltb (room' (suc s)) (0 + v)) (value-cong q 0 ds (λ x d p m. h x d (omega (arith, l)) m) b)))
+      (first-cong (suc s) q _ _ (λ ds l b. ap (λ (v : ℕ). ltb (room' (suc s)) (0 + v))
+      (value-cong q 0 ds (λ x d p m. h x d (omega (arith, l)) m) b)))
       ∙ sym (overfull-suc w' room' q s)))

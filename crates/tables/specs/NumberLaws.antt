@@ -64,9 +64,11 @@ ceil-le a b r h l =
     let x : a + (b - 1) < suc r * b = omega arith in
     omega (arith, div-lt-iff-lt-mul {k = b} {x = a + (b - 1)} {y = suc r} h .1 x)
 
--- A list filled from the front: what holds of each element below i, and of v, holds of each below i + 1 after v is stored at i.
+-- A list filled from the front: what holds of each element below i, and of v, holds of each below i + 1 after v is stored
+-- at i.
 module _ {A : Type 0} (P : ℕ → A → Type 0) (d : A) where
-  pub fill-at : (xs : List A) (i : ℕ) (v : A) → i < length xs → ((k : ℕ) → k < i → P k (getD xs k d)) → P i v → (k : ℕ) → k < i + 1 → P k (getD (set xs i v) k d)
+  pub fill-at : (xs : List A) (i : ℕ) (v : A) → i < length xs → ((k : ℕ) → k < i → P k (getD xs k d)) → P i v → (k : ℕ) →
+      k < i + 1 → P k (getD (set xs i v) k d)
   fill-at xs i v h old new =
       more-below (λ (k : ℕ). P k (getD (set xs i v) k d)) i
       (λ k l. rw (getD-set-other xs i k v d (λ e. omega arith)) (old k l))

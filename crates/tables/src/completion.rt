@@ -1,5 +1,5 @@
-// The best completions: what the later classes of a staircase can weigh at most, once the earlier ones are settled. All serve
-// the search and have a `requires`.
+// The best completions: what the later classes of a staircase can weigh at most, once the earlier ones are settled. All
+// serve the search and have a `requires`.
 ghost use mathlib.Core.Path.{_≡_};
 ghost use Prim.Native.Nat.{ℕ, suc, _+_, _<_, _≤_, max};
 ghost use lib.ListN.{getD};

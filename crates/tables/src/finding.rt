@@ -1,6 +1,6 @@
-// The first overfull staircase in ranking order: the fewest classes, then the earliest due time for class 1, then for class 2,
-// and so on. A due time is taken as soon as the best completion shows that the staircase can still be made overfull. All serve
-// the crate above and have a `requires`.
+// The first overfull staircase in ranking order: the fewest classes, then the earliest due time for class 1, then for
+// class 2, and so on. A due time is taken as soon as the best completion shows that the staircase can still be made
+// overfull. All serve the crate above and have a `requires`.
 use super::Outcome;
 use super::Stop;
 use super::completion::completions;

@@ -1,5 +1,5 @@
-// The search for the first overfull staircase, over a table of what each class weighs at each due time. It knows of no order:
-// the crate above fills the table.
+// The search for the first overfull staircase, over a table of what each class weighs at each due time. It knows of no
+// order: the crate above fills the table.
 pub mod completion; // the best completions, and the heaviest staircase
 pub mod finding; // the first overfull staircase
 

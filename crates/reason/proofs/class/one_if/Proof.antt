@@ -1,14 +1,12 @@
 use borrow.Author.Tests.{eq-eqb, ne-eqb}
-use borrow.Author.Needs.{needs}
-use native.Mathlib.Omega.{arith}
 use Rattle.reason.proofs.class.one_if.Statement.{statement}
 use Rattle.reason.proofs.class.one_if.Tie as tie
-use Rattle.reason.proofs.class.one_if.Reads as reads
-use Rattle.reason.proofs.class.one_if.Lts as lts
 
 returns : tie.Need-returns
 returns c = simp (eq-eqb _ _ (c .if1 .taken))
+
 returns-2 : tie.Need-returns-2
 returns-2 c = simp (ne-eqb _ _ (c .if1 .left))
+
 pub one-if-spec : {M : Type 1} → statement M
 one-if-spec = tie.close (tie.spec returns returns-2)

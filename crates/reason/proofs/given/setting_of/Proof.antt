@@ -1,36 +1,36 @@
-use Rattle.reason.specs.Matching.{matches-made}
 use borrow.Author.Needs.{needs}
-use native.Mathlib.Omega.{arith}
+use Rattle.reason.specs.Matching.{matches-made}
 use Rattle.reason.proofs.given.setting_of.Statement.{statement}
 use Rattle.reason.proofs.given.setting_of.Tie as tie
-use Rattle.reason.proofs.given.setting_of.Reads as reads
-use Rattle.reason.proofs.given.setting_of.Lts as lts
-use Rattle.reason.proofs.class.classes_of.Reads as classes-of-reads
-use Rattle.reason.proofs.class.classes_of_jobs.Reads as classes-of-jobs-reads
-use Rattle.reason.proofs.class.processors_by_class.Reads as processors-by-class-reads
-use Rattle.reason.proofs.lead.grid_of.Reads as grid-of-reads
-use Rattle.reason.proofs.lead.leads_of.Reads as leads-of-reads
 
 classes-of-requires : tie.Need-classes-of-requires
 classes-of-requires c κs = search needs
+
 grid-of-requires : tie.Need-grid-of-requires
 grid-of-requires c κs = search needs
+
 cast-t6 : tie.Need-cast-t6
 cast-t6 c = search needs
+
 classes-of-jobs-requires : tie.Need-classes-of-jobs-requires
 classes-of-jobs-requires c κs = search needs
+
 leads-of-requires : tie.Need-leads-of-requires
 leads-of-requires c κs = search needs
+
 processors-by-class-requires : tie.Need-processors-by-class-requires
 processors-by-class-requires c κs = search needs
+
 returns : tie.Need-returns
 returns c =
     let s = c .before .before .before .before .before .before .before .before in
     let m = c .before .before .before .before .before .before .before .classes-of in
     let g = c .before .before .before .before .before .before .grid-of in
-    matches-made (s .args .order) (m .result) (g .result) (c .before .before .classes-of-jobs .result) (c .before .leads-of .result)
+    matches-made (s .args .order) (m .result) (g .result) (c .before .before .classes-of-jobs .result)
+    (c .before .leads-of .result)
     (c .processors-by-class .result) (m .ensures) (g .ensures) (c .before .before .classes-of-jobs .ensures)
     (c .before .leads-of .ensures) (c .processors-by-class .ensures)
+
 pub setting-of-spec : {M : Type 1} → statement M
 setting-of-spec =
     tie.close

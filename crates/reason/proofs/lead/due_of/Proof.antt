@@ -1,12 +1,9 @@
-use Prim.Native.Nat.{_-_}
+use borrow.Author.Needs.{needs}
 use mir.Syntax.{w32}
 use mir.ValLaws.{toZ-ofZ}
 use Rattle.reason.proofs.Dues.{due-fits, due-machine}
-use borrow.Author.Needs.{needs}
 use Rattle.reason.proofs.lead.due_of.Statement.{statement}
 use Rattle.reason.proofs.lead.due_of.Tie as tie
-use Rattle.reason.proofs.lead.due_of.Reads as reads
-use Rattle.reason.proofs.lead.due_of.Lts as lts
 
 cast-result : tie.Need-cast-result
 cast-result c = search needs

@@ -1,17 +1,15 @@
-
 use Rattle.reason.proofs.Dues.{lead-fits, lead-casts, lead-read}
-use borrow.Author.Needs.{needs}
-use native.Mathlib.Omega.{arith}
 use Rattle.reason.proofs.lead.lead_of.Statement.{statement}
 use Rattle.reason.proofs.lead.lead_of.Tie as tie
-use Rattle.reason.proofs.lead.lead_of.Reads as reads
-use Rattle.reason.proofs.lead.lead_of.Lts as lts
 
 sub-result : tie.Need-sub-result
 sub-result c = lead-fits _ (c .fits .due) (c .pre)
+
 cast-result : tie.Need-cast-result
 cast-result c = lead-casts _ (c .fits .due) (c .pre)
+
 returns : tie.Need-returns
 returns c = lead-read _ (c .fits .due) (c .pre)
+
 pub lead-of-spec : {M : Type 1} → statement M
 lead-of-spec = tie.close (tie.spec sub-result cast-result returns)

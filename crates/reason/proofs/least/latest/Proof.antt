@@ -2,15 +2,14 @@ use Prim.Native.Nat.{ℕ, suc, _+_, _-_, _≤_}
 use mathlib.Core.Path.{_≡_, sym}
 use native.Mathlib.Omega.{arith}
 use native.Mathlib.Numerals.{add-one}
+use borrow.Author.Needs.{needs}
 use lib.ListN.{getD}
 use Rattle.profile.specs.Least.{most}
 use Rattle.tables.specs.NumberLaws.{most-none, most-suc}
-use borrow.Author.Needs.{needs}
 use Rattle.reason.proofs.least.latest.Statement.{statement}
 use Rattle.reason.proofs.least.latest.Tie as tie
-use Rattle.reason.proofs.least.latest.Reads as reads
-use Rattle.reason.proofs.least.latest.Lts as lts
 
+-- the largest among the first j jobs
 abbrev Inv-loop : tie.InvT-loop
 Inv-loop o n r₀ j₀ r j = (j ≤ o .n) × (r ≡ most j (λ j. getD (o .times) j 0 + getD (o .leads) j 0)) × (r ≤ 2100000)
 
@@ -52,8 +51,16 @@ loop-again c =
     let s = c .before .before .before .before .before in
     let l = c .before .before .before .before .loop in
     let f : ℕ → ℕ = λ j. getD (s .args .t1 .times) j 0 + getD (s .args .t1 .leads) j 0 in
-    let e : c .larger .result ≡ most (suc (l .j)) f = omega (arith, c .larger .ensures, l .inv .1, most-suc (l .j) f) in
-    (search needs, rw add-one e, omega (arith, c .larger .ensures, s .pre .times (l .j) (omega arith), s .pre .leads (l .j) (omega arith)))
+    let e : c .larger .result ≡ most (suc (l .j)) f = omega (arith, c .larger .ensures, l .inv .1, most-suc (l .j) f) in (
+      search needs,
+      rw add-one e,
+      omega (
+        arith,
+        c .larger .ensures,
+        s .pre .times (l .j) (omega arith),
+        s .pre .leads (l .j) (omega arith),
+      ),
+    )
 
 returns : tie.Need-returns Inv-loop μ-loop
 returns c =

@@ -2,6 +2,7 @@ use Prim.Native.Nat.{ℕ, suc, _+_, _-_, _<_, _≤_, max}
 use mathlib.Core.Path.{_≡_, sym, ap, _∙_}
 use native.Mathlib.Omega.{arith}
 use native.Mathlib.Numerals.{add-one}
+use borrow.Author.Needs.{needs}
 use lib.ListN.{getD}
 use Rattle.profile.specs.Least.{most}
 use Rattle.tables.specs.Places.{best}
@@ -10,12 +11,10 @@ use Rattle.tables.specs.NumberLaws.{most-none, most-suc}
 use Rattle.tables.specs.CompletionLaws.{best-cong}
 use Rattle.reason.specs.Settings.{weight, procsTo, latestOf, leastFor, reachOf}
 use Rattle.reason.specs.WeightLaws.{procs-none, procs-suc, procs-le, procs-pos, small-table, reach-most}
-use borrow.Author.Needs.{needs}
 use Rattle.reason.proofs.least.least_reach.Statement.{statement}
 use Rattle.reason.proofs.least.least_reach.Tie as tie
-use Rattle.reason.proofs.least.least_reach.Reads as reads
-use Rattle.reason.proofs.least.least_reach.Lts as lts
 
+-- the least reach for the jobs and the first k class counts
 abbrev Inv-loop : tie.InvT-loop
 Inv-loop o t s q r₀ m₀ k₀ r m k = (k ≤ o .s) × (m ≡ procsTo o k) × (r ≡ max (latestOf o) (most k (λ k. leastFor o (suc k))))
 
@@ -29,7 +28,11 @@ latest-requires : tie.Need-latest-requires Inv-loop μ-loop
 latest-requires c κs = search needs
 
 loop-holds : tie.Need-loop-holds Inv-loop μ-loop
-loop-holds c = (search needs, sym (procs-none _), omega (arith, c .latest .ensures .0, most-none (λ k. leastFor (c .before .before .args .t1) (suc k))))
+loop-holds c = (
+  search needs,
+  sym (procs-none _),
+  omega (arith, c .latest .ensures .0, most-none (λ k. leastFor (c .before .before .args .t1) (suc k))),
+)
 
 mul-m : tie.Need-mul-m Inv-loop μ-loop
 mul-m c = search needs
@@ -46,8 +49,13 @@ add-m c =
 
 heaviest-requires : tie.Need-heaviest-requires Inv-loop μ-loop
 heaviest-requires c κs =
-    let s = c .before .before .before .before .before in
-    (omega (arith, s .pre .classed), s .pre .dues, s .pre .some-due, small-table _ _ (s .pre) (c .before .before .before .before .table .ensures))
+    let s = c .before .before .before .before .before in (
+      omega (arith, s .pre .classed),
+      s .pre .dues,
+      s .pre .some-due,
+      small-table _ _ (s .pre)
+          (c .before .before .before .before .table .ensures),
+    )
 
 divide-up-requires : tie.Need-divide-up-requires Inv-loop μ-loop
 divide-up-requires c κs =
@@ -74,12 +82,15 @@ loop-again c =
     let l = c .before .before .before .before .before .loop in
     let o = s .args .t1 in
     let m : l .m + getD (o .procs) (l .k) 0 ≡ procsTo o (suc (l .k)) = omega (arith, l .inv .1, procs-suc o (l .k)) in
+    let w = c .before .before .before .before .before .before .before .table in
     let b : c .before .before .heaviest .result ≡ best (weight o) (suc (l .k)) (o .q)
-    = c .before .before .heaviest .ensures .0 ∙ best-cong (cell (c .before .before .before .before .before .before .before .table .result)) (weight o) (suc (l .k)) (o .q)
-    (λ x d h p. c .before .before .before .before .before .before .before .table .ensures x (omega (arith, s .pre .classed)) .at d (omega (arith, s .pre .dues))) in
+    = c .before .before .heaviest .ensures .0
+    ∙ best-cong (cell (w .result)) (weight o) (suc (l .k)) (o .q)
+    (λ x d h p. w .ensures x (omega (arith, s .pre .classed)) .at d (omega (arith, s .pre .dues))) in
     let d : c .before .divide-up .result ≡ leastFor o (suc (l .k)) = c .before .divide-up .ensures ∙ rw (m, b) in
     let f : ℕ → ℕ = λ k. leastFor o (suc k) in
-    let e : c .larger .result ≡ max (latestOf o) (most (suc (l .k)) f) = omega (arith, c .larger .ensures, l .inv .2, d, most-suc (l .k) f) in
+    let e : c .larger .result ≡ max (latestOf o) (most (suc (l .k)) f) =
+    omega (arith, c .larger .ensures, l .inv .2, d, most-suc (l .k) f) in
     (search needs, rw add-one m, rw add-one e)
 
 returns : tie.Need-returns Inv-loop μ-loop

@@ -1,15 +1,13 @@
-use Prim.Native.Nat.{_-_, _*_}
+use Prim.Native.Nat.{_*_}
 use mathlib.Core.Path.{ap, _∙_}
 use native.Mathlib.Omega.{arith}
+use borrow.Author.Needs.{needs}
 use Rattle.tables.specs.Tables.{cell, roomOf, stopAt}
 use Rattle.tables.specs.CompletionLaws.{overfull-cong}
 use Rattle.reason.specs.Settings.{weight, procsTo, firstOf}
 use Rattle.reason.specs.WeightLaws.{small-table}
-use borrow.Author.Needs.{needs}
 use Rattle.reason.proofs.stairs.first_overfull.Statement.{statement}
 use Rattle.reason.proofs.stairs.first_overfull.Tie as tie
-use Rattle.reason.proofs.stairs.first_overfull.Reads as reads
-use Rattle.reason.proofs.stairs.first_overfull.Lts as lts
 
 table-requires : tie.Need-table-requires
 table-requires c κs = search needs
@@ -18,15 +16,18 @@ rooms-at-requires : tie.Need-rooms-at-requires
 rooms-at-requires c κs = search needs
 
 find-requires : tie.Need-find-requires
-find-requires c κs = let s = c .before .before in (s .pre .0 .classed, s .pre .0 .dues, s .pre .0 .some-due, small-table _ _ (s .pre .0) (c .before .table .ensures))
+find-requires c κs = let s = c .before .before in
+    (s .pre .0 .classed, s .pre .0 .dues, s .pre .0 .some-due, small-table _ _ (s .pre .0) (c .before .table .ensures))
 
 returns : tie.Need-returns
 unfolding firstOf
 returns c =
     let s = c .before .before .before in
     c .find .ensures
-    ∙ ap stopAt (overfull-cong (cell (c .before .before .table .result)) (weight (s .args .o)) (roomOf (c .before .rooms-at .result)) (λ k. procsTo (s .args .o) k * s .args .reach) (s .args .o .s) (s .args .o .q)
-    (λ x d h l. c .before .before .table .ensures x (omega (arith, s .pre .0 .classed)) .at d (omega (arith, s .pre .0 .dues)))
+    ∙ ap stopAt (overfull-cong (cell (c .before .before .table .result)) (weight (s .args .o))
+    (roomOf (c .before .rooms-at .result)) (λ k. procsTo (s .args .o) k * s .args .reach) (s .args .o .s) (s .args .o .q)
+    (λ x d h l. c .before .before .table .ensures x (omega (arith, s .pre .0 .classed)) .at d
+    (omega (arith, s .pre .0 .dues)))
     (λ k h. c .before .rooms-at .ensures .at k (omega (arith, s .pre .0 .classed))))
 
 pub first-overfull-spec : {M : Type 1} → statement M

@@ -3,17 +3,16 @@ use mathlib.Core.Path.{_≡_, refl, sym, ap}
 use native.Mathlib.Omega.{arith}
 use native.Mathlib.Nat.{mul-le-mul}
 use native.Mathlib.Numerals.{add-one}
+use borrow.Author.Needs.{needs}
 use lib.ListN.{length, getD}
 use Rattle.tables.specs.Tables.{RowOf}
 use Rattle.tables.specs.NumberLaws.{fill-at}
 use Rattle.reason.specs.Settings.{procsTo}
 use Rattle.reason.specs.WeightLaws.{procs-none, procs-suc, procs-le}
-use borrow.Author.Needs.{needs}
 use Rattle.reason.proofs.stairs.rooms_at.Statement.{statement}
 use Rattle.reason.proofs.stairs.rooms_at.Tie as tie
-use Rattle.reason.proofs.stairs.rooms_at.Reads as reads
-use Rattle.reason.proofs.stairs.rooms_at.Lts as lts
 
+-- the processors of the first k classes, and the rooms up to k
 abbrev Inv-loop : tie.InvT-loop
 Inv-loop reach o r₀ m₀ k₀ r m k = (k ≤ 16) × (length r ≡ 16) × (m ≡ procsTo o k) × RowOf (λ k. procsTo o (suc k) * reach) k r
 
@@ -39,7 +38,14 @@ mul-r : tie.Need-mul-r Inv-loop μ-loop
 mul-r c =
     let s = c .before .before .before in
     let l = c .before .before .loop in
-    let m : l .m + getD (s .args .t1 .procs) (l .k) 0 ≤ 256 = omega (arith, l .inv .2, procs-suc (s .args .t1) (l .k), procs-le (s .args .t1) (s .pre .0) (suc (l .k)) (omega arith)) in
+    let m : l .m + getD (s .args .t1 .procs) (l .k) 0 ≤ 256 =
+    omega (
+      arith,
+      l .inv .2,
+      procs-suc (s .args .t1) (l .k),
+      procs-le (s .args .t1) (s .pre .0) (suc (l .k))
+          (omega arith),
+    ) in
     let p : (l .m + getD (s .args .t1 .procs) (l .k) 0) * s .args .reach ≤ 256 * 11000000 = mul-le-mul m (s .pre .1) in
     omega (arith, p)
 
@@ -59,8 +65,16 @@ loop-again : tie.Need-loop-again Inv-loop μ-loop
 loop-again c =
     let s = c .before .before .before in
     let l = c .before .before .loop in
-    let e : l .m + getD (s .args .t1 .procs) (l .k) 0 ≡ procsTo (s .args .t1) (suc (l .k)) = omega (arith, l .inv .2, procs-suc (s .args .t1) (l .k)) in
-    (search needs, search needs, rw add-one e, record { at = fill-at (λ (k v : ℕ). v ≡ procsTo (s .args .t1) (suc k) * s .args .reach) 0 (l .r) (l .k) _ (search needs) (l .inv .3 .at) (ap (λ (x : ℕ). x * s .args .reach) e) })
+    let e : l .m + getD (s .args .t1 .procs) (l .k) 0 ≡ procsTo (s .args .t1) (suc (l .k)) =
+    omega (arith, l .inv .2, procs-suc (s .args .t1) (l .k)) in (
+      search needs,
+      search needs,
+      rw add-one e,
+      record {
+        at = fill-at (λ (k v : ℕ). v ≡ procsTo (s .args .t1) (suc k) * s .args .reach) 0 (l .r) (l .k) _
+            (search needs) (l .inv .3 .at) (ap (λ (x : ℕ). x * s .args .reach) e);
+      },
+    )
 
 returns : tie.Need-returns Inv-loop μ-loop
 returns c = record { at = λ k h. c .before .loop .inv .3 .at k (omega arith) }

@@ -1,18 +1,17 @@
 use Prim.Native.Nat.{ℕ, _-_, _<_, _≤_}
 use mathlib.Core.Path.{_≡_, refl, _∙_}
 use native.Mathlib.Omega.{arith}
+use borrow.Author.Needs.{needs}
 use lib.IntN.{pos}
 use lib.ListN.{length, getD}
 use mir.Syntax.{w32}
 use mir.ValLaws.{toZ-ofZ}
 use Rattle.reason.specs.Settings.{dueOr}
 use Rattle.reason.proofs.Dues.{dues-none, dues-more, due-fits}
-use borrow.Author.Needs.{needs}
 use Rattle.reason.proofs.tell.dues_of.Statement.{statement}
 use Rattle.reason.proofs.tell.dues_of.Tie as tie
-use Rattle.reason.proofs.tell.dues_of.Reads as reads
-use Rattle.reason.proofs.tell.dues_of.Lts as lts
 
+-- the due times of the first i places stand in the array
 abbrev Inv-loop : tie.InvT-loop
 Inv-loop k grid at count r₀ i₀ r i = (i ≤ k) × (length r ≡ 16) × ((x : ℕ) → x < 16 → getD r x (pos 0) ≡ dueOr grid at i x)
 
@@ -56,7 +55,8 @@ loop-again : tie.Need-loop-again Inv-loop μ-loop
 loop-again c =
     let s = c .before .before .before in
     let l = c .before .before .loop in
-    let small : getD (s .args .t1) (getD (s .args .t2) (l .i) 0) 0 ≤ 2000000 = s .pre .2 _ (s .pre .1 (l .i) (omega arith)) in
+    let small : getD (s .args .t1) (getD (s .args .t2) (l .i) 0) 0 ≤ 2000000 =
+    s .pre .2 _ (s .pre .1 (l .i) (omega arith)) in
     let e = toZ-ofZ w32 (c .due-of .result) (rw (c .due-of .ensures) (due-fits _ small)) ∙ c .due-of .ensures in
     (search needs, search needs, dues-more (s .args .t1) (s .args .t2) (l .r) (l .i) _ (omega arith) e (l .inv .2))
 

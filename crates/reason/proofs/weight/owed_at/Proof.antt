@@ -1,16 +1,15 @@
 use Prim.Native.Nat.{ℕ, _-_, _*_, _≤_}
 use mathlib.Core.Path.{_≡_, sym, ap, _∙_}
 use native.Mathlib.Omega.{arith}
+use borrow.Author.Needs.{needs}
 use Rattle.sums.specs.Sum.{sum}
 use Rattle.tables.specs.NumberLaws.{sum-none, sum-more}
 use Rattle.reason.specs.Settings.{owes, minutesAt}
 use Rattle.reason.specs.WeightLaws.{owes-le}
-use borrow.Author.Needs.{needs}
 use Rattle.reason.proofs.weight.owed_at.Statement.{statement}
 use Rattle.reason.proofs.weight.owed_at.Tie as tie
-use Rattle.reason.proofs.weight.owed_at.Reads as reads
-use Rattle.reason.proofs.weight.owed_at.Lts as lts
 
+-- what the first j jobs owe
 abbrev Inv-loop : tie.InvT-loop
 Inv-loop k d o g n m₀ j₀ m j = (j ≤ o .n) × (m ≡ sum j (owes o k d)) × (m ≤ 100000 * j)
 
@@ -51,7 +50,12 @@ add-minutes : tie.Need-add-minutes Inv-loop μ-loop
 add-minutes c =
     let s = c .before .before .before .before .before .before .before in
     let l = c .before .before .before .before .before .loop in
-    omega (arith, c .share .ensures, owes-le (s .args .t1) (s .pre .0) (s .args .k) (s .args .d) (l .j) (omega arith), s .pre .0 .jobs)
+    omega (
+      arith,
+      c .share .ensures,
+      owes-le (s .args .t1) (s .pre .0) (s .args .k) (s .args .d) (l .j) (omega arith),
+      s .pre .0 .jobs,
+    )
 
 add-j : tie.Need-add-j Inv-loop μ-loop
 add-j c = search needs
@@ -63,8 +67,11 @@ loop-again : tie.Need-loop-again Inv-loop μ-loop
 loop-again c =
     let s = c .before .before .before .before .before .before .before in
     let l = c .before .before .before .before .before .loop in
-    let small = owes-le (s .args .t1) (s .pre .0) (s .args .k) (s .args .d) (l .j) (omega arith) in
-    (search needs, omega (arith, c .share .ensures, sum-more (l .j) (owes (s .args .t1) (s .args .k) (s .args .d))), omega (arith, c .share .ensures, small))
+    let small = owes-le (s .args .t1) (s .pre .0) (s .args .k) (s .args .d) (l .j) (omega arith) in (
+      search needs,
+      omega (arith, c .share .ensures, sum-more (l .j) (owes (s .args .t1) (s .args .k) (s .args .d))),
+      omega (arith, c .share .ensures, small),
+    )
 
 returns : tie.Need-returns Inv-loop μ-loop
 unfolding minutesAt

@@ -1,16 +1,15 @@
 use Prim.Native.Nat.{ℕ, _-_, _≤_}
 use mathlib.Core.Path.{_≡_}
 use native.Mathlib.Omega.{arith}
+use borrow.Author.Needs.{needs}
 use lib.ListN.{length}
 use Rattle.tables.specs.Tables.{RowOf}
 use Rattle.tables.specs.NumberLaws.{fill-at}
 use Rattle.reason.specs.Settings.{minutesAt}
-use borrow.Author.Needs.{needs}
 use Rattle.reason.proofs.weight.owed_row.Statement.{statement}
 use Rattle.reason.proofs.weight.owed_row.Tie as tie
-use Rattle.reason.proofs.weight.owed_row.Reads as reads
-use Rattle.reason.proofs.weight.owed_row.Lts as lts
 
+-- the first d entries stand in the row
 abbrev Inv-loop : tie.InvT-loop
 Inv-loop o i r₀ d₀ r d = (d ≤ 48) × (length r ≡ 48) × RowOf (minutesAt o i) d r
 
@@ -38,8 +37,14 @@ loop-less c = search needs
 loop-again : tie.Need-loop-again Inv-loop μ-loop
 loop-again c =
     let l = c .before .before .loop in
-    let a = c .before .before .before .args in
-    (search needs, search needs, record { at = fill-at (λ (k v : ℕ). v ≡ minutesAt (a .t) (a .k) k) 0 (l .r) (l .d) (c .owed-at .result) (search needs) (l .inv .2 .at) (c .owed-at .ensures) })
+    let a = c .before .before .before .args in (
+      search needs,
+      search needs,
+      record {
+        at = fill-at (λ (k v : ℕ). v ≡ minutesAt (a .t) (a .k) k) 0 (l .r) (l .d)
+            (c .owed-at .result) (search needs) (l .inv .2 .at) (c .owed-at .ensures);
+      },
+    )
 
 returns : tie.Need-returns Inv-loop μ-loop
 returns c = record { at = λ d h. c .before .loop .inv .2 .at d (omega arith) }

@@ -1,10 +1,7 @@
-use Prim.Native.Nat.{_-_}
 use borrow.Author.Tests.{eq-eqb, ne-eqb}
 use borrow.Author.Needs.{needs}
 use Rattle.reason.proofs.weight.share.Statement.{statement}
 use Rattle.reason.proofs.weight.share.Tie as tie
-use Rattle.reason.proofs.weight.share.Reads as reads
-use Rattle.reason.proofs.weight.share.Lts as lts
 
 owed-requires : tie.Need-owed-requires
 owed-requires c κs = search needs

@@ -2,17 +2,16 @@ use Prim.Native.Nat.{ℕ, suc, _-_, _<_, _≤_}
 use mathlib.Core.Path.{_≡_}
 use mathlib.Core.List.{List, []}
 use native.Mathlib.Omega.{arith}
+use borrow.Author.Needs.{needs}
 use lib.ListN.{length, getD}
 use Rattle.tables.specs.Tables.{RowOf}
 use Rattle.tables.specs.NumberLaws.{fill-at}
 use Rattle.reason.specs.Settings.{weight}
 use Rattle.reason.specs.WeightLaws.{minutes-le, weight-is}
-use borrow.Author.Needs.{needs}
 use Rattle.reason.proofs.weight.table.Statement.{statement}
 use Rattle.reason.proofs.weight.table.Tie as tie
-use Rattle.reason.proofs.weight.table.Reads as reads
-use Rattle.reason.proofs.weight.table.Lts as lts
 
+-- the rows of the first i classes stand in the table
 abbrev Inv-loop : tie.InvT-loop
 Inv-loop o owed grid t₀ i₀ t i = (i ≤ 16) × (length t ≡ 16) × ((k : ℕ) → k < i → RowOf (weight o k) 48 (getD t k []))
 
@@ -41,8 +40,13 @@ weigh-row-requires : tie.Need-weigh-row-requires Inv-loop μ-loop
 weigh-row-requires c κs =
     let s = c .before .before .before .before .before .before in
     let i = c .before .before .before .loop .i in
-    let w = c .before .before .before .before .before .owed-table in
-    (s .pre .procs i (omega arith), λ d h. (omega (arith, w .ensures i (omega arith) .at d h, minutes-le (s .args .t1) (s .pre) (suc i) d), s .pre .grid d))
+    let w = c .before .before .before .before .before .owed-table in (
+      s .pre .procs i (omega arith),
+      λ d h. (
+        omega (arith, w .ensures i (omega arith) .at d h, minutes-le (s .args .t1) (s .pre) (suc i) d),
+        s .pre .grid d,
+      ),
+    )
 
 mul-t : tie.Need-mul-t Inv-loop μ-loop
 mul-t c = search needs
@@ -62,8 +66,19 @@ loop-again c =
     let l = c .before .before .before .before .loop in
     let w = c .before .before .before .before .before .before .owed-table in
     let new : RowOf (weight (s .args .t1) (l .i)) 48 (c .weigh-row .result)
-    = record { at = λ d h. omega (arith, c .weigh-row .ensures .at d h, w .ensures (l .i) (omega arith) .at d h, weight-is (s .args .t1) (l .i) d) } in
-    (search needs, search needs, fill-at (λ (k : ℕ) (r : List ℕ). RowOf (weight (s .args .t1) k) 48 r) [] (l .t) (l .i) (c .weigh-row .result) (search needs) (l .inv .2) new)
+    = record {
+      at = λ d h. omega (
+        arith,
+        c .weigh-row .ensures .at d h,
+        w .ensures (l .i) (omega arith) .at d h,
+        weight-is (s .args .t1) (l .i) d,
+      );
+    } in (
+      search needs,
+      search needs,
+      fill-at (λ (k : ℕ) (r : List ℕ). RowOf (weight (s .args .t1) k) 48 r) [] (l .t) (l .i)
+          (c .weigh-row .result) (search needs) (l .inv .2) new,
+    )
 
 returns : tie.Need-returns Inv-loop μ-loop
 returns c = λ i h. c .before .loop .inv .2 i (omega arith)

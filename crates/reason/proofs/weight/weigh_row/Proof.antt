@@ -2,15 +2,14 @@ use Prim.Native.Nat.{ℕ, _+_, _-_, _*_, _≤_}
 use mathlib.Core.Path.{_≡_, refl}
 use native.Mathlib.Omega.{arith}
 use native.Mathlib.Nat.{mul-le-mul}
+use borrow.Author.Needs.{needs}
 use lib.ListN.{length, getD}
 use Rattle.tables.specs.Tables.{RowOf}
 use Rattle.tables.specs.NumberLaws.{fill-at}
-use borrow.Author.Needs.{needs}
 use Rattle.reason.proofs.weight.weigh_row.Statement.{statement}
 use Rattle.reason.proofs.weight.weigh_row.Tie as tie
-use Rattle.reason.proofs.weight.weigh_row.Reads as reads
-use Rattle.reason.proofs.weight.weigh_row.Lts as lts
 
+-- the first d entries stand in the row
 abbrev Inv-loop : tie.InvT-loop
 Inv-loop p owed grid r₀ d₀ r d = (d ≤ 48) × (length r ≡ 48) × RowOf (λ d. getD owed d 0 + p * getD grid d 0) d r
 
@@ -59,8 +58,14 @@ loop-less c = search needs
 loop-again : tie.Need-loop-again Inv-loop μ-loop
 loop-again c =
     let a = c .before .before .args in
-    let l = c .before .loop in
-    (search needs, search needs, record { at = fill-at (λ (k v : ℕ). v ≡ getD (a .t1) k 0 + a .p * getD (a .t3) k 0) 0 (l .r) (l .d) _ (search needs) (l .inv .2 .at) refl })
+    let l = c .before .loop in (
+      search needs,
+      search needs,
+      record {
+        at = fill-at (λ (k v : ℕ). v ≡ getD (a .t1) k 0 + a .p * getD (a .t3) k 0) 0
+            (l .r) (l .d) _ (search needs) (l .inv .2 .at) refl;
+      },
+    )
 
 returns : tie.Need-returns Inv-loop μ-loop
 returns c = record { at = λ d h. c .before .loop .inv .2 .at d (omega arith) }

@@ -10,8 +10,11 @@ use Rattle.tables.specs.NumberLaws.{most-none, most-suc, fill-at}
 use Rattle.tables.proofs.completion.above.Statement.{statement}
 use Rattle.tables.proofs.completion.above.Tie as tie
 
+-- the best so far, and the row up to d
 abbrev Inv-loop : tie.InvT-loop
-Inv-loop q w rest r₀ top₀ d₀ r top d = (d ≤ q) × (length r ≡ 48) × (top ≡ most d (λ x. getD w x 0 + getD rest x 0)) × RowOf (λ e. most (suc e) (λ x. getD w x 0 + getD rest x 0)) d r
+Inv-loop q w rest r₀ top₀ d₀ r top d =
+    (d ≤ q) × (length r ≡ 48) × (top ≡ most d (λ x. getD w x 0 + getD rest x 0))
+    × RowOf (λ e. most (suc e) (λ x. getD w x 0 + getD rest x 0)) d r
 
 abbrev μ-loop : tie.MeasureT-loop
 μ-loop q w rest r₀ top₀ d₀ r top d = q - d
@@ -54,8 +57,15 @@ loop-again c =
     let l = c .before .before .loop in
     let a = c .before .before .before .args in
     let f : ℕ → ℕ = λ x. getD (a .t1) x 0 + getD (a .t2) x 0 in
-    let e : c .larger .result ≡ most (suc (l .d)) f = omega (arith, c .larger .ensures, l .inv .2, most-suc (l .d) f) in
-    (search needs, search needs, rw add-one e, record { at = fill-at (λ (k v : ℕ). v ≡ most (suc k) f) 0 (l .r) (l .d) (c .larger .result) (search needs) (l .inv .3 .at) e })
+    let e : c .larger .result ≡ most (suc (l .d)) f = omega (arith, c .larger .ensures, l .inv .2, most-suc (l .d) f) in (
+      search needs,
+      search needs,
+      rw add-one e,
+      record {
+        at = fill-at (λ (k v : ℕ). v ≡ most (suc k) f) 0 (l .r) (l .d)
+            (c .larger .result) (search needs) (l .inv .3 .at) e;
+      },
+    )
 
 returns : tie.Need-returns Inv-loop μ-loop
 returns c = record { at = λ e h. c .before .loop .inv .3 .at e (omega arith) }

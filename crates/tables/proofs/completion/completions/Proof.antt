@@ -9,6 +9,7 @@ use Rattle.tables.proofs.Rows.{completed-none, completed-more, complete
 use Rattle.tables.proofs.completion.completions.Statement.{statement}
 use Rattle.tables.proofs.completion.completions.Tie as tie
 
+-- the completions of up to m classes stand in the table
 abbrev Inv-loop : tie.InvT-loop
 Inv-loop k q t c₀ m₀ c m = (m ≤ k) × (length c ≡ 16) × Completed t (suc k) q m c
 
@@ -40,7 +41,11 @@ above-requires c κs =
       search needs,
       λ e h. (
         s .pre .2 .at (s .args .k - l .m) e (omega arith) (omega arith),
-        omega (arith, completed-le (s .args .t1) (l .c) (suc (s .args .k)) (s .args .q) (l .m) (suc (s .args .k) - l .m) (l .m) e (s .pre .2) (l .inv .2) (omega arith) (omega arith) (omega arith) (omega arith) h),
+        omega (
+          arith,
+          completed-le (s .args .t1) (l .c) (suc (s .args .k)) (s .args .q) (l .m) (suc (s .args .k) - l .m)
+              (l .m) e (s .pre .2) (l .inv .2) (omega arith) (omega arith) (omega arith) (omega arith) h,
+        ),
       ),
     )
 
@@ -62,8 +67,12 @@ loop-less c = search needs
 loop-again : tie.Need-loop-again Inv-loop μ-loop
 loop-again c =
     let s = c .before .before .before .before .before in
-    let l = c .before .before .before .before .loop in
-    (search needs, search needs, completed-more (s .args .t1) (l .c) (suc (s .args .k)) (s .args .q) (l .m) (s .args .k - l .m) (c .above .result) (omega arith) (omega arith) (l .inv .2) (c .above .ensures))
+    let l = c .before .before .before .before .loop in (
+      search needs,
+      search needs,
+      completed-more (s .args .t1) (l .c) (suc (s .args .k)) (s .args .q) (l .m)
+          (s .args .k - l .m) (c .above .result) (omega arith) (omega arith) (l .inv .2) (c .above .ensures),
+    )
 
 returns : tie.Need-returns Inv-loop μ-loop
 returns c =

@@ -24,7 +24,11 @@ above-requires c κs =
       search needs,
       λ e h. (
         s .pre .3 .at 0 e (omega arith) (omega arith),
-        omega (arith, completed-le (s .args .t1) (m .result) (suc (s .args .k)) (s .args .q) (s .args .k) 1 (s .args .k) e (s .pre .3) (m .ensures) (omega arith) (omega arith) (omega arith) (omega arith) h),
+        omega (
+          arith,
+          completed-le (s .args .t1) (m .result) (suc (s .args .k)) (s .args .q) (s .args .k) 1 (s .args .k) e
+              (s .pre .3) (m .ensures) (omega arith) (omega arith) (omega arith) (omega arith) h,
+        ),
       ),
     )
 
@@ -41,7 +45,8 @@ returns : tie.Need-returns
 returns c =
     let s = c .before .before .before .before in
     let m = c .before .before .before .completions in
-    let e = heavy (s .args .t1) (m .result) (s .args .k) (s .args .q) (c .above .result) (omega arith) (m .ensures) (c .above .ensures) in
+    let e = heavy (s .args .t1) (m .result) (s .args .k) (s .args .q) (c .above .result) (omega arith) (m .ensures)
+    (c .above .ensures) in
     (e, omega (arith, e, heavy-le (s .args .t1) (s .args .k) (s .args .q) (s .pre .3) (omega arith) (omega arith)))
 
 pub heaviest-spec : {M : Type 1} → statement M

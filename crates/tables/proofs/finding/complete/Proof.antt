@@ -7,8 +7,11 @@ use Rattle.tables.proofs.Rows.{completed-le}
 use Rattle.tables.proofs.finding.complete.Statement.{statement}
 use Rattle.tables.proofs.finding.complete.Tie as tie
 
+-- the classes below i are settled greedily
 abbrev Inv-loop : tie.InvT-loop
-Inv-loop k q d room t c out₀ acc₀ top₀ i₀ out acc top i = (1 ≤ i) × (i ≤ k + 1) × (top < q) × (acc ≤ i * 40000000) × Greedy (cell t) room (put d (firstFrom (cell t) room (cell t 0 d) 1 k (suc d))) (suc k) i top acc out
+Inv-loop k q d room t c out₀ acc₀ top₀ i₀ out acc top i =
+    (1 ≤ i) × (i ≤ k + 1) × (top < q) × (acc ≤ i * 40000000)
+    × Greedy (cell t) room (put d (firstFrom (cell t) room (cell t 0 d) 1 k (suc d))) (suc k) i top acc out
 
 abbrev μ-loop : tie.MeasureT-loop
 μ-loop k q d room t c out₀ acc₀ top₀ i₀ out acc top i = k + 1 - i
@@ -30,8 +33,13 @@ index-2-acc c = search needs
 
 loop-holds : tie.Need-loop-holds Inv-loop μ-loop
 loop-holds c =
-    let s = c .before in
-    (search needs, search needs, search needs, s .pre .0 .3 .at 0 (s .args .d) (omega arith) (omega arith), greedy-start _ _ _ _ (s .pre .1))
+    let s = c .before in (
+      search needs,
+      search needs,
+      search needs,
+      s .pre .0 .3 .at 0 (s .args .d) (omega arith) (omega arith),
+      greedy-start _ _ _ _ (s .pre .1),
+    )
 
 mul-w : tie.Need-mul-w Inv-loop μ-loop
 mul-w c = search needs
@@ -53,7 +61,9 @@ least-requires c κs =
       λ e h. omega (
         arith,
         s .pre .0 .3 .at (l .i) e (omega arith) (omega arith),
-        completed-le (s .args .t1) (s .args .t2) (suc (s .args .k)) (s .args .q) (s .args .k) (suc (l .i)) (s .args .k - l .i) e (s .pre .0 .3) (s .pre .0 .4) (omega arith) (omega arith) (omega arith) (omega arith) (omega arith),
+        completed-le (s .args .t1) (s .args .t2) (suc (s .args .k)) (s .args .q) (s .args .k) (suc (l .i))
+            (s .args .k - l .i) e (s .pre .0 .3) (s .pre .0 .4) (omega arith) (omega arith) (omega arith) (omega arith)
+            (omega arith),
       ),
     )
 
@@ -92,7 +102,8 @@ loop-again c =
       search needs,
       omega (arith, c .least .ensures .within),
       omega (arith, s .pre .0 .3 .at (l .i) (c .least .result) (omega arith) (omega (arith, c .least .ensures .within))),
-      greedy-least (s .args .t1) (s .args .t2) (s .args .q) (s .args .k) (s .pre .0 .4) (l .inv .4) (c .least .result) (omega arith) (omega arith) (omega arith) (c .least .ensures),
+      greedy-least (s .args .t1) (s .args .t2) (s .args .q) (s .args .k) (s .pre .0 .4) (l .inv .4) (c .least .result)
+          (omega arith) (omega arith) (omega arith) (c .least .ensures),
     )
 
 returns : tie.Need-returns Inv-loop μ-loop

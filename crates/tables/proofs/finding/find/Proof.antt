@@ -12,12 +12,14 @@ use Rattle.tables.proofs.Rows.{completed-le}
 use Rattle.tables.proofs.finding.find.Statement.{statement}
 use Rattle.tables.proofs.finding.find.Tie as tie
 
+-- no profile of k + 1 classes that begins below d is overfull
 abbrev Inv-loop2 : tie.InvT-loop2
 Inv-loop2 s q t rooms out k c room d₀ d = (k < s) × (d ≤ q) × (firstFrom (cell t) (getD rooms k 0) 0 0 (suc k) d ≡ nothing)
 
 abbrev μ-loop2 : tie.MeasureT-loop2
 μ-loop2 s q t rooms out k c room d₀ d = q - d
 
+-- no profile of at most k classes is overfull
 abbrev Inv-loop : tie.InvT-loop
 Inv-loop s q t rooms out k₀ k = (k ≤ s) × (firstOverfullAt (cell t) (roomOf rooms) k q ≡ nothing)
 
@@ -78,7 +80,9 @@ add-if1 c =
     omega (
       arith,
       s .pre .3 .at 0 d (omega arith) (omega arith),
-      completed-le (s .args .t1) (c .before .before .before .before .completions .result) (suc k) (s .args .q) k 1 k d (s .pre .3) (c .before .before .before .before .completions .ensures) (omega arith) (omega arith) (omega arith) (omega arith) (omega arith),
+      completed-le (s .args .t1) (c .before .before .before .before .completions .result) (suc k) (s .args .q) k 1 k d
+          (s .pre .3) (c .before .before .before .before .completions .ensures) (omega arith) (omega arith) (omega arith)
+          (omega arith) (omega arith),
     )
 
 add-t36 : tie.Need-add-t36 Inv-loop2 μ-loop2 Inv-loop μ-loop Inv-search μ-search
@@ -95,7 +99,8 @@ complete-requires c κs =
     let l2 = c .before .before .before .before .loop2 in
     let m = c .before .before .before .before .before .completions in (
       (search needs, search needs, search needs, s .pre .3, m .ensures),
-      find-can (s .args .t1) (s .args .t2) (s .args .s) (s .args .q) (l .k) (l2 .d) (m .result) (m .ensures) (omega arith) (omega arith) (l .inv .1) (l2 .inv .2) (omega arith),
+      find-can (s .args .t1) (s .args .t2) (s .args .s) (s .args .q) (l .k) (l2 .d) (m .result) (m .ensures) (omega arith)
+          (omega arith) (l .inv .1) (l2 .inv .2) (omega arith),
     )
 
 add-d : tie.Need-add-d Inv-loop2 μ-loop2 Inv-loop μ-loop Inv-search μ-search
@@ -112,7 +117,8 @@ loop2-again c =
     let m = c .before .before .before .before .before .completions in (
       search needs,
       search needs,
-      find-more (s .args .t1) (s .args .t2) (s .args .s) (s .args .q) (l .k) (l2 .d) (m .result) (m .ensures) (omega arith) (omega arith) (l .inv .1) (l2 .inv .2) (omega arith),
+      find-more (s .args .t1) (s .args .t2) (s .args .s) (s .args .q) (l .k) (l2 .d) (m .result) (m .ensures)
+          (omega arith) (omega arith) (l .inv .1) (l2 .inv .2) (omega arith),
     )
 
 add-k : tie.Need-add-k Inv-loop2 μ-loop2 Inv-loop μ-loop Inv-search μ-search
@@ -126,8 +132,11 @@ loop-again c =
     let s = c .before .before .before .before .before .before in
     let l = c .before .before .before .before .loop in
     let l2 = c .before .loop2 in
-    let e : l2 .d ≡ s .args .q = omega arith in
-    (search needs, overfull-none (cell (s .args .t1)) (roomOf (s .args .t2)) (s .args .q) (l .k) (l .inv .1) (rw (← e) (l2 .inv .2)))
+    let e : l2 .d ≡ s .args .q = omega arith in (
+      search needs,
+      overfull-none (cell (s .args .t1)) (roomOf (s .args .t2)) (s .args .q) (l .k) (l .inv .1)
+          (rw (← e) (l2 .inv .2)),
+    )
 
 returns : tie.Need-returns Inv-loop2 μ-loop2 Inv-loop μ-loop Inv-search μ-search
 returns c =
@@ -135,7 +144,8 @@ returns c =
     let l = c .before .before .before .before .before .before .before .before .loop in
     let l2 = c .before .before .before .before .before .loop2 in
     let m = c .before .before .before .before .before .before .completions in
-    find-hit (s .args .t1) (s .args .t2) (s .args .s) (s .args .q) (l .k) (l2 .d) (m .result) (m .ensures) (omega arith) (omega arith) (l .inv .1) (l2 .inv .2) (omega arith) (c .complete .result) (c .complete .ensures)
+    find-hit (s .args .t1) (s .args .t2) (s .args .s) (s .args .q) (l .k) (l2 .d) (m .result) (m .ensures) (omega arith)
+    (omega arith) (l .inv .1) (l2 .inv .2) (omega arith) (c .complete .result) (c .complete .ensures)
 
 returns-2 : tie.Need-returns-2 Inv-loop2 μ-loop2 Inv-loop μ-loop Inv-search μ-search
 returns-2 c =

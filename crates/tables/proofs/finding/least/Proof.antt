@@ -6,6 +6,7 @@ use lib.ListN.{getD}
 use Rattle.tables.proofs.finding.least.Statement.{statement}
 use Rattle.tables.proofs.finding.least.Tie as tie
 
+-- no due time passed can be completed
 abbrev Inv-loop : tie.InvT-loop
 Inv-loop acc room top w rest e₀ e = (e ≤ top) × ((x : ℕ) → x < e → acc + getD w x 0 + getD rest x 0 ≤ room)
 

@@ -1,0 +1,219 @@
+-- How the planner puts its answers together: a refusal stands whatever rows follow, 10 comes with its reason, and where the table
+-- accepts a plan was written.
+use Prim.Native.Nat.{ℕ, zero, suc, _/_, _*_, _≤_, _<_}
+use mathlib.Core.Path.{_≡_, refl, sym, ap, _∙_, subst}
+use mathlib.Core.Bool.{Bool, true, false, not}
+use mathlib.Core.List.{List, [], _∷_, _++_}
+use native.Mathlib.Omega.{arith}
+use borrow.Author.Tests.{lt-ltb, le-ltb, leb-true, not-true, not-false}
+use mir.Val.{toZ, ofZ, SFits}
+use mir.ValLaws.{toZ-ofZ}
+use mir.Syntax.{w32}
+use lib.Dec.{ltb, leb}
+use lib.IntN.{ℤ, pos, negsuc}
+use lib.ListN.{length}
+use Rattle.order.specs.Order.{Order}
+use Rattle.order.specs.Refusals.{
+  limits, TableRow, Verdict, accepted, refused, judge, Answer, answerBy, orderRows, boundRow, tightRow, boundInRange, Accepted,
+}
+use Rattle.order.specs.RefusalLaws.{judge-refused-append, judge-accepted-append, both-true}
+use Rattle.order.specs.Table.{refusalTold, acceptanceTold}
+use Rattle.order.specs.TableLaws.{refused-told}
+use Rattle.order.specs.declared.Acceptance.{Acceptance}
+use Rattle.order.specs.declared.Acceptance.the-variants.{Accepted as Accepts, Refused as Refuses}
+use Rattle.order.specs.declared.Refusal.{Refusal}
+use Rattle.order.specs.declared.Refusal.the-variants.{
+  NoProcessor, TooManyProcessors, NoJob, TooManyJobs, TimeOutOfRange, DueOutOfRange, FitsNoProcessor,
+  BoundOutOfRange, BufferTooShort, TooManyRows, BadFile,
+}
+use Rattle.plan.specs.IsLeast.{IsLeast}
+use Rattle.profile.specs.Least.{leastLateness}
+use Rattle.profile.specs.Reason.{Reason, overEnd, stairs}
+use Rattle.profile.specs.Search.{Found, nothing, found, reasonOf}
+use Rattle.reason.specs.Told.{whyOf}
+use Rattle.reason.specs.declared.Why.{Why}
+use Rattle.planner.specs.Rows.{rowsAsked, bufferRow, isFound, leastRows, earlierRows, planRows}
+use Rattle.planner.specs.Told.{plannedTold, rowsOf, isReason, reasonCarried, leastTold, leastCount, LeastIn}
+use Rattle.planner.specs.Written.{Written, BufferBy}
+use Rattle.planner.specs.declared.Least.{Least}
+use Rattle.planner.specs.declared.Least.the-variants.{At, Refused as LeastRefused}
+use Rattle.planner.specs.declared.Planned.{Planned}
+use Rattle.planner.specs.declared.Planned.the-variants.{Rows, Tight, Refused}
+
+-- no refusal of the code is 10, and each leaves the buffer
+carried-none : (rf : Refusal) (f : Found Reason) → reasonCarried (refusalTold rf) f ≡ nothing
+carried-none NoProcessor f = refl
+carried-none TooManyProcessors f = refl
+carried-none NoJob f = refl
+carried-none TooManyJobs f = refl
+carried-none (TimeOutOfRange j) f = refl
+carried-none (DueOutOfRange j) f = refl
+carried-none (FitsNoProcessor j) f = refl
+carried-none BoundOutOfRange f = refl
+carried-none BufferTooShort f = refl
+carried-none TooManyRows f = refl
+carried-none BadFile f = refl
+
+buffer-kept : (rf : Refusal) (o : Order) (bound : ℤ) (entry : List ℕ) → BufferBy (refusalTold rf) o bound entry entry 0
+buffer-kept rf o bound entry =
+    let t = refused-told rf in
+    subst (λ (v : Verdict). BufferBy v o bound entry entry 0) (sym (t .2)) (refl, refl)
+
+-- a refusal stands whatever rows follow
+stands : (rows later : List TableRow) (rf : Refusal) → refusalTold rf ≡ judge rows → refusalTold rf ≡ judge (rows ++ later)
+stands rows later rf e =
+    let t = refused-told rf in
+    t .2 ∙ sym (judge-refused-append rows later (t .0) (t .1) (sym e ∙ t .2))
+
+-- what acceptance says of the first rows
+pub order-refused : (o : Order) (a : Acceptance) (rf : Refusal) → acceptanceTold a ≡ judge (orderRows limits o) → a ≡ Refuses rf →
+    refusalTold rf ≡ judge (orderRows limits o)
+order-refused o a rf e is = sym (ap acceptanceTold is) ∙ e
+
+pub order-accepted : (o : Order) (a : Acceptance) → acceptanceTold a ≡ judge (orderRows limits o) → a ≡ Accepts → Accepted o
+order-accepted o a e is = sym e ∙ ap acceptanceTold is
+
+-- the verdicts, row by row
+module _ (o : Order) (bound : ℤ) (n : ℕ) where
+  pub refused-first : (rf : Refusal) → refusalTold rf ≡ judge (orderRows limits o) → refusalTold rf ≡ judge (planRows o bound n)
+  unfolding planRows earlierRows
+  refused-first rf e = stands (earlierRows o bound n) _ rf (stands (orderRows limits o) _ rf e)
+
+  module _ (ok : Accepted o) where
+    pub refused-8 : boundInRange bound ≡ false → refused 8 0 ≡ judge (planRows o bound n)
+    unfolding planRows earlierRows judge
+    refused-8 h =
+        stands (earlierRows o bound n) (tightRow (isFound (reasonOf o bound)) ∷ []) BoundOutOfRange
+        (sym (judge-accepted-append (orderRows limits o) (boundRow bound ∷ bufferRow o n ∷ []) ok ∙ rw h))
+
+    module _ (in-range : boundInRange bound ≡ true) where
+      pub refused-9 : n / 4 < rowsAsked o → refused 9 0 ≡ judge (planRows o bound n)
+      unfolding planRows earlierRows judge
+      refused-9 h =
+          stands (earlierRows o bound n) (tightRow (isFound (reasonOf o bound)) ∷ []) BufferTooShort
+          (sym (judge-accepted-append (orderRows limits o) (boundRow bound ∷ bufferRow o n ∷ []) ok
+          ∙ rw (in-range, lt-ltb (n / 4) (rowsAsked o) h)))
+
+      module _ (room : rowsAsked o ≤ n / 4) where
+        earlier : judge (earlierRows o bound n) ≡ accepted
+        unfolding earlierRows judge
+        earlier =
+            judge-accepted-append (orderRows limits o) (boundRow bound ∷ bufferRow o n ∷ []) ok
+            ∙ rw (in-range, le-ltb (n / 4) (rowsAsked o) room)
+
+        pub last-row : judge (planRows o bound n) ≡ judge (tightRow (isFound (reasonOf o bound)) ∷ [])
+        unfolding planRows
+        last-row = judge-accepted-append (earlierRows o bound n) _ earlier
+
+  -- what plan_at ensures
+  abbrev pub Ensured : List ℕ → List ℕ → Planned → Why → Type 0
+  Ensured entry exit p w =
+      (plannedTold p ≡ answerBy (judge (planRows o bound n)) (rowsOf p))
+      × ((w ≡ whyOf o (reasonCarried (judge (planRows o bound n)) (reasonOf o bound)))
+      × BufferBy (judge (planRows o bound n)) o bound entry exit (rowsOf p))
+
+  pub refused-ensured : (entry : List ℕ) (rf : Refusal) → refusalTold rf ≡ judge (planRows o bound n) →
+      (p : Planned) → p ≡ Refused rf → (w : Why) → w ≡ whyOf o nothing → Ensured entry entry p w
+  refused-ensured entry rf v p e w f =
+      subst (λ (p : Planned). Ensured entry entry p w) (sym e) (
+        ap (λ (v : Verdict). answerBy v 0) v,
+        (
+          f ∙ ap (whyOf o) (sym (carried-none rf (reasonOf o bound)) ∙ ap (λ (v : Verdict). reasonCarried v (reasonOf o bound)) v),
+          subst (λ (v : Verdict). BufferBy v o bound entry entry 0) v (buffer-kept rf o bound entry),
+        ),
+      )
+
+  module _ (ok : Accepted o) (in-range : boundInRange bound ≡ true) (room : rowsAsked o ≤ n / 4) where
+    pub tight-ensured : (entry : List ℕ) (w : Why) → w ≡ whyOf o (reasonOf o bound) → isFound (reasonOf o bound) ≡ true →
+        Ensured entry entry Tight w
+    unfolding judge
+    tight-ensured entry w f h =
+        let v : judge (planRows o bound n) ≡ refused 10 0 = last-row ok in-range room ∙ rw h in
+        rw v (refl, (f, (refl, refl)))
+
+    pub rows-ensured : (entry exit : List ℕ) (count : ℕ) (w : Why) → w ≡ whyOf o (reasonOf o bound) →
+        reasonOf o bound ≡ nothing → Written o bound entry exit count → Ensured entry exit (Rows count) w
+    unfolding judge
+    rows-ensured entry exit count w f h written =
+        let v : judge (planRows o bound n) ≡ accepted = last-row ok in-range room ∙ rw h in
+        rw v (refl, (f ∙ ap (whyOf o) h, written))
+
+-- the code's reason is one exactly if there is one
+pub is-reason : (o : Order) (f : Found Reason) → isReason (whyOf o f .reason) ≡ isFound f
+is-reason o nothing = refl
+is-reason o (found (overEnd j)) = refl
+is-reason o (found (stairs dues)) = refl
+
+not-found : (f : Found Reason) → isFound f ≡ false → f ≡ nothing
+not-found nothing e = refl
+not-found (found r) e = let z : _≡_ {A = ℕ} 0 1 = cc in absurd (omega arith)
+
+-- what the test of the code's reason says
+module _ (o : Order) (f : Found Reason) (w : Why) (b : Bool) (e : w ≡ whyOf o f) (g : b ≡ isReason (w .reason)) where
+  test-is : b ≡ isFound f
+  test-is = g ∙ ap (λ (w : Why). isReason (w .reason)) e ∙ is-reason o f
+
+  pub reason-there : b ≡ true → isFound f ≡ true
+  reason-there h = sym test-is ∙ h
+
+  pub reason-not-there : b ≡ false → f ≡ nothing
+  reason-not-there h = not-found f (sym test-is ∙ h)
+
+-- what least_lateness ensures
+module _ (o : Order) (n : ℕ) where
+  abbrev pub LeastEnsured : List ℕ → List ℕ → Least → Type 0
+  LeastEnsured entry exit r =
+      (leastTold r ≡ answerBy (judge (leastRows o n)) (leastLateness o))
+      × (LeastIn o r × BufferBy (judge (leastRows o n)) o (leastLateness o) entry exit (leastCount r))
+
+  pub least-refused : (entry : List ℕ) (rf : Refusal) → refusalTold rf ≡ judge (leastRows o n) →
+      LeastEnsured entry entry (LeastRefused rf)
+  least-refused entry rf v =
+      let t = refused-told rf in (
+        rw (t .2, sym v ∙ t .2),
+        (
+          tt,
+          subst (λ (v : Verdict). BufferBy v o (leastLateness o) entry entry 0) v (buffer-kept rf o (leastLateness o) entry),
+        ),
+      )
+
+  pub least-refused-first : (rf : Refusal) → refusalTold rf ≡ judge (orderRows limits o) → refusalTold rf ≡ judge (leastRows o n)
+  unfolding leastRows
+  least-refused-first rf e = stands (orderRows limits o) (bufferRow o n ∷ []) rf e
+
+  module _ (ok : Accepted o) where
+    pub least-refused-9 : n / 4 < rowsAsked o → refused 9 0 ≡ judge (leastRows o n)
+    unfolding leastRows judge
+    least-refused-9 h =
+        sym (judge-accepted-append (orderRows limits o) (bufferRow o n ∷ []) ok ∙ rw (lt-ltb (n / 4) (rowsAsked o) h))
+
+    pub least-ensured : rowsAsked o ≤ n / 4 → IsLeast o (leastLateness o) → (entry exit : List ℕ) (count : ℕ) (z : ℤ) →
+        z ≡ leastLateness o → Written o (leastLateness o) entry exit count → LeastEnsured entry exit (At z count)
+    unfolding leastRows judge
+    least-ensured room least entry exit count z e written =
+        let v : judge (leastRows o n) ≡ accepted
+        = judge-accepted-append (orderRows limits o) (bufferRow o n ∷ []) ok ∙ rw (le-ltb (n / 4) (rowsAsked o) room) in
+        rw (v, e) (refl, (least, written))
+
+-- what the test of the bound says, of the bound as passed and as read back
+module _ (bound read : ℤ) (same : read ≡ bound) (b : Bool) (e : b ≡ boundInRange read) where
+  pub out-of-range : not b ≡ true → boundInRange bound ≡ false
+  out-of-range h = sym (ap boundInRange same) ∙ sym e ∙ not-true b h
+
+  pub read-in : not b ≡ false → boundInRange read ≡ true
+  read-in h = sym e ∙ not-false b h
+
+  pub within-range : not b ≡ false → boundInRange bound ≡ true
+  within-range h = sym (ap boundInRange same) ∙ read-in h
+
+pub written-at : {o : Order} {bound read : ℤ} {entry exit : List ℕ} {count : ℕ} → read ≡ bound →
+    Written o read entry exit count → Written o bound entry exit count
+written-at {o} {bound} {read} {entry} {exit} {count} e w = subst (λ (z : ℤ). Written o z entry exit count) e w
+
+-- the least lateness as the machine reads it back
+small : (z : ℤ) → boundInRange z ≡ true → SFits w32 z
+small (pos k) h = record { sfits = omega (arith, leb-true k 10000000 (both-true true (leb k 10000000) h .1)) }
+small (negsuc k) h = record { sfits = omega (arith, leb-true k 9999999 (both-true (leb k 9999999) true h .0)) }
+
+pub read-least : (z least : ℤ) → z ≡ least → boundInRange least ≡ true → toZ w32 (ofZ w32 z) ≡ least
+read-least z least e h = toZ-ofZ w32 z (small z (ap boundInRange e ∙ h)) ∙ e

@@ -1,0 +1,3 @@
+mod SetupLaws
+mod PlanMade
+mod Answers
