@@ -6,6 +6,7 @@ use libc::STDOUT_FILENO;
 use order::Acceptance;
 use order_file::OrderWritten;
 use plan::Checked;
+use planner::Least;
 
 // A file through the reader: the order, or the refusal.
 fn read_case() {
@@ -105,11 +106,43 @@ fn print_changes(out: [u8; 700], written: usize) {
     }
 }
 
+// The least lateness, with a row buffer of the stated length.
+fn least_case() {
+    let order = stream::order();
+    let room = stream::number() as usize;
+    if 12104 < room {
+        return;
+    }
+    let mut rows = [0u32; 12104];
+    match planner::lateness::least_lateness(order, &mut rows[..room]) {
+        Least::Refused(refusal) => lines::refused(refusal),
+        Least::At(lateness, _) => {
+            lines::text(b"least");
+            lines::signed(lateness);
+            lines::text(b"\n");
+        }
+    }
+}
+
+// A plan at a bound, with a row buffer of the stated length.
+fn plan_case() {
+    let order = stream::order();
+    let bound = order_file::bytes::to_signed(stream::number());
+    let room = stream::number() as usize;
+    if 12104 < room {
+        return;
+    }
+    let mut rows = [0u32; 12104];
+    lines::planned(planner::bound::plan_at(order, bound, &mut rows[..room]));
+}
+
 fn main() {
     for k in 0..1000000u32 {
         match stream::number() {
             1 => read_case(),
             2 => check_case(),
+            3 => least_case(),
+            4 => plan_case(),
             5 => write_case(),
             _ => return,
         }

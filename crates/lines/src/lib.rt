@@ -1,6 +1,10 @@
 // Words and numbers on standard output, for the programs. No contract can speak of what is written.
 use libc::STDOUT_FILENO;
 use order::Refusal;
+use planner::PlanAnswer;
+use planner::Planned;
+use reason::Reason;
+use reason::Why;
 ghost use Prim.Native.Nat.{_<_};
 
 fn wide(x: u32) -> u64
@@ -53,5 +57,43 @@ pub fn refused(refusal: Refusal) {
         Refusal::BufferTooShort => refused_as(9, 0),
         Refusal::TooManyRows => refused_as(11, 0),
         Refusal::BadFile => refused_as(12, 0),
+    }
+}
+
+// The due times of the classes 1 to count.
+fn due_times(dues: [i32; 16], count: u32) {
+    for i in 0..16usize {
+        if (i as u32) < count {
+            signed(dues[i]);
+        }
+    }
+}
+
+// The line of a reason.
+fn tight(why: Why) {
+    let reason = why.reason;
+    let dues = why.dues;
+    match reason {
+        Reason::Job(job, _) => {
+            text(b"tight job");
+            number(job);
+        }
+        Reason::Stairs(count) => {
+            text(b"tight stairs");
+            due_times(dues, count);
+        }
+        Reason::Nothing => text(b"tight"),
+    }
+    text(b"\n");
+}
+
+// The line of an answer at a bound.
+pub fn planned(answer: PlanAnswer) {
+    let kind = answer.planned;
+    let why = answer.why;
+    match kind {
+        Planned::Rows(_) => text(b"meets\n"),
+        Planned::Tight => tight(why),
+        Planned::Refused(refusal) => refused(refusal),
     }
 }
