@@ -10,7 +10,6 @@ the plain search, never by running a program.
 
 import pathlib
 import sys
-import tempfile
 
 import answers
 import cases_check
@@ -20,14 +19,15 @@ import cases_write
 import flow
 import stream_form
 
-STORED = pathlib.Path(__file__).resolve().parent / "streams"
-STREAMS = {
-    "ground": (cases_read, cases_check, cases_write),
-    "planner": (cases_planner,),
-}
+HERE = pathlib.Path(__file__).resolve().parent
+PROGRAM = HERE.parent.parent / "crates" / "cases"
+PARTS = (cases_read, cases_check, cases_write, cases_planner)
+# What the program reads, what it has to print, and what each case shows.
+STORED = {"stdin": PROGRAM / "stdin", "stdout": PROGRAM / "stdout",
+          "list": HERE / "streams" / "cases.list"}
 ANSWER = {"read": answers.read, "check": answers.check, "write": answers.write,
           "least": answers.least_lateness, "plan": answers.plan}
-BYTES_MOST = 400000
+BYTES_MOST = 800000
 
 
 def expected(record):
@@ -41,9 +41,9 @@ def expected(record):
     return lines
 
 
-def made(name):
-    """The three files of a stream, as {file name: bytes}."""
-    of_parts = [case for part in STREAMS[name] for case in part.cases()]
+def made():
+    """The files of the stream, as {kind of file: bytes}."""
+    of_parts = [case for part in PARTS for case in part.cases()]
     told, listed = [], []
     for number, (story, record) in enumerate(of_parts, 1):
         lines = expected(record)
@@ -51,54 +51,39 @@ def made(name):
         listed.append(f"{number} {record.kind}: {story}")
     data = stream_form.stream(record for _, record in of_parts)
     if len(data) > BYTES_MOST:
-        raise AssertionError(f"{name}.bin would have {len(data)} bytes")
-    text = {"txt": told, "list": listed}
-    files = {f"{name}.{kind}": "".join(line + "\n" for line in lines).encode()
+        raise AssertionError(f"the stream would have {len(data)} bytes")
+    text = {"stdout": told, "list": listed}
+    files = {kind: "".join(line + "\n" for line in lines).encode()
              for kind, lines in text.items()}
-    return {f"{name}.bin": data, **files}
+    return {"stdin": data, **files}
 
 
-def store(folder):
-    """Writes all files into a folder and gives their names."""
-    names = []
-    for name in STREAMS:
-        for file_name, content in made(name).items():
-            (folder / file_name).write_bytes(content)
-            names.append(file_name)
-    return names
+def store():
+    for kind, content in made().items():
+        STORED[kind].parent.mkdir(exist_ok=True)
+        STORED[kind].write_bytes(content)
 
 
 def compare():
-    """Makes all anew in a temporary folder; the number of files that differ."""
+    """Makes all anew; the number of files that differ from what is stored."""
     differ = 0
-    with tempfile.TemporaryDirectory() as folder:
-        folder = pathlib.Path(folder)
-        for name in store(folder):
-            stored = STORED / name
-            same = (stored.exists()
-                    and stored.read_bytes() == (folder / name).read_bytes())
-            if not same:
-                differ += 1
-                print(f"{name}: differs from what is made anew")
+    for kind, content in made().items():
+        stored = STORED[kind]
+        if not stored.exists() or stored.read_bytes() != content:
+            differ += 1
+            print(f"{stored.name}: differs from what is made anew")
     return differ
-
-
-def counts():
-    """How many cases are stored in each stream."""
-    return {name: len((STORED / f"{name}.list").read_text().splitlines())
-            for name in STREAMS}
 
 
 def main(arguments):
     if arguments == ["--write"]:
-        STORED.mkdir(exist_ok=True)
-        store(STORED)
+        store()
     elif arguments != ["--compare"]:
         sys.exit("cases.py: --compare or --write")
     elif compare():
         return 1
-    for name, count in counts().items():
-        print(f"{name}: {count} cases, stored and made anew alike")
+    count = len(STORED["list"].read_text().splitlines())
+    print(f"{count} cases, stored and made anew alike")
     return 0
 
 

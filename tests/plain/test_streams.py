@@ -10,10 +10,10 @@ import stream_form
 BOUNDS_NEAR = 60
 
 
-def stored(name):
-    """The records of a stored stream with the expected lines of each."""
-    data = (cases.STORED / f"{name}.bin").read_bytes()
-    lines = (cases.STORED / f"{name}.txt").read_text().splitlines()
+def stored():
+    """The records of the stored stream with the expected lines of each."""
+    data = cases.STORED["stdin"].read_bytes()
+    lines = cases.STORED["stdout"].read_text().splitlines()
     told = []
     for record in stream_form.unpack(data):
         count = 1
@@ -32,9 +32,8 @@ def small(order):
 
 class Form(unittest.TestCase):
     def test_there_and_back(self):
-        for name in cases.STREAMS:
-            data = (cases.STORED / f"{name}.bin").read_bytes()
-            self.assertEqual(stream_form.stream(stream_form.unpack(data)), data)
+        data = cases.STORED["stdin"].read_bytes()
+        self.assertEqual(stream_form.stream(stream_form.unpack(data)), data)
 
     def test_by_hand(self):
         order = orders.order([8, 4], [(3, -1, 8)])
@@ -58,29 +57,28 @@ class Form(unittest.TestCase):
                          "04000000 00000000 00000000 ffffffff 04000000")
 
     def test_sizes(self):
-        for name, kinds in (("ground", {"read", "check", "write"}),
-                            ("planner", {"least", "plan"})):
-            data = (cases.STORED / f"{name}.bin").read_bytes()
-            self.assertLess(len(data), 400000)
-            records = stream_form.unpack(data)
-            self.assertEqual({record.kind for record in records}, kinds)
-            listed = (cases.STORED / f"{name}.list").read_text().splitlines()
-            self.assertEqual(len(listed), len(records))
+        data = cases.STORED["stdin"].read_bytes()
+        self.assertLess(len(data), cases.BYTES_MOST)
+        records = stream_form.unpack(data)
+        self.assertEqual({record.kind for record in records}, set(stream_form.KINDS))
+        listed = cases.STORED["list"].read_text().splitlines()
+        self.assertEqual(len(listed), len(records))
 
 
 class Stored(unittest.TestCase):
     def test_every_refusal_occurs(self):
-        for name, numbers in (("ground", {*range(1, 10), 11, 12}),
-                              ("planner", {*range(1, 10)})):
-            told = {int(lines[0].split()[1]) for _, lines in stored(name)
-                    if lines[0].startswith("refused")}
+        for kinds, numbers in (({"read", "check", "write"}, {*range(1, 10), 11, 12}),
+                               ({"least", "plan"}, {*range(1, 10)})):
+            told = {int(lines[0].split()[1]) for record, lines in stored()
+                    if record.kind in kinds and lines[0].startswith("refused")}
             self.assertEqual(told, numbers)
 
     def test_tiny_cases_by_search(self):
         seen = {"least": 0, "plan": 0}
-        for record, (line, *_) in stored("planner"):
+        for record, (line, *_) in stored():
             order = record.values[0]
-            if line.startswith("refused") or not small(order):
+            if (record.kind not in seen or line.startswith("refused")
+                    or not small(order)):
                 continue
             if record.kind == "least":
                 number = int(line.split()[1])
@@ -95,7 +93,7 @@ class Stored(unittest.TestCase):
         self.assertGreater(min(seen.values()), 400)
 
     def test_round_trip(self):
-        for record, lines in stored("ground"):
+        for record, lines in stored():
             if record.kind == "write" and lines[0].startswith("file"):
                 _, length, text = lines[0].split()
                 data = bytes.fromhex(text)
@@ -106,14 +104,17 @@ class Stored(unittest.TestCase):
                                  f"order {order.m} {order.n}")
 
     def test_rooms_and_lengths_in_reach(self):
-        for name in cases.STREAMS:
-            for record, _ in stored(name):
-                if record.kind == "read":
-                    self.assertLessEqual(len(record.values[0]), 700)
-                elif record.kind == "write":
-                    self.assertLessEqual(record.values[1], 700)
-                elif record.kind == "check":
-                    self.assertLessEqual(len(record.values[2]), 12104)
-                else:
-                    self.assertLessEqual(record.values[-1], 12104)
-                    self.assertGreaterEqual(record.values[-1], 0)
+        for record, _ in stored():
+            if record.kind == "read":
+                self.assertLessEqual(len(record.values[0]), 700)
+            elif record.kind == "write":
+                self.assertLessEqual(record.values[1], 700)
+            elif record.kind == "check":
+                self.assertLessEqual(len(record.values[2]), 12104)
+            else:
+                self.assertLessEqual(record.values[-1], 12104)
+                self.assertGreaterEqual(record.values[-1], 0)
+
+
+if __name__ == "__main__":
+    unittest.main()

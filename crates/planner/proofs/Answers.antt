@@ -14,7 +14,19 @@ use lib.IntN.{ℤ, pos, negsuc}
 use lib.ListN.{length}
 use Rattle.order.specs.Order.{Order}
 use Rattle.order.specs.Refusals.{
-  limits, TableRow, Verdict, accepted, refused, judge, Answer, answerBy, orderRows, boundRow, tightRow, boundInRange, Accepted,
+  limits,
+  TableRow,
+  Verdict,
+  accepted,
+  refused,
+  judge,
+  Answer,
+  answerBy,
+  orderRows,
+  boundRow,
+  tightRow,
+  boundInRange,
+  Accepted,
 }
 use Rattle.order.specs.RefusalLaws.{judge-refused-append, judge-accepted-append, both-true}
 use Rattle.order.specs.Table.{refusalTold, acceptanceTold}
@@ -23,8 +35,17 @@ use Rattle.order.specs.declared.Acceptance.{Acceptance}
 use Rattle.order.specs.declared.Acceptance.the-variants.{Accepted as Accepts, Refused as Refuses}
 use Rattle.order.specs.declared.Refusal.{Refusal}
 use Rattle.order.specs.declared.Refusal.the-variants.{
-  NoProcessor, TooManyProcessors, NoJob, TooManyJobs, TimeOutOfRange, DueOutOfRange, FitsNoProcessor,
-  BoundOutOfRange, BufferTooShort, TooManyRows, BadFile,
+  NoProcessor,
+  TooManyProcessors,
+  NoJob,
+  TooManyJobs,
+  TimeOutOfRange,
+  DueOutOfRange,
+  FitsNoProcessor,
+  BoundOutOfRange,
+  BufferTooShort,
+  TooManyRows,
+  BadFile,
 }
 use Rattle.plan.specs.IsLeast.{IsLeast}
 use Rattle.profile.specs.Least.{leastLateness}

@@ -81,7 +81,7 @@ module _ (t : OrderTable) (bound read : ℤ) (same : read ≡ bound) (accepted :
         Answer (flowIn i) (suc (i .classes)) (grid (i .stretches) w) r → (entry exit : List ℕ) (count : ℕ) →
         count ≡ length (layout (orderOf t) read (amountIn (i .stretches) w)) →
         exit ≡ numbersOf (layout (orderOf t) read (amountIn (i .stretches) w))
-            ++ drop (4 * length (layout (orderOf t) read (amountIn (i .stretches) w))) entry →
+        ++ drop (4 * length (layout (orderOf t) read (amountIn (i .stretches) w))) entry →
         Written (orderOf t) bound entry exit count × (count ≤ 3024)
     plan-made none w r answer entry exit count e f =
         let a : ℕ → ℕ → ℕ = amountIn (i .stretches) w in

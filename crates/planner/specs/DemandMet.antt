@@ -51,8 +51,7 @@ module _ (o : Order) (ok : Accepted o) where
   unfolding planRows
   tight bound lent none =
       let last : judge (planRows o bound lent) ≡ judge (tightRow (isFound (reasonOf o bound)) ∷ [])
-      = judge-accepted-append (earlierRows o bound lent) (tightRow (isFound (reasonOf o bound)) ∷ []) none in
-      (
+      = judge-accepted-append (earlierRows o bound lent) (tightRow (isFound (reasonOf o bound)) ∷ []) none in (
         (λ e. let t = tight-refused (reasonOf o bound) (sym last ∙ e) in
             threshold o ok bound .0 (t .0, reason-found o bound (t .0) .0 (t .1))),
         λ below. let r = reason-below o ok bound below in

@@ -1,13 +1,13 @@
 // The planner at a bound: refusals 1 to 10, in the table's order; else a right plan that meets the bound.
+use super::PlanAnswer;
+use super::Planned;
+use super::making::make_plan;
+use super::setup::rows_asked;
 use order::Acceptance;
 use order::Order;
 use order::Refusal;
 use reason::Reason;
 use reason::Why;
-use super::PlanAnswer;
-use super::Planned;
-use super::making::make_plan;
-use super::setup::rows_asked;
 ghost use mathlib.Core.Path.{_≡_};
 ghost use lib.ListN.{length};
 ghost use Rattle.order.specs.Refusals.{judge, answerBy};

@@ -1,10 +1,10 @@
 // The least lateness: refusals 1 to 7 and 9; else the least lateness and a right plan at it.
-use order::Acceptance;
-use order::Order;
-use order::Refusal;
 use super::Least;
 use super::making::make_plan;
 use super::setup::rows_asked;
+use order::Acceptance;
+use order::Order;
+use order::Refusal;
 ghost use mathlib.Core.Path.{_≡_};
 ghost use lib.ListN.{length};
 ghost use Rattle.order.specs.Refusals.{judge, answerBy};

@@ -1,12 +1,12 @@
 // A plan where there is no reason against the bound: amounts by the engine, rows by the wrap. It serves this crate alone and has
 // a `requires`.
+use super::setup::instance_of;
+use super::setup::rising_dues;
 use allot::filling::fill_amounts;
 use layout::orderings::job_order;
 use layout::orderings::processor_order;
 use layout::stretches::lay_plan;
 use order::Order;
-use super::setup::instance_of;
-use super::setup::rising_dues;
 ghost use mathlib.Core.Path.{_≡_};
 ghost use mathlib.Core.Bool.{true};
 ghost use Prim.Native.Nat.{_*_, _≤_};
@@ -26,5 +26,14 @@ pub fn make_plan(order: Order, bound: i32, rows: &mut [u32]) -> usize
     let q = t.stretches;
     let mut w = [0u32; 2352];
     fill_amounts(t, &mut w);
-    lay_plan(order, bound, rising_dues(order), q, processor_order(order), job_order(order), &w, rows)
+    lay_plan(
+        order,
+        bound,
+        rising_dues(order),
+        q,
+        processor_order(order),
+        job_order(order),
+        &w,
+        rows,
+    )
 }

@@ -16,32 +16,46 @@ use Rattle.cases.proofs.write_case.Reads as write-case-reads
 
 abbrev Inv-loop : tie.InvT-loop
 Inv-loop k₀ k = k ≤ 1000000
+
 abbrev μ-loop : tie.MeasureT-loop
 μ-loop k₀ k = 1000000 - k
+
 loop-holds : tie.Need-loop-holds Inv-loop μ-loop
 loop-holds c = search needs
+
 number-requires : tie.Need-number-requires Inv-loop μ-loop
 number-requires c κs = search needs
+
 read-case-requires : tie.Need-read-case-requires Inv-loop μ-loop
 read-case-requires c κs = search needs
+
 check-case-requires : tie.Need-check-case-requires Inv-loop μ-loop
 check-case-requires c κs = search needs
+
 least-case-requires : tie.Need-least-case-requires Inv-loop μ-loop
 least-case-requires c κs = search needs
+
 plan-case-requires : tie.Need-plan-case-requires Inv-loop μ-loop
 plan-case-requires c κs = search needs
+
 write-case-requires : tie.Need-write-case-requires Inv-loop μ-loop
 write-case-requires c κs = search needs
+
 returns : tie.Need-returns Inv-loop μ-loop
 returns c = search needs
+
 add-k : tie.Need-add-k Inv-loop μ-loop
 add-k c = search needs
+
 loop-less : tie.Need-loop-less Inv-loop μ-loop
 loop-less c = search needs
+
 loop-again : tie.Need-loop-again Inv-loop μ-loop
 loop-again c = search needs
+
 returns-2 : tie.Need-returns-2 Inv-loop μ-loop
 returns-2 c = search needs
+
 pub main-spec : {M : Type 1} → statement M
 main-spec =
     tie.close

@@ -13,26 +13,37 @@ use Rattle.planner.proofs.bound.plan_at.Reads as plan-at-reads
 
 order-requires : tie.Need-order-requires
 order-requires c κs = search needs
+
 number-requires : tie.Need-number-requires
 number-requires c κs = search needs
+
 to-signed-requires : tie.Need-to-signed-requires
 to-signed-requires c κs = search needs
+
 number-requires-2 : tie.Need-number-requires-2
 number-requires-2 c κs = search needs
+
 cast-room : tie.Need-cast-room
 cast-room c = search needs
+
 returns : tie.Need-returns
 returns c = search needs
+
 array-borrow-prefix-rows : tie.Need-array-borrow-prefix-rows
 array-borrow-prefix-rows c = search needs
+
 slice-aggregate-plan-at : tie.Need-slice-aggregate-plan-at
 slice-aggregate-plan-at c = simp length-take (omega arith)
+
 plan-at-requires : tie.Need-plan-at-requires
 plan-at-requires c κs = search needs
+
 planned-requires : tie.Need-planned-requires
 planned-requires c κs = search needs
+
 returns-2 : tie.Need-returns-2
 returns-2 c = search needs
+
 pub plan-case-spec : {M : Type 1} → statement M
 plan-case-spec =
     tie.close

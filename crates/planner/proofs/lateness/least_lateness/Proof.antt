@@ -10,7 +10,14 @@ use Rattle.profile.specs.ReasonLaws.{NoReason}
 use Rattle.profile.specs.Threshold.{no-reason-from}
 use Rattle.feasible.specs.Least.{is-least}
 use Rattle.planner.proofs.Answers.{
-  order-refused, order-accepted, least-refused, least-refused-first, least-refused-9, least-ensured, written-at, read-least,
+  order-refused,
+  order-accepted,
+  least-refused,
+  least-refused-first,
+  least-refused-9,
+  least-ensured,
+  written-at,
+  read-least,
 }
 use borrow.Author.Needs.{needs}
 use native.Mathlib.Omega.{arith}
@@ -25,8 +32,10 @@ use Rattle.reason.proofs.tell.least_of.Reads as least-of-reads
 
 accept-requires : tie.Need-accept-requires
 accept-requires c κs = search needs
+
 enum-known-refusal : tie.Need-enum-known-refusal
 enum-known-refusal c = search needs
+
 returns : tie.Need-returns
 returns c =
     let s = c .before .before .before .before .before in
@@ -34,14 +43,17 @@ returns c =
     let n = length (s .args .rows .now) in
     least-refused o n (s .args .rows .now) (c .before .refusal .given .0 .0)
     (least-refused-first o n (c .before .refusal .given .0 .0) (order-refused o _ _ (c .before .before .before .accept .ensures) (c .before .refusal .given .1)))
+
 enum-told : tie.Need-enum-told
 enum-told c = search needs
+
 rows-asked-requires : tie.Need-rows-asked-requires
 rows-asked-requires c κs =
     let s = c .before .before .before .before in
     let o = orderOf (s .args .order) in
     let n = length (s .args .rows .now) in
     (order-accepted o _ (c .before .before .accept .ensures) (c .enum-told .given .1))
+
 returns-2 : tie.Need-returns-2
 returns-2 c =
     let s = c .before .before .before .before .before .before in
@@ -49,29 +61,33 @@ returns-2 c =
     let n = length (s .args .rows .now) in
     least-refused o n (s .args .rows .now) BufferTooShort
     (least-refused-9 o n (order-accepted o _ (c .before .before .before .before .accept .ensures) (c .before .before .enum-told .given .1)) (omega (arith, c .if1 .taken, c .before .rows-asked .ensures .0)))
+
 least-of-requires : tie.Need-least-of-requires
 least-of-requires c κs =
     let s = c .before .before .before .before .before .before in
     let o = orderOf (s .args .order) in
     let n = length (s .args .rows .now) in
     (order-accepted o _ (c .before .before .before .before .accept .ensures) (c .before .before .enum-told .given .1))
+
 make-plan-requires : tie.Need-make-plan-requires
 make-plan-requires c κs =
     let s = c .before .before .before .before .before .before .before .before in
     let o = orderOf (s .args .order) in
     let n = length (s .args .rows .now) in
     let ok = (order-accepted o _ (c .before .before .before .before .before .before .accept .ensures) (c .before .before .before .before .enum-told .given .1)) in
-    let e = read-least (c .before .least-of .result) (leastLateness o) (c .before .least-of .ensures) (least-in-range o ok) in
-    (
+    let e = read-least (c .before .least-of .result) (leastLateness o) (c .before .least-of .ensures) (least-in-range o ok) in (
       ok,
       ap boundInRange e ∙ least-in-range o ok,
       subst (NoReason o) (sym e) (no-reason-from o ok (leastLateness o) (≤ℤ-refl (leastLateness o))),
       omega (arith, c .before .before .if1 .left, c .before .before .before .rows-asked .ensures .0),
     )
+
 cast-t14 : tie.Need-cast-t14
 cast-t14 c = search needs
+
 same-length : tie.Need-same-length
 same-length c = search needs
+
 returns-3 : tie.Need-returns-3
 returns-3 c =
     let s = c .before .before .before .before .before .before .before .before .before .before .before in
@@ -81,6 +97,7 @@ returns-3 c =
     let e = read-least (c .before .before .before .before .least-of .result) (leastLateness o) (c .before .before .before .before .least-of .ensures) (least-in-range o ok) in
     least-ensured o n ok (omega (arith, c .before .before .before .before .before .if1 .left, c .before .before .before .before .before .before .rows-asked .ensures .0)) (is-least o ok) (s .args .rows .now) _ _ _ e
     (written-at e (c .before .before .make-plan .ensures .0))
+
 pub least-lateness-spec : {M : Type 1} → statement M
 least-lateness-spec =
     tie.close

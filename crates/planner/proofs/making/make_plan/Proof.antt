@@ -19,26 +19,32 @@ use Rattle.planner.proofs.setup.rising_dues.Reads as rising-dues-reads
 
 instance-of-requires : tie.Need-instance-of-requires
 instance-of-requires c κs = (c .before .pre .0, read-in-range (c .before .args .order) _ _ (toZ-ofZ w32 _ (c .before .fits .bound)) (c .before .pre .0) (c .before .pre .1))
+
 slice-aggregate-fill-amounts : tie.Need-slice-aggregate-fill-amounts
 slice-aggregate-fill-amounts c = refl
+
 fill-amounts-requires : tie.Need-fill-amounts-requires
 fill-amounts-requires c κs = amounts-fit (c .before .before .before .args .order) _ _ (toZ-ofZ w32 _ (c .before .before .before .fits .bound)) (c .before .before .before .pre .0) (c .before .before .before .pre .1) _ (c .before .instance-of .ensures)
+
 rising-dues-requires : tie.Need-rising-dues-requires
 rising-dues-requires c κs = c .before .before .before .before .before .pre .0
+
 processor-order-requires : tie.Need-processor-order-requires
 processor-order-requires c κs = counts-few (c .before .before .before .before .before .before .args .order) (c .before .before .before .before .before .before .pre .0) .0
+
 job-order-requires : tie.Need-job-order-requires
 job-order-requires c κs = counts-few (c .before .before .before .before .before .before .before .args .order) (c .before .before .before .before .before .before .before .pre .0) .1
+
 slice-aggregate-lay-plan : tie.Need-slice-aggregate-lay-plan
 slice-aggregate-lay-plan c = search needs
+
 lay-plan-requires : tie.Need-lay-plan-requires
 lay-plan-requires c κs =
     let s = c .before .before .before .before .before .before .before .before .before .before in
     let i = c .before .before .before .before .before .before .before .before .instance-of in
     let e = toZ-ofZ w32 (s .args .bound) (s .fits .bound) in
     let w = c .before .before .before .before .before .before .fill-amounts .last .1 .0 in
-    let z : length w ≡ 2352 = search needs in
-    (
+    let z : length w ≡ 2352 = search needs in (
       (
         s .pre .0,
         read-in-range (s .args .order) _ _ e (s .pre .0) (s .pre .1),
@@ -50,8 +56,10 @@ lay-plan-requires c κs =
         (omega (arith, jobs-fit (s .args .order) _ _ e (s .pre .0) (s .pre .1) _ (i .ensures)), rows-fit (s .args .order) _ _ e (s .pre .0) (s .pre .1) _ (i .ensures) w _ (s .pre .3)),
       ),
     )
+
 same-length : tie.Need-same-length
 same-length c = search needs
+
 returns : tie.Need-returns
 returns c =
     let s = c .before .before .before .before .before .before .before .before .before .before .before .before .before in
@@ -59,6 +67,7 @@ returns c =
     let l = c .before .before .lay-plan .ensures in
     plan-made (s .args .order) _ _ (toZ-ofZ w32 (s .args .bound) (s .fits .bound)) (s .pre .0) (s .pre .1) _ (i .ensures) (s .pre .2) (c .before .before .before .before .before .before .before .before .before .fill-amounts .last .1 .0) (c .before .before .before .before .before .before .before .before .before .fill-amounts .result)
     (c .before .before .before .before .before .before .before .before .before .fill-amounts .ensures) _ _ _ (l .0) (l .1)
+
 pub make-plan-spec : {M : Type 1} → statement M
 make-plan-spec =
     tie.close
