@@ -1,12 +1,10 @@
 -- Whole numbers beside natural ones. Where document 01 compares an end with a time or with a row's `to`, both at least 1,
 -- the end cut off at 0 serves as well.
-use Prim.Native.Nat.{ℕ, zero, suc, _-_, _*_, _≤_, _<_}
-use mathlib.Core.Path.{_≡_, refl, ap}
+use Prim.Native.Nat.{ℕ, zero, suc, _*_, _≤_, _<_}
+use mathlib.Core.Path.{_≡_, refl}
 use native.Mathlib.Omega.{arith}
-use native.Mathlib.Decide.{decLe}
-use borrow.Author.Tests.{le-ltb, lt-ltb}
 use lib.Dec.{leb→le, le→leb, ltb→lt, lt→ltb}
-use lib.IntN.{ℤ, pos, negsuc, negℤ, _-ℤ_, _*ℤ_}
+use lib.IntN.{ℤ, pos, negsuc, negℤ, _*ℤ_}
 use lib.Signed.{_≤ℤ_, _<ℤ_}
 use Rattle.order.specs.Deadline.{cut}
 
@@ -46,16 +44,3 @@ pub ≤-mul-cut : (n p : ℕ) (z : ℤ) → 1 ≤ n → pos n ≤ℤ (pos p *ℤ
     none : (m : ℕ) → pos n ≤ℤ negℤ (pos m) → n ≤ p * 0
     none zero h = absurd (omega (arith, pos-≤ h))
     none (suc m) h = absurd (h .le)
-
--- a difference, and what is left of it after the cut
-pub pos-minus : (a b : ℕ) → b ≤ a → pos a -ℤ pos b ≡ pos (a - b)
-pos-minus a zero h = ap pos (omega arith)
-pos-minus a (suc b) h = rw (le-ltb a (suc b) h) refl
-
-pub cut-minus : (a b : ℕ) → cut (pos a -ℤ pos b) ≡ a - b
-cut-minus a zero = omega arith
-cut-minus a (suc b) =
-    elim (decLe (suc b) a) [
-      | yes h ↦ ap cut (pos-minus a (suc b) h)
-      | no h ↦ rw (lt-ltb a (suc b) (omega arith)) (omega arith)
-    ]

@@ -28,7 +28,8 @@ use Rattle.wrap.specs.Layout.{stretchRows, rowsUpTo, layout}
 use Rattle.layout.specs.Lent.{padded, amountIn, Rising}
 use Rattle.layout.specs.Laid.{Laid, Numbered, rowsBetween}
 use Rattle.layout.proofs.Placing.{processors-are, jobs-are}
-use Rattle.layout.proofs.Marks.{few-stretches, due-inside, mark-first, mark-next, marks-rise}
+use Rattle.wrap.specs.Marks.{mark-zero, mark-is, mark-up}
+use Rattle.layout.proofs.Marks.{few-stretches, due-inside}
 use Rattle.layout.proofs.Writing.{laid-none, laid-then, laid-room, laid-all, laid-frame}
 
 -- what a plan is laid from: an accepted order and a bound, its due times upwards, its orderings as arrays, room for its rows
@@ -94,7 +95,7 @@ module _ (o : Order) (bound : ℤ) (a : ℕ → ℕ → ℕ) where
   pub planning-start : (b : List ℕ) → Planning o bound a b 0 0 0 b
   planning-start b = record {
     laid = rw rows-none (laid-none [] 0 b);
-    at-mark = sym (mark-first o bound);
+    at-mark = sym (mark-zero o bound);
     a-stretch = omega arith;
     few = omega arith;
   }
@@ -170,14 +171,14 @@ module _ {t : OrderTable} {bound : ℤ} {dues : List ℤ} {q : ℕ} {processors 
     inside = omega (arith, g .count)
 
     end-is : end ≡ mark o bound (suc s)
-    end-is = e ∙ rw (read-back (getD dues s (pos 0)) f, g .rising .at s inside) (sym (mark-next o bound s inside))
+    end-is = e ∙ rw (read-back (getD dues s (pos 0)) f, g .rising .at s inside) (sym (mark-is o bound s inside))
 
     stretch-is : stretch ≡ stretchRows o bound a s
     unfolding stretchRows
     stretch-is = rw (first-processors, first-jobs, p .at-mark, end-is)
 
     pub stretch-forward : start ≤ end
-    stretch-forward = omega (arith, p .at-mark, end-is, marks-rise o bound s inside)
+    stretch-forward = omega (arith, p .at-mark, end-is, mark-up o bound s inside)
 
     pub stretch-room : 4 * (written + length stretch) ≤ length c
     unfolding layout

@@ -24,7 +24,8 @@ use Rattle.order.specs.declared.Order.{Order as OrderTable}
 use Rattle.profile.specs.Least.{lead}
 use Rattle.tables.specs.Tables.{RowOf}
 use Rattle.reason.specs.Settings.{dueAt, downTo, GridOf, Matches}
-use Rattle.reason.specs.LeadLaws.{cut-sub, due-lead}
+use Rattle.order.specs.Whole.{cut-minus}
+use Rattle.reason.specs.LeadLaws.{due-lead}
 use Rattle.reason.specs.GridLaws.{length-down, dues-in-range}
 use Rattle.reason.specs.declared.Members.{Members}
 use Rattle.reason.specs.declared.Setting.{Setting}
@@ -36,7 +37,7 @@ use Rattle.planner.specs.Rows.{rowsAsked}
 
 -- a difference, cut off at 0
 cut-less : (R : ℤ) (l : ℕ) → cut (R -ℤ pos l) ≡ cut R - l
-cut-less (pos r) l = cut-sub r l
+cut-less (pos r) l = cut-minus r l
 cut-less (negsuc n) zero = rw (lt-ltb 0 (suc n) (omega arith)) refl
 cut-less (negsuc n) (suc l) = omega arith
 

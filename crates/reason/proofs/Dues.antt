@@ -17,7 +17,8 @@ use mir.ValLaws.{toZ-pos, toZ-ofZ}
 use Rattle.order.specs.Refusals.{dueInRange}
 use Rattle.profile.specs.Least.{lead}
 use Rattle.reason.specs.Settings.{dueAt, dueOr}
-use Rattle.reason.specs.LeadLaws.{due-lead, pos-sub, sub-neg}
+use Rattle.order.specs.Whole.{pos-minus}
+use Rattle.reason.specs.LeadLaws.{due-lead, sub-neg}
 
 pub dues-none : (grid at : List ℕ) (x : ℕ) → x < 16 → getD (replicate 16 (pos 0)) x (pos 0) ≡ dueOr grid at 0 x
 dues-none grid at x h = rw (le-ltb x 0 (omega arith)) (getD-replicate 16 x (pos 0) (pos 0) h)
@@ -76,7 +77,7 @@ module _ (n : ℕ) (h : n ≤ 640000000) where
   fits-lateness =
       elim (decLt n 1000000) [
         | yes l ↦ rw (sub-neg n 1000000 l) (record { sfits = omega arith })
-        | no l ↦ rw (pos-sub n 1000000 (omega arith)) (record { sfits = omega arith })
+        | no l ↦ rw (pos-minus n 1000000 (omega arith)) (record { sfits = omega arith })
       ]
 
   pub lateness-fits : SFits w32 (toZ w32 n -ℤ pos 1000000)

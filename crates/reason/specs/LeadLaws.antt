@@ -12,24 +12,14 @@ use lib.Signed.{ltZ}
 use Rattle.order.specs.Refusals.{dueInRange, boundInRange}
 use Rattle.order.specs.RefusalLaws.{both-true}
 use Rattle.order.specs.Deadline.{cut}
+use Rattle.order.specs.Whole.{pos-minus, cut-minus}
 use Rattle.profile.specs.Least.{lead}
 use Rattle.reason.specs.Settings.{dueAt}
 
--- differences of numbers
-pub pos-sub : (a b : ℕ) → b ≤ a → pos a -ℤ pos b ≡ pos (a - b)
-pos-sub a zero h = ap pos (omega arith)
-pos-sub a (suc b) h = rw (le-ltb a (suc b) h)
-
+-- a difference below 0
 pub sub-neg : (a b : ℕ) → a < b → pos a -ℤ pos b ≡ negsuc (b - suc a)
 sub-neg a zero h = absurd (omega arith)
 sub-neg a (suc b) h = rw (lt-ltb a (suc b) h)
-
-pub cut-sub : (a b : ℕ) → cut (pos a -ℤ pos b) ≡ a - b
-cut-sub a b =
-    elim (decLt a b) [
-      | yes h ↦ rw (sub-neg a b h) (omega arith)
-      | no h ↦ rw (pos-sub a b (omega arith)) refl
-    ]
 
 -- a due time in range: from its lead it comes back
 module _ (n : ℕ) where
@@ -42,11 +32,11 @@ module _ (n : ℕ) where
 pub due-lead : (d : ℤ) → dueInRange d ≡ true → (pos 1000000 -ℤ d ≡ pos (lead d)) × (lead d ≤ 2000000) × (dueAt (lead d) ≡ d)
 due-lead (pos n) h =
     let l : n ≤ 1000000 = below-range n h in
-    let e : pos 1000000 -ℤ pos n ≡ pos (1000000 - n) = pos-sub 1000000 n l in
+    let e : pos 1000000 -ℤ pos n ≡ pos (1000000 - n) = pos-minus 1000000 n l in
     let f : lead (pos n) ≡ 1000000 - n = ap cut e in (
       e ∙ ap pos (sym f),
       omega arith,
-      ap dueAt f ∙ (pos-sub 1000000 (1000000 - n) (omega arith) ∙ ap pos (omega arith)),
+      ap dueAt f ∙ (pos-minus 1000000 (1000000 - n) (omega arith) ∙ ap pos (omega arith)),
     )
 due-lead (negsuc n) h =
     let l : n ≤ 999999 = above-range n h in
@@ -58,7 +48,7 @@ pub lead-due : (g : ℕ) → lead (dueAt g) ≡ g
 lead-due g =
     elim (decLt 1000000 g) [
       | yes h ↦ rw (sub-neg 1000000 g h) (omega arith)
-      | no h ↦ rw (pos-sub 1000000 g (omega arith), cut-sub 1000000 (1000000 - g)) (omega arith)
+      | no h ↦ rw (pos-minus 1000000 g (omega arith), cut-minus 1000000 (1000000 - g)) (omega arith)
     ]
 
 -- the smaller lead has the later due time
@@ -66,11 +56,11 @@ pub due-falls : (a b : ℕ) → a < b → ltZ (dueAt b) (dueAt a) ≡ true
 due-falls a b h =
     elim (decLt 1000000 b) [
       | no l ↦
-          rw (pos-sub 1000000 b (omega arith), pos-sub 1000000 a (omega arith))
+          rw (pos-minus 1000000 b (omega arith), pos-minus 1000000 a (omega arith))
           (lt-ltb (1000000 - b) (1000000 - a) (omega arith))
       | yes l ↦
           elim (decLt 1000000 a) [
-            | no k ↦ rw (sub-neg 1000000 b l, pos-sub 1000000 a (omega arith))
+            | no k ↦ rw (sub-neg 1000000 b l, pos-minus 1000000 a (omega arith))
             | yes k ↦ rw (sub-neg 1000000 b l, sub-neg 1000000 a k)
                 (lt-ltb (a - suc 1000000) (b - suc 1000000) (omega arith))
           ]
@@ -86,7 +76,7 @@ module _ (bound d : ℤ) (h : dueInRange d ≡ true) where
 
   -- where the reach is not below the lead, the end is the difference
   pub end-at : (r : ℕ) → pos 1000000 +ℤ bound ≡ pos r → lead d ≤ r → d +ℤ bound ≡ pos (r - lead d)
-  end-at r e l = end-is ∙ (ap (λ (z : ℤ). z -ℤ pos (lead d)) e ∙ pos-sub r (lead d) l)
+  end-at r e l = end-is ∙ (ap (λ (z : ℤ). z -ℤ pos (lead d)) e ∙ pos-minus r (lead d) l)
 
   -- a time exceeds the end exactly if time and lead exceed the reach, cut off at 0
   pub late-same : (t : ℕ) → 0 < t → ltZ (d +ℤ bound) (pos t) ≡ ltb (cut (pos 1000000 +ℤ bound)) (t + lead d)
@@ -103,7 +93,7 @@ module _ (bound d : ℤ) (h : dueInRange d ≡ true) where
       late-at (pos r) l t h =
           elim (decLt r l) [
             | yes a ↦ rw (sub-neg r l a, lt-ltb r (t + l) (omega arith)) refl
-            | no a ↦ rw (pos-sub r l (omega arith)) (shift (r - l) t r (t + l) l (omega arith) (omega arith))
+            | no a ↦ rw (pos-minus r l (omega arith)) (shift (r - l) t r (t + l) l (omega arith) (omega arith))
           ]
       late-at (negsuc n) zero t h = rw (lt-ltb 0 (suc n) (omega arith), lt-ltb 0 (t + 0) (omega arith)) refl
       late-at (negsuc n) (suc l) t h = rw (lt-ltb 0 (t + suc l) (omega arith)) refl
@@ -111,4 +101,4 @@ module _ (bound d : ℤ) (h : dueInRange d ≡ true) where
 -- the reach of a bound in range
 pub reach-most : (bound : ℤ) → boundInRange bound ≡ true → cut (pos 1000000 +ℤ bound) ≤ 11000000
 reach-most (pos n) h = omega (arith, leb-true n 10000000 (both-true true (leb n 10000000) h .1))
-reach-most (negsuc n) h = omega (arith, cut-sub 1000000 (suc n))
+reach-most (negsuc n) h = omega (arith, cut-minus 1000000 (suc n))

@@ -19,7 +19,8 @@ use Rattle.order.specs.Refusals.{dueInRange}
 use Rattle.profile.specs.Profile.{owed, classOwes, owedFrom, onHandFrom}
 use Rattle.profile.specs.Search.{isOverfull}
 use Rattle.profile.specs.Least.{lead, owedAt, weightAt, weightFrom}
-use Rattle.reason.specs.LeadLaws.{pos-sub, cut-sub, end-at}
+use Rattle.order.specs.Whole.{pos-minus, cut-minus}
+use Rattle.reason.specs.LeadLaws.{end-at}
 
 -- a due time in range whose lead is not beyond the reach
 abbrev pub Within : ℕ → ℤ → Type 0
@@ -78,9 +79,9 @@ module _ (o : Order) (bound : ℤ) (r : ℕ) (e : pos 1000000 +ℤ bound ≡ pos
         | no h ↦
             rw (
               lt-leb (r - lead (job .due)) (r - lead due) (omega arith),
-              pos-sub (r - lead (job .due)) (r - lead due)
+              pos-minus (r - lead (job .due)) (r - lead due)
                   (omega arith),
-              cut-sub (job .time) ((r - lead (job .due)) - (r - lead due)),
+              cut-minus (job .time) ((r - lead (job .due)) - (r - lead due)),
             )
             (omega (arith, j .1, d .1))
       ])
