@@ -1,13 +1,16 @@
--- A struct made of an order stands for that order.
+-- A struct made of an order stands for that order; the counts of an accepted one are within the limits.
 use Prim.Native.Nat.{ℕ, _≤_}
 use mathlib.Core.Path.{_≡_, _∙_}
 use mathlib.Core.List.{List}
 use native.Mathlib.Omega.{arith}
 use lib.IntN.{ℤ}
 use lib.ListN.{getD}
-use Rattle.sums.specs.ListLaws.{getD-tabulate, tabulate-cong, tabulate-getD}
+use Rattle.sums.specs.ListLaws.{length-tabulate, getD-tabulate, tabulate-cong, tabulate-getD}
 use Rattle.order.specs.Order.{Job, Order, noJob, processorCount, jobCount}
-use Rattle.order.specs.Table.{orderOf, tableOf}
+use Rattle.order.specs.Refusals.{Accepted}
+use Rattle.order.specs.RefusalLaws.{accepted-iff}
+use Rattle.order.specs.Table.{orderOf, tableOf, jobAt}
+use Rattle.order.specs.declared.Order.{Order as OrderTable}
 
 -- an order, and a job, are given by their parts
 pub same-order : (ms ns : List ℕ) (js ks : List Job) → ms ≡ ns → js ≡ ks →
@@ -33,3 +36,11 @@ tableOf-orderOf o few-processors few-jobs =
     (getD-tabulate 48 (λ j. getD (o .jobs) j noJob .due) _ j (omega arith))
     (getD-tabulate 48 (λ j. getD (o .jobs) j noJob .need) _ j (omega arith)))
     ∙ tabulate-getD (o .jobs) noJob)
+
+-- the counts of an accepted struct
+pub counts-few : (t : OrderTable) → Accepted (orderOf t) → (t .processors ≤ 16) × (t .jobs ≤ 48)
+counts-few t accepted =
+    let a = accepted-iff (orderOf t) .0 accepted in (
+      omega (arith, a .few-processors, length-tabulate (t .processors) (λ i. getD (t .memories) i 0)),
+      omega (arith, a .few-jobs, length-tabulate (t .jobs) (jobAt t)),
+    )

@@ -13,7 +13,8 @@ use Rattle.order.specs.declared.Order.{Order as OrderTable}
 use Rattle.order_file.specs.Bytes.{number4, signed}
 use Rattle.order_file.specs.File.{jobPlace, processorsOf, jobsOf, jobIn, orderIn}
 use Rattle.order_file.specs.Inside.{paddedTo, Placed}
-use Rattle.order_file.proofs.Padded.{padded-cong, padded-field, number4-part}
+use Rattle.order_file.specs.PaddedLaws.{padded-cong}
+use Rattle.order_file.proofs.Padded.{padded-field, number4-part}
 
 same-table : (p q : ℕ) (ms ns : List ℕ) (j k : ℕ) (ts us : List ℕ) (ds es : List ℤ) (xs ys : List ℕ) →
     p ≡ q → ms ≡ ns → j ≡ k → ts ≡ us → ds ≡ es → xs ≡ ys →

@@ -6,9 +6,6 @@ use mathlib.Core.Bool.{Bool, true, false, not}
 use mathlib.Core.List.{List, [], _∷_, _++_}
 use native.Mathlib.Omega.{arith}
 use borrow.Author.Tests.{lt-ltb, le-ltb, leb-true, not-true, not-false}
-use mir.Val.{toZ, ofZ, SFits}
-use mir.ValLaws.{toZ-ofZ}
-use mir.Syntax.{w32}
 use lib.Dec.{ltb, leb}
 use lib.IntN.{ℤ, pos, negsuc}
 use lib.ListN.{length}
@@ -230,11 +227,3 @@ module _ (bound read : ℤ) (same : read ≡ bound) (b : Bool) (e : b ≡ boundI
 pub written-at : {o : Order} {bound read : ℤ} {entry exit : List ℕ} {count : ℕ} → read ≡ bound →
     Written o read entry exit count → Written o bound entry exit count
 written-at {o} {bound} {read} {entry} {exit} {count} e w = subst (λ (z : ℤ). Written o z entry exit count) e w
-
--- the least lateness as the machine reads it back
-small : (z : ℤ) → boundInRange z ≡ true → SFits w32 z
-small (pos k) h = record { sfits = omega (arith, leb-true k 10000000 (both-true true (leb k 10000000) h .1)) }
-small (negsuc k) h = record { sfits = omega (arith, leb-true k 9999999 (both-true (leb k 9999999) true h .0)) }
-
-pub read-least : (z least : ℤ) → z ≡ least → boundInRange least ≡ true → toZ w32 (ofZ w32 z) ≡ least
-read-least z least e h = toZ-ofZ w32 z (small z (ap boundInRange e ∙ h)) ∙ e

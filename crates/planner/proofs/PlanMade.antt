@@ -11,7 +11,6 @@ use lib.ListN.{length, drop, getD}
 use Rattle.sums.specs.ListLaws.{length-tabulate}
 use Rattle.order.specs.Order.{Order, processorCount, jobCount}
 use Rattle.order.specs.Refusals.{Accepted, boundInRange}
-use Rattle.order.specs.RefusalLaws.{Acceptable, accepted-iff}
 use Rattle.order.specs.Table.{orderOf, jobAt}
 use Rattle.order.specs.declared.Order.{Order as OrderTable}
 use Rattle.plan.specs.Check.{numbersOf}
@@ -26,27 +25,8 @@ use Rattle.allot.specs.Instances.{flowIn, Sized, StandsFor, amountIn}
 use Rattle.allot.specs.Feasible.{stands-sized, stands-feasible}
 use Rattle.allot.specs.declared.Instance.{Instance}
 use Rattle.planner.specs.Rows.{rowsAsked}
+use Rattle.planner.specs.RowLaws.{asked-few}
 use Rattle.planner.specs.Written.{Written}
-
--- the counts of an accepted struct
-pub counts-few : (t : OrderTable) → Accepted (orderOf t) → (t .processors ≤ 16) × (t .jobs ≤ 48)
-counts-few t accepted =
-    let a = accepted-iff (orderOf t) .0 accepted in (
-      omega (arith, a .few-processors, length-tabulate (t .processors) (λ i. getD (t .memories) i 0)),
-      omega (arith, a .few-jobs, length-tabulate (t .jobs) (jobAt t)),
-    )
-
--- an accepted order asks for at most 3,024 rows
-pub asked-few : (o : Order) → Accepted o → rowsAsked o ≤ 3024
-asked-few o accepted =
-    let a = accepted-iff o .0 accepted in
-    let most : jobCount o + processorCount o - 1 ≤ 63 = omega (arith, a .few-jobs, a .few-processors) in
-    let few : stretchCount o ≤ 48 = omega (arith, stretches-few o, a .few-jobs) in
-    omega (
-      arith,
-      mul-le-mul-right (jobCount o + processorCount o - 1) few,
-      mul-le-mul-left 48 most,
-    )
 
 module _ (t : OrderTable) (bound read : ℤ) (same : read ≡ bound) (accepted : Accepted (orderOf t))
     (in-range : boundInRange bound ≡ true) where

@@ -2,7 +2,7 @@
 use super::PlanAnswer;
 use super::Planned;
 use super::making::make_plan;
-use super::setup::rows_asked;
+use super::room::rows_asked;
 use order::Acceptance;
 use order::Order;
 use order::Refusal;

@@ -1,7 +1,7 @@
 // The least lateness: refusals 1 to 7 and 9; else the least lateness and a right plan at it.
 use super::Least;
 use super::making::make_plan;
-use super::setup::rows_asked;
+use super::room::rows_asked;
 use order::Acceptance;
 use order::Order;
 use order::Refusal;

@@ -5,6 +5,7 @@ use reason::Why;
 pub mod bound; // plan_at
 pub mod lateness; // least_lateness
 mod making; // a plan where there is no reason against the bound
+pub mod room; // rows_asked
 mod setup; // an order at a bound, made ready for the engine and the layout
 
 // The least lateness and the number of rows written, or why there is none.

@@ -16,7 +16,6 @@ ghost use Rattle.tables.specs.Tables.{RowOf};
 ghost use Rattle.reason.specs.Settings.{dueAt};
 ghost use Rattle.allot.specs.Instances.{StandsFor};
 ghost use Rattle.layout.specs.Lent.{Rising};
-ghost use Rattle.planner.specs.Rows.{rowsAsked};
 
 // The difference, 0 where it is negative.
 fn less(a: u32, b: u32) -> u32
@@ -87,15 +86,4 @@ pub fn rising_dues(order: Order) -> [i32; 48]
     let grid = grid_of(order);
     let leads = grid.at;
     dues_at(leads)
-}
-
-// "q × (n + m - 1)": the rows that a plan may have.
-pub fn rows_asked(order: Order) -> usize
-    requires { ⌜ Accepted (orderOf order) ⌝ }
-    ensures { λ r. ⌜ (r ≡ rowsAsked (orderOf order)) × (r ≤ 3024) ⌝ }
-{
-    let grid = grid_of(order);
-    let n = order.jobs as usize;
-    let m = order.processors as usize;
-    grid.count * (n + m - 1)
 }

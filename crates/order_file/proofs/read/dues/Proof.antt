@@ -5,7 +5,7 @@ use mathlib.Core.Path.{_≡_, ap, _∙_}
 use lib.IntN.{pos}
 use Rattle.order_file.specs.Bytes.{number4, signed}
 use Rattle.order_file.specs.Inside.{paddedTo}
-use Rattle.order_file.proofs.Padded.{padded-none, padded-more}
+use Rattle.order_file.specs.PaddedLaws.{padded-none, padded-more}
 use borrow.Author.Needs.{needs}
 use native.Mathlib.Omega.{arith}
 use Rattle.order_file.proofs.read.dues.Statement.{statement}

@@ -3,7 +3,7 @@ use Prim.Native.Nat.{_*_, _-_, _≤_}
 use mathlib.Core.Path.{_≡_}
 use Rattle.order_file.specs.Bytes.{number4}
 use Rattle.order_file.specs.Inside.{paddedTo}
-use Rattle.order_file.proofs.Padded.{padded-none, padded-more}
+use Rattle.order_file.specs.PaddedLaws.{padded-none, padded-more}
 use borrow.Author.Needs.{needs}
 use native.Mathlib.Omega.{arith}
 use Rattle.order_file.proofs.read.memories.Statement.{statement}

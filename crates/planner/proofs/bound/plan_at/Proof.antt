@@ -35,7 +35,7 @@ use Rattle.order.proofs.deadline.bound_in_range.Reads as bound-in-range-reads
 use Rattle.planner.proofs.bound.is_reason.Reads as is-reason-reads
 use Rattle.planner.proofs.bound.refuse.Reads as refuse-reads
 use Rattle.planner.proofs.making.make_plan.Reads as make-plan-reads
-use Rattle.planner.proofs.setup.rows_asked.Reads as rows-asked-reads
+use Rattle.planner.proofs.room.rows_asked.Reads as rows-asked-reads
 use Rattle.reason.proofs.tell.reason_at.Reads as reason-at-reads
 
 accept-requires : tie.Need-accept-requires

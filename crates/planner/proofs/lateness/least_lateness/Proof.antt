@@ -1,3 +1,4 @@
+use Rattle.planner.specs.LeastRead.{read-least}
 use mathlib.Core.Path.{_≡_, sym, ap, _∙_, subst}
 use lib.ListN.{length}
 use lib.Signed.{≤ℤ-refl}
@@ -17,7 +18,6 @@ use Rattle.planner.proofs.Answers.{
   least-refused-9,
   least-ensured,
   written-at,
-  read-least,
 }
 use borrow.Author.Needs.{needs}
 use native.Mathlib.Omega.{arith}
@@ -27,7 +27,7 @@ use Rattle.planner.proofs.lateness.least_lateness.Reads as reads
 use Rattle.planner.proofs.lateness.least_lateness.Lts as lts
 use Rattle.order.proofs.accept.accept.Reads as accept-reads
 use Rattle.planner.proofs.making.make_plan.Reads as make-plan-reads
-use Rattle.planner.proofs.setup.rows_asked.Reads as rows-asked-reads
+use Rattle.planner.proofs.room.rows_asked.Reads as rows-asked-reads
 use Rattle.reason.proofs.tell.least_of.Reads as least-of-reads
 
 accept-requires : tie.Need-accept-requires

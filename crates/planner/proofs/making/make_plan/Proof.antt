@@ -3,7 +3,8 @@ use lib.ListN.{length}
 use mathlib.Core.Path.{refl}
 use mir.ValLaws.{toZ-ofZ}
 use mir.Syntax.{w32}
-use Rattle.planner.proofs.PlanMade.{counts-few, read-in-range, amounts-fit, jobs-fit, rows-fit, plan-made}
+use Rattle.order.specs.StructLaws.{counts-few}
+use Rattle.planner.proofs.PlanMade.{read-in-range, amounts-fit, jobs-fit, rows-fit, plan-made}
 use borrow.Author.Needs.{needs}
 use native.Mathlib.Omega.{arith}
 use Rattle.planner.proofs.making.make_plan.Statement.{statement}

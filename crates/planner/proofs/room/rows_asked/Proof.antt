@@ -1,10 +1,10 @@
 use borrow.Author.Needs.{needs}
 use native.Mathlib.Omega.{arith}
 use Rattle.planner.proofs.SetupLaws.{some-job, rows-few, rows-asked}
-use Rattle.planner.proofs.setup.rows_asked.Statement.{statement}
-use Rattle.planner.proofs.setup.rows_asked.Tie as tie
-use Rattle.planner.proofs.setup.rows_asked.Reads as reads
-use Rattle.planner.proofs.setup.rows_asked.Lts as lts
+use Rattle.planner.proofs.room.rows_asked.Statement.{statement}
+use Rattle.planner.proofs.room.rows_asked.Tie as tie
+use Rattle.planner.proofs.room.rows_asked.Reads as reads
+use Rattle.planner.proofs.room.rows_asked.Lts as lts
 use Rattle.reason.proofs.lead.grid_of.Reads as grid-of-reads
 
 grid-of-requires : tie.Need-grid-of-requires
