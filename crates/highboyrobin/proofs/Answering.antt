@@ -1,0 +1,66 @@
+-- What an answer tells of the table's verdict, and what a refused call leaves behind.
+use Prim.Native.Nat.{ℕ, _+_, _*_}
+use mathlib.Core.Path.{_≡_, refl, sym, ap, _∙_, subst}
+use mathlib.Core.List.{List, _++_}
+use native.Mathlib.Omega.{arith}
+use lib.IntN.{ℤ}
+use lib.ListN.{length, drop}
+use Rattle.order.specs.Order.{Order}
+use Rattle.order.specs.Refusals.{Verdict, accepted, refused, Answer, answer, refusal, answerBy}
+use Rattle.order.specs.Table.{refusalTold}
+use Rattle.order.specs.TableLaws.{refused-told}
+use Rattle.order.specs.declared.Refusal.{Refusal}
+use Rattle.highboyrobin.specs.Results.{resultOf, answeredBy}
+use Rattle.highboyrobin.specs.Calls.{PlanAnswered, PlanBy}
+
+module _ {A : Type 0} where
+  pub refused-by : (v : Verdict) (number job : ℕ) (a : A) → refusal number job ≡ answerBy v a → v ≡ refused number job
+  refused-by accepted number job a e = let z : _≡_ {A = ℕ} 0 1 = cc in absurd (omega arith)
+  refused-by (refused n j) number job a e = cc
+
+  -- a refusal of the code is the verdict
+  pub verdict-refused : (v : Verdict) (why : Refusal) (a b : A) → answerBy (refusalTold why) a ≡ answerBy v b → v ≡ refusalTold why
+  verdict-refused v why a b e =
+      let t = refused-told why in
+      refused-by v (t .0) (t .1) b (sym (ap (λ (w : Verdict). answerBy w a) (t .2)) ∙ e) ∙ sym (t .2)
+
+  -- where something is answered, the table accepts, and it is the value
+  pub verdict-accepted : (v : Verdict) (a b : A) → answer a ≡ answerBy v b → (v ≡ accepted) × (a ≡ b)
+  verdict-accepted accepted a b e = (refl, cc)
+  verdict-accepted (refused n j) a b e = let z : _≡_ {A = ℕ} 0 1 = cc in absurd (omega arith)
+
+-- what a call leaves behind, by the verdict
+module _ (v : Verdict) (numbers entry : List ℤ) where
+  abbrev pub Ended : ℕ → List ℤ → Type 0
+  Ended result exit = (result ≡ resultOf v) × (exit ≡ answeredBy v numbers entry)
+
+  pub ended-refused : (number job : ℕ) → v ≡ refused number job → Ended (number + 256 * job) entry
+  ended-refused number job e = rw e (refl, refl)
+
+  pub ended-told : (why : Refusal) → v ≡ refusalTold why → (result : ℕ) → result ≡ resultOf (refusalTold why) → Ended result entry
+  ended-told why e result r =
+      let t = refused-told why in
+      subst (λ (k : ℕ). Ended k entry) (sym (r ∙ ap resultOf (t .2))) (ended-refused (t .0) (t .1) (e ∙ t .2))
+
+  pub ended-done : (exit : List ℤ) → v ≡ accepted → exit ≡ numbers ++ drop (length numbers) entry → Ended 0 exit
+  ended-done exit e x = rw e (refl, x)
+
+-- the same of a call that writes a plan
+module _ (v : Verdict) (o : Order) (bound : ℤ) (first : List ℤ) (rows : List ℕ) (entry : List ℤ) where
+  abbrev pub PlanEnded : ℕ → List ℕ → List ℤ → Type 0
+  PlanEnded result rows′ exit = (result ≡ resultOf v) × PlanBy v o bound first rows rows′ entry exit
+
+  pub plan-refused : (number job : ℕ) → v ≡ refused number job → (rows′ : List ℕ) → rows′ ≡ rows →
+      PlanEnded (number + 256 * job) rows′ entry
+  plan-refused number job e rows′ k = rw e (refl, (k, refl))
+
+  pub plan-told : (why : Refusal) → v ≡ refusalTold why → (result : ℕ) → result ≡ resultOf (refusalTold why) →
+      (rows′ : List ℕ) → rows′ ≡ rows → PlanEnded result rows′ entry
+  plan-told why e result r rows′ k =
+      let t = refused-told why in
+      subst (λ (k : ℕ). PlanEnded k rows′ entry) (sym (r ∙ ap resultOf (t .2)))
+      (plan-refused (t .0) (t .1) (e ∙ t .2) rows′ k)
+
+  pub plan-done : v ≡ accepted → (rows′ : List ℕ) (exit : List ℤ) → PlanAnswered o bound first rows rows′ entry exit →
+      PlanEnded 0 rows′ exit
+  plan-done e rows′ exit w = rw e (refl, w)

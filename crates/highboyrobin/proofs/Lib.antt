@@ -1,0 +1,9 @@
+mod Answering
+mod Carried
+mod Calling
+mod Stored
+mod Gathered
+mod PlansTold
+mod ReasonTold
+mod ChecksTold
+mod FilesTold

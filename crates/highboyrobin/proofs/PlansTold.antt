@@ -1,0 +1,108 @@
+-- What the planner's answers say of the verdict and of the lent rows. The order is told twice, as it was read and as the file has
+-- it, and the bound as it was passed and as the machine reads it back.
+use Prim.Native.Nat.{ℕ}
+use mathlib.Core.Path.{_≡_, refl, sym, ap, _∙_, subst}
+use mathlib.Core.List.{List, [], _∷_, _++_, append-assoc}
+use lib.IntN.{ℤ}
+use lib.ListN.{length}
+use Rattle.order.specs.Order.{Order}
+use Rattle.order.specs.Refusals.{limits, TableRow, Verdict, accepted, refused, judge, answerBy, orderRows, boundRow, tightRow}
+use Rattle.order.specs.Table.{refusalTold}
+use Rattle.order.specs.TableLaws.{refused-told}
+use Rattle.order.specs.declared.Refusal.{Refusal}
+use Rattle.profile.specs.Least.{leastLateness}
+use Rattle.profile.specs.Search.{reasonOf}
+use Rattle.planner.specs.Rows.{bufferRow, isFound, leastRows, earlierRows, planRows}
+use Rattle.planner.specs.Told.{plannedTold, rowsOf, leastTold, leastCount}
+use Rattle.planner.specs.Written.{Written, BufferBy}
+use Rattle.planner.specs.declared.Least.{Least}
+use Rattle.planner.specs.declared.Least.the-variants.{At, Refused as LeastRefused}
+use Rattle.planner.specs.declared.Planned.{Planned}
+use Rattle.planner.specs.declared.Planned.the-variants.{Rows, Tight, Refused}
+use Rattle.highboyrobin.proofs.Answering.{refused-by, verdict-refused, verdict-accepted}
+
+-- both tables begin with the order's rows
+pub least-begins : (o : Order) (n : ℕ) → leastRows o n ≡ orderRows limits o ++ (bufferRow o n ∷ [])
+unfolding leastRows
+least-begins o n = refl
+
+pub plan-begins : (o : Order) (bound : ℤ) (n : ℕ) →
+    planRows o bound n ≡ orderRows limits o ++ (boundRow bound ∷ bufferRow o n ∷ tightRow (isFound (reasonOf o bound)) ∷ [])
+unfolding planRows earlierRows
+plan-begins o bound n =
+    append-assoc (orderRows limits o) (boundRow bound ∷ bufferRow o n ∷ []) (tightRow (isFound (reasonOf o bound)) ∷ [])
+
+kept : (v : Verdict) (number job : ℕ) → v ≡ refused number job → (o : Order) (bound : ℤ) (rows rows′ : List ℕ) (count : ℕ) →
+    BufferBy v o bound rows rows′ count → rows′ ≡ rows
+kept v number job e o bound rows rows′ count b = (rw e at b) .0
+
+filled : (v : Verdict) → v ≡ accepted → (o : Order) (bound : ℤ) (rows rows′ : List ℕ) (count : ℕ) →
+    BufferBy v o bound rows rows′ count → Written o bound rows rows′ count
+filled v e o bound rows rows′ count b = rw e at b
+
+-- at a bound
+abbrev pub PlanTold : Order → ℤ → List ℕ → List ℕ → Planned → Type 0
+PlanTold o bound rows rows′ p =
+    (plannedTold p ≡ answerBy (judge (planRows o bound (length rows))) (rowsOf p))
+    × BufferBy (judge (planRows o bound (length rows))) o bound rows rows′ (rowsOf p)
+
+pub plan-moved : (o o′ : Order) (read bound : ℤ) (rows rows′ : List ℕ) (p : Planned) → o ≡ o′ → read ≡ bound →
+    PlanTold o read rows rows′ p → PlanTold o′ bound rows rows′ p
+plan-moved o o′ read bound rows rows′ p e f t =
+    subst (λ (z : ℤ). PlanTold o′ z rows rows′ p) f (subst (λ (x : Order). PlanTold x read rows rows′ p) e t)
+
+module _ (o : Order) (bound : ℤ) (rows rows′ : List ℕ) (p : Planned) (t : PlanTold o bound rows rows′ p) where
+  abbrev v : Verdict
+  v = judge (planRows o bound (length rows))
+
+  told-as : (q : Planned) → p ≡ q → PlanTold o bound rows rows′ q
+  told-as q e = subst (PlanTold o bound rows rows′) e t
+
+  pub planned-refused : (why : Refusal) → p ≡ Refused why → (v ≡ refusalTold why) × (rows′ ≡ rows)
+  planned-refused why e =
+      let u = told-as (Refused why) e in
+      let w = verdict-refused v why 0 0 (u .0) in
+      let r = refused-told why in
+      (w, kept v (r .0) (r .1) (w ∙ r .2) o bound rows rows′ 0 (u .1))
+
+  pub planned-tight : p ≡ Tight → (v ≡ refused 10 0) × (rows′ ≡ rows)
+  planned-tight e =
+      let u = told-as Tight e in
+      let w = refused-by v 10 0 0 (u .0) in
+      (w, kept v 10 0 w o bound rows rows′ 0 (u .1))
+
+  pub planned-rows : (count : ℕ) → p ≡ Rows count → (v ≡ accepted) × Written o bound rows rows′ count
+  planned-rows count e =
+      let u = told-as (Rows count) e in
+      let w = verdict-accepted v count count (u .0) .0 in
+      (w, filled v w o bound rows rows′ count (u .1))
+
+-- at the least lateness
+abbrev pub LeastTold : Order → List ℕ → List ℕ → Least → Type 0
+LeastTold o rows rows′ l =
+    (leastTold l ≡ answerBy (judge (leastRows o (length rows))) (leastLateness o))
+    × BufferBy (judge (leastRows o (length rows))) o (leastLateness o) rows rows′ (leastCount l)
+
+pub least-moved : (o o′ : Order) (rows rows′ : List ℕ) (l : Least) → o ≡ o′ → LeastTold o rows rows′ l → LeastTold o′ rows rows′ l
+least-moved o o′ rows rows′ l e t = subst (λ (x : Order). LeastTold x rows rows′ l) e t
+
+module _ (o : Order) (rows rows′ : List ℕ) (l : Least) (t : LeastTold o rows rows′ l) where
+  abbrev w : Verdict
+  w = judge (leastRows o (length rows))
+
+  least-as : (k : Least) → l ≡ k → LeastTold o rows rows′ k
+  least-as k e = subst (LeastTold o rows rows′) e t
+
+  pub least-refused : (why : Refusal) → l ≡ LeastRefused why → (w ≡ refusalTold why) × (rows′ ≡ rows)
+  least-refused why e =
+      let u = least-as (LeastRefused why) e in
+      let x = verdict-refused w why _ _ (u .0) in
+      let r = refused-told why in
+      (x, kept w (r .0) (r .1) (x ∙ r .2) o _ rows rows′ 0 (u .1))
+
+  pub least-at : (z : ℤ) (count : ℕ) → l ≡ At z count →
+      (w ≡ accepted) × (z ≡ leastLateness o) × Written o (leastLateness o) rows rows′ count
+  least-at z count e =
+      let u = least-as (At z count) e in
+      let x = verdict-accepted w z (leastLateness o) (u .0) in
+      (x .0, x .1, filled w (x .0) o _ rows rows′ count (u .1))

@@ -1,0 +1,75 @@
+-- The reason as numbers: they are few, and those of the code's reason are those of document 01's.
+use Prim.Native.Nat.{ℕ, _≤_, _<_}
+use mathlib.Core.Path.{_≡_, refl, sym, ap, _∙_, subst}
+use mathlib.Core.Bool.{Bool, true, false, not}
+use mathlib.Core.List.{List, [], _∷_, _++_}
+use native.Mathlib.Omega.{arith}
+use lib.IntN.{ℤ, pos}
+use lib.ListN.{length}
+use Rattle.sums.specs.ListLaws.{All-nth}
+use Rattle.order.specs.Order.{Order, noJob}
+use Rattle.order.specs.Refusals.{limits, Verdict, accepted, refused, judge, orderRows, boundRow, boundInRange, Accepted}
+use Rattle.order.specs.RefusalLaws.{accepted-iff, judge-accepted-append}
+use Rattle.profile.specs.Reason.{Reason, overEnd, stairs}
+use Rattle.profile.specs.ReasonLaws.{reason-found}
+use Rattle.profile.specs.Search.{Found, nothing, found, reasonOf}
+use Rattle.allot.specs.Bounds.{classes-few}
+use Rattle.reason.specs.Told.{whyOf}
+use Rattle.reason.specs.declared.Reason.{Reason as CodeReason}
+use Rattle.reason.specs.declared.Reason.the-variants.{Job, Stairs, Nothing}
+use Rattle.reason.specs.declared.Why.{Why}
+use Rattle.highboyrobin.specs.Calls.{reasonNumbers}
+use Rattle.highboyrobin.specs.Inside.{kindOf, whichOf, timeOf, whyNumbers}
+
+pub numbers-are : (o : Order) (r : Found Reason) → whyNumbers (whyOf o r) ≡ reasonNumbers o r
+numbers-are o nothing = refl
+numbers-are o (found (overEnd j)) = refl
+numbers-are o (found (stairs dues)) = refl
+
+pub numbers-count : (o : Order) (r : Found Reason) → length (reasonNumbers o r) ≡ 19
+numbers-count o nothing = refl
+numbers-count o (found (overEnd j)) = refl
+numbers-count o (found (stairs dues)) = refl
+
+pub kind-small : (r : CodeReason) → kindOf r < 2147483648
+kind-small Nothing = omega arith
+kind-small (Job j t) = omega arith
+kind-small (Stairs k) = omega arith
+
+-- row 8 decides after an accepted order
+module _ (o : Order) (bound : ℤ) (a : Accepted o) where
+  pub bound-refused : boundInRange bound ≡ false → judge (orderRows limits o ++ (boundRow bound ∷ [])) ≡ refused 8 0
+  unfolding judge
+  bound-refused e = judge-accepted-append (orderRows limits o) (boundRow bound ∷ []) a ∙ rw e
+
+  pub bound-accepted : boundInRange bound ≡ true → judge (orderRows limits o ++ (boundRow bound ∷ [])) ≡ accepted
+  unfolding judge
+  bound-accepted e = judge-accepted-append (orderRows limits o) (boundRow bound ∷ []) a ∙ rw e
+
+-- each of its numbers is below 2^31
+module _ (o : Order) (bound : ℤ) (a : Accepted o) where
+  small : (r : Found Reason) → reasonOf o bound ≡ r →
+      (whichOf (whyOf o r .reason) < 2147483648) × (timeOf (whyOf o r .reason) < 2147483648)
+  small nothing e = (omega arith, omega arith)
+  small (found (overEnd j)) e =
+      let h = accepted-iff o .0 a in
+      let b = reason-found o bound (overEnd j) .0 e .a-job in (
+        omega (arith, b, h .few-jobs),
+        omega (arith, All-nth _ (o .jobs) noJob (h .times) j (b .0) (b .1)),
+      )
+  small (found (stairs dues)) e =
+      let h = accepted-iff o .0 a in
+      let p = reason-found o bound (stairs dues) .0 e .stairs .overfull .profile .of-classes in
+      (omega (arith, p, classes-few o, h .few-processors), omega arith)
+
+  pub reason-small : (w : Why) → w ≡ whyOf o (reasonOf o bound) →
+      (whichOf (w .reason) < 2147483648) × (timeOf (w .reason) < 2147483648)
+  reason-small w e =
+      subst (λ (w : Why). (whichOf (w .reason) < 2147483648) × (timeOf (w .reason) < 2147483648)) (sym e)
+      (small (reasonOf o bound) refl)
+
+-- the reason of the order that was read is that of the file's
+pub why-moved : (o o′ : Order) (read bound : ℤ) (w : Why) → o ≡ o′ → read ≡ bound → w ≡ whyOf o (reasonOf o read) →
+    w ≡ whyOf o′ (reasonOf o′ bound)
+why-moved o o′ read bound w e f h =
+    subst (λ (z : ℤ). w ≡ whyOf o′ (reasonOf o′ z)) f (subst (λ (x : Order). w ≡ whyOf x (reasonOf x read)) e h)

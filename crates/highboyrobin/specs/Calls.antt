@@ -1,0 +1,74 @@
+-- What each exported function answers, and by which rows of the refusal table it judges. A file stands for the order in it.
+use Prim.Native.Nat.{ℕ, _+_, _*_, _/_}
+use mathlib.Core.Path.{_≡_}
+use mathlib.Core.Bool.{Bool, cond}
+use mathlib.Core.List.{List, [], _∷_, _++_}
+use lib.IntN.{ℤ, pos}
+use lib.ListN.{length, getD, drop}
+use Rattle.sums.specs.Lists.{tabulate}
+use Rattle.order.specs.Order.{Job, Order, processorCount, jobCount, jobOf}
+use Rattle.order.specs.Refusals.{limits, TableRow, Verdict, accepted, refused, orderRows, boundRow}
+use Rattle.order_file.specs.Bytes.{signed}
+use Rattle.order_file.specs.File.{orderIn, writeRows}
+use Rattle.plan.specs.Check.{checkRows}
+use Rattle.profile.specs.Reason.{Reason, overEnd, stairs}
+use Rattle.profile.specs.Search.{Found, nothing, found}
+use Rattle.reason.specs.Told.{sixteen}
+use Rattle.planner.specs.Rows.{rowsAsked, leastRows, planRows}
+use Rattle.planner.specs.Written.{Written}
+use Rattle.highboyrobin.specs.Results.{fileCall, answerRow, partJobRow}
+
+-- hbr_judge: the processors, the jobs, and the rows to be lent
+abbrev pub judgeCall : List ℕ → ℕ → List TableRow
+judgeCall file lent = fileCall lent 3 file (orderRows limits (orderIn file))
+
+abbrev pub sizesOf : Order → List ℤ
+sizesOf o = pos (processorCount o) ∷ pos (jobCount o) ∷ pos (rowsAsked o) ∷ []
+
+-- hbr_least
+abbrev pub leastCall : List ℕ → ℕ → ℕ → List TableRow
+leastCall file numbers lent = fileCall lent 2 file (leastRows (orderIn file) numbers)
+
+-- hbr_plan
+abbrev pub planCall : List ℕ → ℤ → ℕ → ℕ → List TableRow
+planCall file bound numbers lent = fileCall lent 1 file (planRows (orderIn file) bound numbers)
+
+-- a plan was written at a bound, and the answer holds these numbers and then the count of its rows, which depends on amounts
+-- that are left free
+pub record PlanAnswered (o : Order) (bound : ℤ) (first : List ℤ) (rows rows′ : List ℕ) (answer answer′ : List ℤ) : Type 0 where
+  pub count : ℕ
+  pub written : Written o bound rows rows′ count
+  pub answered : answer′ ≡ (first ++ (pos count ∷ [])) ++ drop (length first + 1) answer
+
+-- rows and answer at exit, by what the table answers: a refused call writes nothing
+abbrev pub PlanBy : Verdict → Order → ℤ → List ℤ → List ℕ → List ℕ → List ℤ → List ℤ → Type 0
+PlanBy accepted o bound first rows rows′ answer answer′ = PlanAnswered o bound first rows rows′ answer answer′
+PlanBy (refused number job) o bound first rows rows′ answer answer′ = (rows′ ≡ rows) × (answer′ ≡ answer)
+
+-- hbr_reason: its kind (0 none, 1 a job, 2 a staircase), the job or the count of classes, the job's time, sixteen due times
+abbrev pub reasonCall : List ℕ → ℤ → ℕ → List TableRow
+reasonCall file bound lent = fileCall lent 19 file (orderRows limits (orderIn file) ++ (boundRow bound ∷ []))
+
+abbrev pub reasonNumbers : Order → Found Reason → List ℤ
+reasonNumbers o nothing = pos 0 ∷ pos 0 ∷ pos 0 ∷ sixteen []
+reasonNumbers o (found (overEnd j)) = pos 1 ∷ pos j ∷ pos (jobOf o j .time) ∷ sixteen []
+reasonNumbers o (found (stairs dues)) = pos 2 ∷ pos (length dues) ∷ pos 0 ∷ sixteen dues
+
+-- hbr_check: 1 for yes, 0 for no
+abbrev pub checkCall : List ℕ → ℤ → ℕ → ℕ → List TableRow
+checkCall file bound numbers lent = fileCall lent 1 file (checkRows (orderIn file) bound numbers)
+
+abbrev pub yesOrNo : Bool → List ℤ
+yesOrNo right = pos (cond right 1 0) ∷ []
+
+-- hbr_write: the order of two lists of numbers, three to a job: time, due time as two's complement, need
+unfoldable pub orderFrom : List ℕ → List ℕ → Order
+orderFrom memories jobs = record {
+  memories = memories;
+  jobs = tabulate (length jobs / 3)
+      (λ j. record { time = getD jobs (3 * j) 0; due = signed (getD jobs (3 * j + 1) 0); need = getD jobs (3 * j + 2) 0 });
+}
+
+unfoldable pub writeCall : List ℕ → List ℕ → ℕ → ℕ → List TableRow
+writeCall memories jobs lent answer =
+    answerRow answer 1 ∷ partJobRow (length jobs) ∷ writeRows (orderFrom memories jobs) lent

@@ -1,0 +1,3 @@
+pub mod Results
+pub mod Calls
+pub mod Inside

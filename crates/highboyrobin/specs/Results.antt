@@ -1,0 +1,39 @@
+-- What a call from C or Rust leaves behind: one number as its result, and a lent answer that is written on success only.
+use Prim.Native.Nat.{ℕ, _+_, _*_, _%_}
+use mathlib.Core.Bool.{not}
+use mathlib.Core.List.{List, [], _∷_, _++_}
+use lib.Dec.{ltb, eqb}
+use lib.IntN.{ℤ}
+use lib.ListN.{length, drop}
+use Rattle.order.specs.Refusals.{TableRow, Verdict, accepted, refused, row, whole, fileRow}
+use Rattle.order_file.specs.File.{goodFile}
+
+-- the number of a refusal, and the job that it carries; 0 where there is none
+abbrev pub numberBy : Verdict → ℕ
+numberBy accepted = 0
+numberBy (refused number job) = number
+
+abbrev pub jobBy : Verdict → ℕ
+jobBy accepted = 0
+jobBy (refused number job) = job
+
+-- the result: 0 where the call succeeds, else the refusal's number and 256 times the job
+abbrev pub resultOf : Verdict → ℕ
+resultOf v = numberBy v + 256 * jobBy v
+
+-- the lent answer at exit: these numbers and what stood beyond them; what it held where the call is refused
+abbrev pub answeredBy : Verdict → List ℤ → List ℤ → List ℤ
+answeredBy accepted numbers entry = numbers ++ drop (length numbers) entry
+answeredBy (refused number job) numbers entry = entry
+
+-- two rows that stand before document 01's table, with numbers that no paper gives: the answer is too short; the jobs' numbers
+-- are not three to a job
+abbrev pub answerRow : ℕ → ℕ → TableRow
+answerRow lent asked = row 255 (whole (ltb lent asked))
+
+abbrev pub partJobRow : ℕ → TableRow
+partJobRow numbers = row 254 (whole (not (eqb (numbers % 3) 0)))
+
+-- the table of a call that takes a file: the answer's room, 12, then the rows of the entry point
+unfoldable pub fileCall : ℕ → ℕ → List ℕ → List TableRow → List TableRow
+fileCall lent asked file rows = answerRow lent asked ∷ fileRow (goodFile file) ∷ rows

@@ -1,0 +1,11 @@
+// The part that makers link: thin functions over the proved entry points, for C and Rust. None has a `requires`, and a refused
+// call writes nothing. link/highboyrobin.h declares them.
+mod answers; // what is written into a lent answer
+mod gathering; // an order from lists of numbers
+mod results; // a refusal as the result of a call
+pub mod checking; // hbr_check
+pub mod judging; // hbr_judge
+pub mod lateness; // hbr_least
+pub mod planning; // hbr_plan
+pub mod reasoning; // hbr_reason
+pub mod writing; // hbr_write
