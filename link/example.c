@@ -1,0 +1,33 @@
+/* Plans an order from C: two processors, three jobs. Prints the least lateness, a plan that meets it, and why 0 is too tight. */
+#include "highboyrobin.h"
+#include <stdio.h>
+
+int main(void) {
+  const uint32_t memories[] = {8, 4};
+  const uint32_t jobs[] = {/* time, due, need */ 3, 3, 8, 3, 3, 4, 2, 4, 2};
+  static uint8_t file[HBR_MOST_BYTES];
+  static uint32_t rows[4 * HBR_MOST_ROWS];
+  int32_t length[HBR_WRITE_ANSWER], least[HBR_LEAST_ANSWER], reason[HBR_REASON_ANSWER];
+
+  uint32_t result = hbr_write(memories, 2, jobs, 9, file, sizeof file, length, HBR_WRITE_ANSWER);
+  if (result == 0)
+    result = hbr_least(file, (size_t)length[0], rows, 4 * HBR_MOST_ROWS, least, HBR_LEAST_ANSWER);
+  if (result == 0)
+    result = hbr_reason(file, (size_t)length[0], 0, reason, HBR_REASON_ANSWER);
+  if (result != 0) {
+    printf("refused %u, job %u\n", hbr_number(result), hbr_job(result));
+    return 1;
+  }
+  printf("least lateness %d\n", least[0]);
+  for (int i = 0; i < least[1]; i++) {
+    const uint32_t *row = &rows[4 * i];
+    printf("job %u on processor %u from %u to %u\n", row[0], row[1], row[2], row[3]);
+  }
+  if (reason[0] == HBR_STAIRS) {
+    printf("lateness 0 is too tight: due times");
+    for (int k = 0; k < reason[1]; k++)
+      printf(" %d", reason[3 + k]);
+    printf("\n");
+  }
+  return 0;
+}

@@ -1,0 +1,44 @@
+// Plans an order from Rust: two processors, three jobs. Prints the least lateness, a plan that meets it, and why 0 is too tight.
+#[allow(dead_code)]
+mod highboyrobin;
+use highboyrobin::{least, reason, write, Job, Reason, Refused, Row, MOST_BYTES, MOST_ROWS};
+
+fn main() -> Result<(), Refused> {
+    let memories = [8, 4];
+    let jobs = [
+        Job {
+            time: 3,
+            due: 3,
+            need: 8,
+        },
+        Job {
+            time: 3,
+            due: 3,
+            need: 4,
+        },
+        Job {
+            time: 2,
+            due: 4,
+            need: 2,
+        },
+    ];
+    let mut bytes = [0; MOST_BYTES];
+    let length = write(&memories, &jobs, &mut bytes)?;
+    let file = &bytes[..length];
+
+    let mut rows = [Row::default(); MOST_ROWS];
+    let answer = least(file, &mut rows)?;
+    println!("least lateness {}", answer.lateness);
+    for row in &rows[..answer.rows] {
+        println!(
+            "job {} on processor {} from {} to {}",
+            row.job, row.processor, row.from, row.to
+        );
+    }
+    if let Some(Reason::Stairs { classes, dues }) = reason(file, 0)? {
+        print!("lateness 0 is too tight: due times");
+        dues[..classes].iter().for_each(|due| print!(" {due}"));
+        println!();
+    }
+    Ok(())
+}

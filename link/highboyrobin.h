@@ -1,0 +1,107 @@
+/* Highboyrobin: a session planner whose refusals are facts. Link with libhighboyrobin.a.
+ *
+ * Units. Times are whole minutes from a common start, minute 0. A memory and a need are numbers of one unit of yours, 0 to
+ * 4294967295. Jobs and processors are numbered from 1, in the order in which you list them.
+ *
+ * An order is handed over as the bytes of an order file (docs/LINKING.md shows them; hbr_write makes them).
+ *
+ * Rows of a plan are lent as numbers, four to a row: job, processor, from, to. A row takes the minutes from `from` up to but not
+ * including `to`.
+ *
+ * Results. Each function returns 0 where it succeeds, else a refusal: its number is hbr_number(result), and the job that it is
+ * about, 0 where it is about none, hbr_job(result). Of several refusals that apply the first is told: HBR_SHORT_ANSWER,
+ * HBR_PART_JOB, 12, then 1 to 11 upwards.
+ *
+ * Memory. You own every buffer; nothing is kept after a call, and nothing is allocated. Two buffers of one call must not overlap
+ * unless both are const. Lengths count elements, not bytes. Pointers must be valid, also where the length is 0. A REFUSED CALL
+ * WRITES NOTHING, neither to rows or file nor to the answer. A call that succeeds leaves what lies beyond its rows, its file or
+ * its answer as it was.
+ *
+ * Calls may run at once on several threads if what they write is apart. docs/LINKING.md says how much stack a call needs.
+ */
+#ifndef HIGHBOYROBIN_H
+#define HIGHBOYROBIN_H
+
+#include <stddef.h>
+#include <stdint.h>
+
+#ifdef __cplusplus
+extern "C" {
+#endif
+
+/* the most processors and jobs of an order, bytes of its file, rows of a plan */
+#define HBR_MOST_PROCESSORS 16
+#define HBR_MOST_JOBS 48
+#define HBR_MOST_BYTES 652
+#define HBR_MOST_ROWS 3024
+
+/* refusals */
+#define HBR_NO_PROCESSOR 1        /* the order has no processor */
+#define HBR_TOO_MANY_PROCESSORS 2 /* it has over 16 */
+#define HBR_NO_JOB 3              /* it has no job */
+#define HBR_TOO_MANY_JOBS 4       /* it has over 48 */
+#define HBR_TIME_OUT_OF_RANGE 5   /* a job's time is not 1 to 100000 */
+#define HBR_DUE_OUT_OF_RANGE 6    /* a job's due time is not -1000000 to 1000000 */
+#define HBR_FITS_NO_PROCESSOR 7   /* a job needs more memory than any processor has */
+#define HBR_BOUND_OUT_OF_RANGE 8  /* the bound is not -10000000 to 10000000 */
+#define HBR_BUFFER_TOO_SHORT 9    /* rows or file: hbr_judge and hbr_write tell what is asked for */
+#define HBR_BOUND_TOO_TIGHT 10    /* no plan whatever meets the bound: hbr_reason tells why */
+#define HBR_TOO_MANY_ROWS 11      /* over 3024 rows to check */
+#define HBR_BAD_FILE 12           /* the file is under 12 or over 652 bytes, or its lists and its trailer disagree */
+#define HBR_PART_JOB 254          /* the numbers of the jobs are not three to a job */
+#define HBR_SHORT_ANSWER 255      /* the answer is shorter than the function's HBR_.._ANSWER */
+
+#define hbr_number(result) ((result) % 256u)
+#define hbr_job(result) ((result) / 256u)
+
+/* Judges an order file. Refusals: 12, 1 to 7.
+ * answer[0] processors, answer[1] jobs, answer[2] the rows that hbr_least and hbr_plan ask to be lent, 1 to 3024. */
+#define HBR_JUDGE_ANSWER 3
+uint32_t hbr_judge(const uint8_t *file, size_t file_length, int32_t *answer, size_t answer_length);
+
+/* The least lateness: the smallest whole number by which, added to every due time, all jobs can be done by their due times. It
+ * may be negative: then all can be early. A plan that meets it is written from rows[0] on. Refusals: 12, 1 to 7, 9.
+ * answer[0] the least lateness, answer[1] the number of rows written. */
+#define HBR_LEAST_ANSWER 2
+uint32_t hbr_least(const uint8_t *file, size_t file_length, uint32_t *rows, size_t rows_length, int32_t *answer,
+                   size_t answer_length);
+
+/* A plan in which every job is done by its due time plus the bound, written from rows[0] on. Refusals: 12, 1 to 10.
+ * answer[0] the number of rows written. */
+#define HBR_PLAN_ANSWER 1
+uint32_t hbr_plan(const uint8_t *file, size_t file_length, int32_t bound, uint32_t *rows, size_t rows_length, int32_t *answer,
+                  size_t answer_length);
+
+/* Why no plan can meet the bound. Refusals: 12, 1 to 8.
+ * answer[0] HBR_NONE where there is a plan, else HBR_JOB or HBR_STAIRS.
+ * HBR_JOB: answer[1] the first job whose time exceeds its due time plus the bound, answer[2] its time.
+ * HBR_STAIRS: answer[1] a count k of classes, answer[3] to answer[k + 2] a due time for each. Class 1 is the processors of the
+ * largest memory, class 2 those of the next, and so on; the jobs of these classes need more minutes by those due times plus the
+ * bound than their processors have.
+ * All numbers not named are 0. */
+#define HBR_NONE 0
+#define HBR_JOB 1
+#define HBR_STAIRS 2
+#define HBR_REASON_ANSWER 19
+uint32_t hbr_reason(const uint8_t *file, size_t file_length, int32_t bound, int32_t *answer, size_t answer_length);
+
+/* Whether rows, made by anybody and in any order, are a right plan that meets the bound: each job gets its full time, on
+ * processors whose memory suffices, by its due time plus the bound, and no job and no processor is used twice at a time. Numbers
+ * left over after the last whole row make the plan wrong. Refusals: 12, 1 to 8, 11.
+ * answer[0] 1 for yes, 0 for no. */
+#define HBR_CHECK_ANSWER 1
+uint32_t hbr_check(const uint8_t *file, size_t file_length, int32_t bound, const uint32_t *rows, size_t rows_length,
+                   int32_t *answer, size_t answer_length);
+
+/* Writes the order file of an order: memories, one number to a processor; jobs, three to a job: time, due time (a negative one
+ * converted to uint32_t), need. Refusals: HBR_PART_JOB, 1 to 7, 9; HBR_MOST_BYTES bytes are always enough.
+ * answer[0] the length of the file. */
+#define HBR_WRITE_ANSWER 1
+uint32_t hbr_write(const uint32_t *memories, size_t memories_length, const uint32_t *jobs, size_t jobs_length, uint8_t *file,
+                   size_t file_length, int32_t *answer, size_t answer_length);
+
+#ifdef __cplusplus
+}
+#endif
+
+#endif

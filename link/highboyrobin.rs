@@ -1,0 +1,243 @@
+//! Safe Rust over `libhighboyrobin.a`: a session planner whose refusals are facts. It needs neither `std` nor a heap.
+//!
+//! Times are whole minutes from a common start, minute 0. Jobs and processors are numbered from 1, in the order in which they are
+//! listed. An order is handed over as the bytes of an order file, which `write` makes. A refused call writes nothing.
+
+/// The most processors and jobs of an order, bytes of its file, rows of a plan.
+pub const MOST_PROCESSORS: usize = 16;
+pub const MOST_JOBS: usize = 48;
+pub const MOST_BYTES: usize = 652;
+pub const MOST_ROWS: usize = 3024;
+
+/// The functions of the archive, as `highboyrobin.h` declares them. A slice is a pointer and a length in elements.
+pub mod raw {
+    extern "C" {
+        pub fn hbr_judge(
+            file: *const u8,
+            file_length: usize,
+            answer: *mut i32,
+            answer_length: usize,
+        ) -> u32;
+        pub fn hbr_least(
+            file: *const u8,
+            file_length: usize,
+            rows: *mut u32,
+            rows_length: usize,
+            answer: *mut i32,
+            answer_length: usize,
+        ) -> u32;
+        pub fn hbr_plan(
+            file: *const u8,
+            file_length: usize,
+            bound: i32,
+            rows: *mut u32,
+            rows_length: usize,
+            answer: *mut i32,
+            answer_length: usize,
+        ) -> u32;
+        pub fn hbr_reason(
+            file: *const u8,
+            file_length: usize,
+            bound: i32,
+            answer: *mut i32,
+            answer_length: usize,
+        ) -> u32;
+        pub fn hbr_check(
+            file: *const u8,
+            file_length: usize,
+            bound: i32,
+            rows: *const u32,
+            rows_length: usize,
+            answer: *mut i32,
+            answer_length: usize,
+        ) -> u32;
+        pub fn hbr_write(
+            memories: *const u32,
+            memories_length: usize,
+            jobs: *const u32,
+            jobs_length: usize,
+            file: *mut u8,
+            file_length: usize,
+            answer: *mut i32,
+            answer_length: usize,
+        ) -> u32;
+    }
+}
+
+/// A job: its working time, the minute by which it is due, the memory that it needs.
+#[repr(C)]
+#[derive(Clone, Copy, Debug, PartialEq, Eq)]
+pub struct Job {
+    pub time: u32,
+    pub due: i32,
+    pub need: u32,
+}
+
+/// A row of a plan: the minutes from `from` up to but not including `to`.
+#[repr(C)]
+#[derive(Clone, Copy, Debug, Default, PartialEq, Eq)]
+pub struct Row {
+    pub job: u32,
+    pub processor: u32,
+    pub from: u32,
+    pub to: u32,
+}
+
+/// Why a call was refused: the number of `highboyrobin.h`, and the job that it is about, 0 where it is about none.
+#[derive(Clone, Copy, Debug, PartialEq, Eq)]
+pub struct Refused {
+    pub number: u32,
+    pub job: u32,
+}
+
+/// The sizes of an order; `rows` is how many rows `least` and `plan` ask to be lent.
+#[derive(Clone, Copy, Debug, PartialEq, Eq)]
+pub struct Sizes {
+    pub processors: usize,
+    pub jobs: usize,
+    pub rows: usize,
+}
+
+/// The least lateness, and how many rows were written.
+#[derive(Clone, Copy, Debug, PartialEq, Eq)]
+pub struct Least {
+    pub lateness: i32,
+    pub rows: usize,
+}
+
+/// Why no plan can meet a bound.
+#[derive(Clone, Copy, Debug, PartialEq, Eq)]
+pub enum Reason {
+    /// The first job whose time exceeds its due time plus the bound.
+    Job { job: u32, time: u32 },
+    /// The first `classes` due times, one for each class of processors from the largest memory down: by these due times plus the
+    /// bound the jobs of these classes need more minutes than their processors have.
+    Stairs { classes: usize, dues: [i32; 16] },
+}
+
+fn told(result: u32) -> Result<(), Refused> {
+    if result == 0 {
+        return Ok(());
+    }
+    Err(Refused {
+        number: result % 256,
+        job: result / 256,
+    })
+}
+
+/// Judges an order file. Refusals: 12, 1 to 7.
+pub fn judge(file: &[u8]) -> Result<Sizes, Refused> {
+    let mut answer = [0; 3];
+    told(unsafe { raw::hbr_judge(file.as_ptr(), file.len(), answer.as_mut_ptr(), answer.len()) })?;
+    let [processors, jobs, rows] = answer.map(|n| n as usize);
+    Ok(Sizes {
+        processors,
+        jobs,
+        rows,
+    })
+}
+
+/// The least lateness, with a plan that meets it from `rows[0]` on. Refusals: 12, 1 to 7, 9.
+pub fn least(file: &[u8], rows: &mut [Row]) -> Result<Least, Refused> {
+    let mut answer = [0; 2];
+    let (at, length) = (rows.as_mut_ptr().cast(), rows.len() * 4);
+    told(unsafe {
+        raw::hbr_least(
+            file.as_ptr(),
+            file.len(),
+            at,
+            length,
+            answer.as_mut_ptr(),
+            answer.len(),
+        )
+    })?;
+    Ok(Least {
+        lateness: answer[0],
+        rows: answer[1] as usize,
+    })
+}
+
+/// A plan in which every job is done by its due time plus the bound, from `rows[0]` on; its number of rows. Refusals: 12, 1 to 10.
+pub fn plan(file: &[u8], bound: i32, rows: &mut [Row]) -> Result<usize, Refused> {
+    let mut answer = [0; 1];
+    let (at, length) = (rows.as_mut_ptr().cast(), rows.len() * 4);
+    told(unsafe {
+        raw::hbr_plan(
+            file.as_ptr(),
+            file.len(),
+            bound,
+            at,
+            length,
+            answer.as_mut_ptr(),
+            answer.len(),
+        )
+    })?;
+    Ok(answer[0] as usize)
+}
+
+/// Why no plan can meet the bound; `None` where one can. Refusals: 12, 1 to 8.
+pub fn reason(file: &[u8], bound: i32) -> Result<Option<Reason>, Refused> {
+    let mut answer = [0; 19];
+    told(unsafe {
+        raw::hbr_reason(
+            file.as_ptr(),
+            file.len(),
+            bound,
+            answer.as_mut_ptr(),
+            answer.len(),
+        )
+    })?;
+    Ok(match answer[0] {
+        0 => None,
+        1 => Some(Reason::Job {
+            job: answer[1] as u32,
+            time: answer[2] as u32,
+        }),
+        _ => {
+            let mut dues = [0; 16];
+            dues.copy_from_slice(&answer[3..]);
+            Some(Reason::Stairs {
+                classes: answer[1] as usize,
+                dues,
+            })
+        }
+    })
+}
+
+/// Whether rows, made by anybody and in any order, are a right plan that meets the bound. Refusals: 12, 1 to 8, 11.
+pub fn check(file: &[u8], bound: i32, rows: &[Row]) -> Result<bool, Refused> {
+    let mut answer = [0; 1];
+    let (at, length) = (rows.as_ptr().cast(), rows.len() * 4);
+    told(unsafe {
+        raw::hbr_check(
+            file.as_ptr(),
+            file.len(),
+            bound,
+            at,
+            length,
+            answer.as_mut_ptr(),
+            answer.len(),
+        )
+    })?;
+    Ok(answer[0] == 1)
+}
+
+/// Writes the order file of an order; its length. Refusals: 1 to 7, 9.
+pub fn write(memories: &[u32], jobs: &[Job], file: &mut [u8]) -> Result<usize, Refused> {
+    let mut answer = [0; 1];
+    let (job, numbers) = (jobs.as_ptr().cast(), jobs.len() * 3);
+    let (at, length) = (file.as_mut_ptr(), file.len());
+    told(unsafe {
+        raw::hbr_write(
+            memories.as_ptr(),
+            memories.len(),
+            job,
+            numbers,
+            at,
+            length,
+            answer.as_mut_ptr(),
+            answer.len(),
+        )
+    })?;
+    Ok(answer[0] as usize)
+}
