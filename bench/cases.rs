@@ -1,0 +1,78 @@
+//! The cases: a file of each drawn order, its least lateness, a looser bound and plans to check.
+
+use crate::families::{FAMILIES, ORDERS_EACH};
+use crate::orders::Order;
+use crate::plain;
+use crate::random::Random;
+
+pub struct Case {
+    /// its place in `FAMILIES`
+    pub family: usize,
+    pub file: Vec<u8>,
+    pub least: i32,
+    /// later by the longest job's time
+    pub looser: i32,
+    pub plan: Vec<u32>,
+    /// the same plan cut into as many rows as a check may have, shuffled; of the first order of a
+    /// family only, else empty
+    pub long_plan: Vec<u32>,
+}
+
+/// The most rows of a plan, and of a check.
+pub const ROWS_MOST: usize = 3024;
+
+pub fn draw(seed: u64) -> Vec<Case> {
+    let mut random = Random::new(seed);
+    let mut cases = Vec::new();
+    for (place, family) in FAMILIES.iter().enumerate() {
+        for number in 0..ORDERS_EACH {
+            let order = (family.draw)(&mut random);
+            let mut case = case_of(&order, place);
+            if number == 0 {
+                let mut rows = cut(&case.plan);
+                random.shuffle(&mut rows);
+                case.long_plan = rows.concat();
+            }
+            cases.push(case);
+        }
+    }
+    cases
+}
+
+fn case_of(order: &Order, family: usize) -> Case {
+    let file = order.file();
+    let mut rows = vec![0; 4 * ROWS_MOST];
+    let mut answer = [0; 2];
+    let result = plain::least(&file, &mut rows, &mut answer);
+    assert_eq!(result, 0, "a drawn order is refused");
+    let [least, count] = answer;
+    rows.truncate(4 * count as usize);
+    Case {
+        family,
+        file,
+        least,
+        looser: least + order.longest_time(),
+        plan: rows,
+        long_plan: Vec::new(),
+    }
+}
+
+/// Rows are halved, one after the other, until there are as many as a check may have or each is a
+/// minute long.
+fn cut(plan: &[u32]) -> Vec<[u32; 4]> {
+    let mut rows: Vec<[u32; 4]> = plan
+        .chunks_exact(4)
+        .map(|row| [row[0], row[1], row[2], row[3]])
+        .collect();
+    let mut i = 0;
+    while i < rows.len() && rows.len() < ROWS_MOST {
+        let [job, processor, from, to] = rows[i];
+        let half = from + (to - from) / 2;
+        if from < half {
+            rows[i][3] = half;
+            rows.push([job, processor, half, to]);
+        }
+        i += 1;
+    }
+    rows
+}

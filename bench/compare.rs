@@ -1,0 +1,125 @@
+//! Before anything is timed, the answers of all three are compared on every order; a difference
+//! stops the benchmark. The library and its plain build are of one method, so their rows must be
+//! the same word for word.
+
+use crate::cases::Case;
+use crate::families::FAMILIES;
+use crate::independent::{self, Reason};
+use crate::subjects::{run, Buffers, Task, LIBRARY, PLAIN, TASKS};
+
+const BOUND_TOO_TIGHT: u32 = 10;
+
+/// Tells on which order the answers differ.
+struct At<'a>(usize, &'a Case);
+
+impl Drop for At<'_> {
+    fn drop(&mut self) {
+        if std::thread::panicking() {
+            let family = FAMILIES[self.1.family].name;
+            eprintln!("at order {}, of the family '{family}'", self.0 + 1);
+        }
+    }
+}
+
+pub fn compare(place: usize, case: &Case) {
+    let _at = At(place, case);
+    let order = independent::read(&case.file).expect("the independent reader takes the order");
+    for (task, _) in TASKS {
+        same_answers(case, task);
+    }
+    check_judge(case, &order);
+    check_least(case, &order);
+    check_tight(case, &order);
+    check_plans(case, &order);
+}
+
+/// The library and its plain build give the same result, rows and answer.
+fn same_answers(case: &Case, task: Task) {
+    let mut ours = Buffers::new();
+    let mut plain = Buffers::new();
+    let result = run(&LIBRARY, task, case, &mut ours);
+    assert_eq!(
+        result,
+        run(&PLAIN, task, case, &mut plain),
+        "results differ"
+    );
+    assert_eq!(result, 0, "an accepted order is refused");
+    assert_eq!(ours.answer, plain.answer, "answers differ");
+    assert!(ours.rows == plain.rows, "rows differ");
+}
+
+fn check_judge(case: &Case, order: &independent::Order) {
+    let mut buffers = Buffers::new();
+    run(&LIBRARY, Task::Judge, case, &mut buffers);
+    let [processors, jobs, rows] = [0, 1, 2].map(|i| buffers.answer[i] as usize);
+    assert_eq!(processors, order.memories.len(), "processors differ");
+    assert_eq!(jobs, order.jobs.len(), "jobs differ");
+    assert_eq!(rows, independent::rows_asked(order), "rows asked differ");
+}
+
+fn check_least(case: &Case, order: &independent::Order) {
+    let mut buffers = Buffers::new();
+    run(&LIBRARY, Task::Least, case, &mut buffers);
+    assert_eq!(buffers.answer[0], case.least, "least lateness differs");
+    assert_eq!(
+        case.least,
+        independent::least(order),
+        "least lateness differs"
+    );
+}
+
+/// A minute below the least lateness there is no plan, and all three give the same reason.
+fn check_tight(case: &Case, order: &independent::Order) {
+    let bound = case.least - 1;
+    let mut buffers = Buffers::new();
+    for functions in [LIBRARY, PLAIN] {
+        let result = (functions.plan)(&case.file, bound, &mut buffers.rows, &mut buffers.answer);
+        assert_eq!(result, BOUND_TOO_TIGHT, "a plan below the least lateness");
+    }
+    assert!(
+        independent::plan(order, bound).is_none(),
+        "a plan below the least lateness"
+    );
+    run(&LIBRARY, Task::Reason, case, &mut buffers);
+    let mut expected = [0; 19];
+    match independent::reason(order, bound) {
+        Some(Reason::Job { job, time }) => {
+            expected[..3].copy_from_slice(&[1, job as i32, time as i32]);
+        }
+        Some(Reason::Stairs(dues)) => {
+            expected[..2].copy_from_slice(&[2, dues.len() as i32]);
+            expected[3..3 + dues.len()].copy_from_slice(&dues);
+        }
+        None => {}
+    }
+    assert_eq!(buffers.answer, expected, "reasons differ");
+}
+
+/// Each one's plan is right by every check, and a plan that lacks its last row is not.
+fn check_plans(case: &Case, order: &independent::Order) {
+    for bound in [case.least, case.looser] {
+        let mut buffers = Buffers::new();
+        (LIBRARY.plan)(&case.file, bound, &mut buffers.rows, &mut buffers.answer);
+        let rows = &buffers.rows[..4 * buffers.answer[0] as usize];
+        judged(case, order, bound, rows, true);
+        judged(case, order, bound, &rows[..rows.len() - 4], false);
+        let other = independent::plan(order, bound).expect("a plan that meets the bound");
+        judged(case, order, bound, &other.concat(), true);
+    }
+    if !case.long_plan.is_empty() {
+        judged(case, order, case.least, &case.long_plan, true);
+    }
+}
+
+fn judged(case: &Case, order: &independent::Order, bound: i32, rows: &[u32], right: bool) {
+    let mut answer = [0];
+    for functions in [LIBRARY, PLAIN] {
+        let result = (functions.check)(&case.file, bound, rows, &mut answer);
+        assert_eq!((result, answer[0]), (0, i32::from(right)), "checks differ");
+    }
+    assert_eq!(
+        independent::right(order, bound.into(), rows),
+        right,
+        "checks differ"
+    );
+}

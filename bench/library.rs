@@ -1,0 +1,65 @@
+//! The static library's functions on slices.
+
+use crate::highboyrobin::raw;
+
+pub fn judge(file: &[u8], answer: &mut [i32]) -> u32 {
+    // SAFETY: each pointer is valid for its length, and what is written overlaps nothing.
+    unsafe { raw::hbr_judge(file.as_ptr(), file.len(), answer.as_mut_ptr(), answer.len()) }
+}
+
+pub fn least(file: &[u8], rows: &mut [u32], answer: &mut [i32]) -> u32 {
+    // SAFETY: as above.
+    unsafe {
+        raw::hbr_least(
+            file.as_ptr(),
+            file.len(),
+            rows.as_mut_ptr(),
+            rows.len(),
+            answer.as_mut_ptr(),
+            answer.len(),
+        )
+    }
+}
+
+pub fn plan(file: &[u8], bound: i32, rows: &mut [u32], answer: &mut [i32]) -> u32 {
+    // SAFETY: as above.
+    unsafe {
+        raw::hbr_plan(
+            file.as_ptr(),
+            file.len(),
+            bound,
+            rows.as_mut_ptr(),
+            rows.len(),
+            answer.as_mut_ptr(),
+            answer.len(),
+        )
+    }
+}
+
+pub fn reason(file: &[u8], bound: i32, answer: &mut [i32]) -> u32 {
+    // SAFETY: as above.
+    unsafe {
+        raw::hbr_reason(
+            file.as_ptr(),
+            file.len(),
+            bound,
+            answer.as_mut_ptr(),
+            answer.len(),
+        )
+    }
+}
+
+pub fn check(file: &[u8], bound: i32, rows: &[u32], answer: &mut [i32]) -> u32 {
+    // SAFETY: as above.
+    unsafe {
+        raw::hbr_check(
+            file.as_ptr(),
+            file.len(),
+            bound,
+            rows.as_ptr(),
+            rows.len(),
+            answer.as_mut_ptr(),
+            answer.len(),
+        )
+    }
+}

@@ -1,0 +1,81 @@
+//! The benchmark: the static library beside a plain Rust build of its own method and an independent
+//! implementation, on drawn orders of full size. Arguments: the date and the compiler's version, as
+//! the report shall say them.
+
+mod cases;
+mod clock;
+mod compare;
+mod families;
+#[allow(dead_code)]
+#[path = "../link/highboyrobin.rs"]
+mod highboyrobin;
+#[path = "../tests/linked/independent.rs"]
+mod independent;
+mod library;
+mod orders;
+mod plain;
+mod random;
+mod report;
+mod subjects;
+mod worst;
+
+use cases::Case;
+use clock::Times;
+use families::FAMILIES;
+use subjects::{Task, TASKS};
+
+const SEED: u64 = 2;
+
+fn main() {
+    let cases = cases::draw(SEED);
+    for (place, case) in cases.iter().enumerate() {
+        compare::compare(place, case);
+    }
+    println!("{}", origin());
+    println!("{} orders of 48 jobs, all answers equal.", cases.len());
+    println!("{}", clock::manner());
+    println!();
+    report::head("function");
+    let mut least = Vec::new();
+    for (task, name) in TASKS {
+        let times = clock::time(task, &with_task(task, &cases));
+        report::row(name, &times);
+        if let Task::Least = task {
+            least = times;
+        }
+    }
+    println!();
+    report::head("least lateness with a plan, by family");
+    for (place, family) in FAMILIES.iter().enumerate() {
+        let of_family = cases
+            .iter()
+            .zip(&least)
+            .filter(|(case, _)| case.family == place);
+        let times: Vec<Times> = of_family.map(|(_, times)| *times).collect();
+        report::row(family.name, &times);
+    }
+}
+
+/// The cases that have a task.
+fn with_task(task: Task, cases: &[Case]) -> Vec<&Case> {
+    let has_task = |case: &&Case| match task {
+        Task::CheckLong => !case.long_plan.is_empty(),
+        _ => true,
+    };
+    cases.iter().filter(has_task).collect()
+}
+
+/// Processor, compiler and date.
+fn origin() -> String {
+    let mut arguments = std::env::args().skip(1);
+    let date = arguments.next().unwrap_or("no date given".to_string());
+    let compiler = arguments.next().unwrap_or("no compiler given".to_string());
+    let about = std::fs::read_to_string("/proc/cpuinfo").unwrap_or_default();
+    let name = about
+        .lines()
+        .find_map(|line| line.strip_prefix("model name"));
+    let processor = name
+        .unwrap_or("an unknown processor")
+        .trim_start_matches(['\t', ' ', ':']);
+    format!("{processor}; {compiler}; {date}.")
+}

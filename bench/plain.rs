@@ -1,0 +1,166 @@
+//! The library's method in plain Rust, for the benchmark to compare with: the same algorithms,
+//! tables and passes, each value computed once and handed on by reference. Five functions of the C
+//! interface, with the same results.
+
+mod amounts;
+mod check;
+mod order;
+mod read;
+mod setting;
+mod stairs;
+mod wrap;
+
+use amounts::Amounts;
+use order::{Order, Refusal};
+use setting::Setting;
+use stairs::Reason;
+
+const BOUND_MOST: i32 = 10_000_000;
+const NUMBERS_MOST: usize = 4 * 3024;
+
+const BOUND_OUT_OF_RANGE: Refusal = Refusal::plain(8);
+const BUFFER_TOO_SHORT: Refusal = Refusal::plain(9);
+const BOUND_TOO_TIGHT: Refusal = Refusal::plain(10);
+const TOO_MANY_ROWS: Refusal = Refusal::plain(11);
+const SHORT_ANSWER: Refusal = Refusal::plain(255);
+
+/// Judges an order file: processors, jobs, rows that a plan may have.
+pub fn judge(file: &[u8], answer: &mut [i32]) -> u32 {
+    code(try_judge(file, answer))
+}
+
+/// The least lateness, with a plan that meets it in `rows`: the lateness, the number of rows.
+pub fn least(file: &[u8], rows: &mut [u32], answer: &mut [i32]) -> u32 {
+    code(try_least(file, rows, answer))
+}
+
+/// A plan that meets the bound in `rows`: the number of rows.
+pub fn plan(file: &[u8], bound: i32, rows: &mut [u32], answer: &mut [i32]) -> u32 {
+    code(try_plan(file, bound, rows, answer))
+}
+
+/// Why no plan can meet the bound: the kind of the reason, then its numbers.
+pub fn reason(file: &[u8], bound: i32, answer: &mut [i32]) -> u32 {
+    code(try_reason(file, bound, answer))
+}
+
+/// Whether rows are a right plan that meets the bound: 1 for yes, 0 for no.
+pub fn check(file: &[u8], bound: i32, rows: &[u32], answer: &mut [i32]) -> u32 {
+    code(try_check(file, bound, rows, answer))
+}
+
+/// 0, or the refusal's number and 256 times the job that it is about.
+fn code(outcome: Result<(), Refusal>) -> u32 {
+    match outcome {
+        Ok(()) => 0,
+        Err(refusal) => refusal.number + 256 * refusal.job,
+    }
+}
+
+fn ask_answer(answer: &[i32], length: usize) -> Result<(), Refusal> {
+    if answer.len() < length {
+        return Err(SHORT_ANSWER);
+    }
+    Ok(())
+}
+
+fn ask_bound(bound: i32) -> Result<(), Refusal> {
+    if !(-BOUND_MOST..=BOUND_MOST).contains(&bound) {
+        return Err(BOUND_OUT_OF_RANGE);
+    }
+    Ok(())
+}
+
+fn ask_rows(order: &Order, setting: &Setting, rows: &[u32]) -> Result<(), Refusal> {
+    if rows.len() / 4 < rows_asked(order, setting.due_count) {
+        return Err(BUFFER_TOO_SHORT);
+    }
+    Ok(())
+}
+
+/// The rows that a plan may have: for each distinct due time as many as there are jobs and
+/// processors, less one.
+fn rows_asked(order: &Order, due_count: usize) -> usize {
+    due_count * (order.job_count + order.processor_count - 1)
+}
+
+fn try_judge(file: &[u8], answer: &mut [i32]) -> Result<(), Refusal> {
+    ask_answer(answer, 3)?;
+    let order = read::read(file)?;
+    let due_count = setting::distinct_dues(&order).count;
+    answer[0] = order.processor_count as i32;
+    answer[1] = order.job_count as i32;
+    answer[2] = rows_asked(&order, due_count) as i32;
+    Ok(())
+}
+
+fn try_least(file: &[u8], rows: &mut [u32], answer: &mut [i32]) -> Result<(), Refusal> {
+    ask_answer(answer, 2)?;
+    let order = read::read(file)?;
+    let setting = Setting::of(&order);
+    ask_rows(&order, &setting, rows)?;
+    let lateness = setting::bound_of(stairs::least_reach(&order, &setting));
+    answer[0] = lateness;
+    answer[1] = make_plan(&order, &setting, lateness, rows) as i32;
+    Ok(())
+}
+
+fn try_plan(file: &[u8], bound: i32, rows: &mut [u32], answer: &mut [i32]) -> Result<(), Refusal> {
+    ask_answer(answer, 1)?;
+    let order = read::read(file)?;
+    ask_bound(bound)?;
+    let setting = Setting::of(&order);
+    ask_rows(&order, &setting, rows)?;
+    let Reason::Nothing = stairs::reason(&order, &setting, setting::reach_of(bound)) else {
+        return Err(BOUND_TOO_TIGHT);
+    };
+    answer[0] = make_plan(&order, &setting, bound, rows) as i32;
+    Ok(())
+}
+
+/// A plan where there is no reason against the bound; answers how many rows it has.
+fn make_plan(order: &Order, setting: &Setting, bound: i32, rows: &mut [u32]) -> usize {
+    let mut ends = [0; order::MOST_JOBS];
+    setting.put_ends(setting::reach_of(bound), &mut ends);
+    let ends = &ends[..setting.due_count];
+    let mut amounts = Amounts::start(order, setting, bound, ends);
+    let filled = amounts.fill();
+    debug_assert!(filled);
+    wrap::lay(order, ends, &amounts, rows)
+}
+
+fn try_reason(file: &[u8], bound: i32, answer: &mut [i32]) -> Result<(), Refusal> {
+    ask_answer(answer, 19)?;
+    let order = read::read(file)?;
+    ask_bound(bound)?;
+    let setting = Setting::of(&order);
+    let answer = &mut answer[..19];
+    answer.fill(0);
+    match stairs::reason(&order, &setting, setting::reach_of(bound)) {
+        Reason::Nothing => {}
+        Reason::Job { job, time } => {
+            answer[0] = 1;
+            answer[1] = job as i32;
+            answer[2] = time as i32;
+        }
+        Reason::Stairs { count, places } => {
+            answer[0] = 2;
+            answer[1] = count as i32;
+            for (due, &place) in answer[3..].iter_mut().zip(&places[..count]) {
+                *due = setting.due_at(place);
+            }
+        }
+    }
+    Ok(())
+}
+
+fn try_check(file: &[u8], bound: i32, rows: &[u32], answer: &mut [i32]) -> Result<(), Refusal> {
+    ask_answer(answer, 1)?;
+    let order = read::read(file)?;
+    ask_bound(bound)?;
+    if NUMBERS_MOST < rows.len() {
+        return Err(TOO_MANY_ROWS);
+    }
+    answer[0] = check::right(&order, bound, rows) as i32;
+    Ok(())
+}

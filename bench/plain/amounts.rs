@@ -1,0 +1,180 @@
+//! How many minutes of each job go into each stretch: push and relabel over jobs. An idle job,
+//! behind the last, holds what nobody holds in a stretch; a job displaces jobs one height below it.
+
+use super::order::{self, Order, MOST_JOBS, MOST_PROCESSORS};
+use super::setting::Setting;
+
+const ROOMS: usize = MOST_PROCESSORS + 1;
+
+/// Of n jobs, q stretches and m - 1 classes.
+pub struct Amounts {
+    n: usize,
+    q: usize,
+    m: usize,
+    class: [usize; MOST_JOBS + 1],
+    /// a row of q for each job: what it may have of a stretch, and what it has
+    cap: [u32; MOST_JOBS * MOST_JOBS],
+    held: [u32; (MOST_JOBS + 1) * MOST_JOBS],
+    /// a row of m for each stretch: what the first 0, 1, 2, .. classes could still have of it
+    slack: [u32; MOST_JOBS * ROOMS],
+    /// what is not yet held of each job
+    left: [u32; MOST_JOBS + 1],
+    height: [usize; MOST_JOBS + 1],
+}
+
+/// A step of a job: to displace a job in a stretch, or to rise.
+enum Move {
+    Push { stretch: usize, other: usize },
+    Rise,
+}
+
+impl Amounts {
+    /// All of every job is left, and the idle job holds every stretch.
+    pub fn start(order: &Order, setting: &Setting, bound: i32, ends: &[u32]) -> Amounts {
+        let mut amounts = Amounts {
+            n: order.job_count,
+            q: ends.len(),
+            m: setting.class_count + 1,
+            class: [0; MOST_JOBS + 1],
+            cap: [0; MOST_JOBS * MOST_JOBS],
+            held: [0; (MOST_JOBS + 1) * MOST_JOBS],
+            slack: [0; MOST_JOBS * ROOMS],
+            left: [0; MOST_JOBS + 1],
+            height: [1; MOST_JOBS + 1],
+        };
+        amounts.put_jobs(order, setting, bound, ends);
+        amounts.put_rooms(setting, ends);
+        amounts
+    }
+
+    /// A job may have a whole stretch that ends by its deadline, and nothing of a later one.
+    fn put_jobs(&mut self, order: &Order, setting: &Setting, bound: i32, ends: &[u32]) {
+        for (j, job) in order.jobs().iter().enumerate() {
+            self.class[j] = setting.classes[j];
+            self.left[j] = job.time;
+            let deadline = order::deadline(job.due, bound);
+            let mut start = 0;
+            for (cap, &end) in self.cap[j * self.q..].iter_mut().zip(ends) {
+                if end <= deadline {
+                    *cap = end - start;
+                }
+                start = end;
+            }
+        }
+        self.class[self.n] = self.m;
+        self.height[self.n] = 0;
+    }
+
+    /// The room of a stretch for no class, for the first, for the first two, ..; the idle job holds
+    /// the last of them.
+    fn put_rooms(&mut self, setting: &Setting, ends: &[u32]) {
+        let mut start = 0;
+        for (s, &end) in ends.iter().enumerate() {
+            let rooms = &mut self.slack[s * self.m..][..self.m];
+            let mut processors = 0;
+            for (k, room) in rooms.iter_mut().enumerate().skip(1) {
+                processors += setting.processors[k - 1];
+                *room = processors * (end - start);
+            }
+            self.held[self.n * self.q + s] = rooms[self.m - 1];
+            start = end;
+        }
+    }
+
+    /// The minutes of job j in stretch s.
+    pub fn of(&self, j: usize, s: usize) -> u32 {
+        self.held[j * self.q + s]
+    }
+
+    /// True where nothing is left of any job, false where there is no way.
+    pub fn fill(&mut self) -> bool {
+        while let Some(j) = self.left[..self.n].iter().position(|&left| 0 < left) {
+            let height = self.height[j];
+            if self.n < height {
+                return false;
+            }
+            if 1 < height && !self.height[..self.n].contains(&(height - 1)) {
+                return false;
+            }
+            self.discharge(j);
+        }
+        true
+    }
+
+    /// Job j displaces until nothing of it is left, or it rises.
+    fn discharge(&mut self, j: usize) {
+        let mut below = self.q;
+        while 0 < self.left[j] {
+            match self.find(j, below) {
+                Move::Push { stretch, other } => {
+                    self.push(j, stretch, other);
+                    below = stretch + 1;
+                }
+                Move::Rise => {
+                    self.height[j] += 1;
+                    return;
+                }
+            }
+        }
+    }
+
+    /// A step of job j in the stretches below one, from the last to the first.
+    fn find(&self, j: usize, below: usize) -> Move {
+        for stretch in (0..below).rev() {
+            let at = j * self.q + stretch;
+            if self.held[at] < self.cap[at] {
+                let tight = self.tight_class(stretch, self.class[j]);
+                if let Some(other) = self.aim(stretch, tight, self.height[j]) {
+                    return Move::Push { stretch, other };
+                }
+            }
+        }
+        Move::Rise
+    }
+
+    /// The first class from c on that has no slack in a stretch.
+    fn tight_class(&self, stretch: usize, c: usize) -> usize {
+        let slacks = &self.slack[stretch * self.m..][..self.m];
+        slacks[c..]
+            .iter()
+            .position(|&slack| slack == 0)
+            .map_or(self.m, |place| c + place)
+    }
+
+    /// A job that one of this height can displace in a stretch, up to a class; from the idle job
+    /// down to the first.
+    fn aim(&self, stretch: usize, tight: usize, height: usize) -> Option<usize> {
+        (0..=self.n).rev().find(|&i| {
+            self.height[i] + 1 == height
+                && self.class[i] <= tight
+                && 0 < self.held[i * self.q + stretch]
+        })
+    }
+
+    /// Job j displaces job i in a stretch by the most that it can.
+    fn push(&mut self, j: usize, stretch: usize, i: usize) {
+        let up = j * self.q + stretch;
+        let down = i * self.q + stretch;
+        let slacks = &mut self.slack[stretch * self.m..][..self.m];
+        let (c, e) = (self.class[j], self.class[i]);
+        let mut minutes = self.left[j]
+            .min(self.cap[up] - self.held[up])
+            .min(self.held[down]);
+        if c < e {
+            for &slack in &slacks[c..e] {
+                minutes = minutes.min(slack);
+            }
+            for slack in &mut slacks[c..e] {
+                *slack -= minutes;
+            }
+        } else {
+            for slack in &mut slacks[e..c] {
+                *slack += minutes;
+            }
+        }
+        self.held[up] += minutes;
+        self.held[down] -= minutes;
+        self.left[i] += minutes;
+        self.left[j] -= minutes;
+    }
+}

@@ -1,0 +1,89 @@
+//! An order of jobs on processors, and whether it is accepted: refusals 1 to 7.
+
+pub const MOST_PROCESSORS: usize = 16;
+pub const MOST_JOBS: usize = 48;
+
+#[derive(Clone, Copy, Default)]
+pub struct Job {
+    pub time: u32,
+    pub due: i32,
+    pub need: u32,
+}
+
+/// Counts, and as many processors and jobs; zeros beyond.
+pub struct Order {
+    pub processor_count: usize,
+    pub job_count: usize,
+    pub memories: [u32; MOST_PROCESSORS],
+    pub jobs: [Job; MOST_JOBS],
+}
+
+/// A refusal's number, and the job that it is about or 0.
+pub struct Refusal {
+    pub number: u32,
+    pub job: u32,
+}
+
+impl Refusal {
+    pub const fn plain(number: u32) -> Refusal {
+        Refusal { number, job: 0 }
+    }
+
+    /// A refusal about the job at a place, counted from 0.
+    fn about(number: u32, place: usize) -> Refusal {
+        let job = place as u32 + 1;
+        Refusal { number, job }
+    }
+}
+
+impl Order {
+    pub fn memories(&self) -> &[u32] {
+        &self.memories[..self.processor_count]
+    }
+
+    pub fn jobs(&self) -> &[Job] {
+        &self.jobs[..self.job_count]
+    }
+}
+
+/// Refusals 1 to 4, by the counts alone.
+pub fn accept_counts(processors: usize, jobs: usize) -> Result<(), Refusal> {
+    if processors == 0 {
+        return Err(Refusal::plain(1));
+    }
+    if MOST_PROCESSORS < processors {
+        return Err(Refusal::plain(2));
+    }
+    if jobs == 0 {
+        return Err(Refusal::plain(3));
+    }
+    if MOST_JOBS < jobs {
+        return Err(Refusal::plain(4));
+    }
+    Ok(())
+}
+
+/// The first job of which something is wrong.
+fn first(order: &Order, wrong: impl Fn(&Job) -> bool) -> Option<usize> {
+    order.jobs().iter().position(wrong)
+}
+
+/// Refusals 5 to 7, each with the first job that it is about.
+pub fn accept_jobs(order: &Order) -> Result<(), Refusal> {
+    if let Some(place) = first(order, |job| !(1..=100_000).contains(&job.time)) {
+        return Err(Refusal::about(5, place));
+    }
+    if let Some(place) = first(order, |job| !(-1_000_000..=1_000_000).contains(&job.due)) {
+        return Err(Refusal::about(6, place));
+    }
+    let fits = |need: u32| order.memories().iter().any(|&memory| need <= memory);
+    if let Some(place) = first(order, |job| !fits(job.need)) {
+        return Err(Refusal::about(7, place));
+    }
+    Ok(())
+}
+
+/// A job's end at a bound, cut off at minute 0.
+pub fn deadline(due: i32, bound: i32) -> u32 {
+    (due + bound).max(0) as u32
+}

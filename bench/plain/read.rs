@@ -1,0 +1,71 @@
+//! The order of an order file: refusal 12, then 1 to 7.
+
+use super::order::{self, Job, Order, Refusal, MOST_JOBS, MOST_PROCESSORS};
+
+const BAD_FILE: Refusal = Refusal::plain(12);
+
+/// Where the lists lie, and how many they hold.
+struct Trailer {
+    processors_at: usize,
+    jobs_at: usize,
+    processors: usize,
+    jobs: usize,
+}
+
+fn number4(bytes: &[u8]) -> u32 {
+    u32::from_le_bytes([bytes[0], bytes[1], bytes[2], bytes[3]])
+}
+
+fn number2(bytes: &[u8]) -> usize {
+    u16::from_le_bytes([bytes[0], bytes[1]]) as usize
+}
+
+/// The trailer of a file, where the lists and it agree.
+fn trailer(file: &[u8]) -> Option<Trailer> {
+    if !(12..=652).contains(&file.len()) {
+        return None;
+    }
+    let bytes = &file[file.len() - 12..];
+    let processors_at = number4(bytes) as usize;
+    let jobs_at = number4(&bytes[4..]) as usize;
+    let processors = number2(&bytes[8..]);
+    let jobs = number2(&bytes[10..]);
+    if 4 * processors + 12 * jobs + 12 != file.len() {
+        return None;
+    }
+    let processors_first = processors_at == 0 && jobs_at == 4 * processors;
+    let jobs_first = jobs_at == 0 && processors_at == 12 * jobs;
+    (processors_first || jobs_first).then_some(Trailer {
+        processors_at,
+        jobs_at,
+        processors,
+        jobs,
+    })
+}
+
+pub fn read(file: &[u8]) -> Result<Order, Refusal> {
+    let trailer = trailer(file).ok_or(BAD_FILE)?;
+    order::accept_counts(trailer.processors, trailer.jobs)?;
+    let mut order = Order {
+        processor_count: trailer.processors,
+        job_count: trailer.jobs,
+        memories: [0; MOST_PROCESSORS],
+        jobs: [Job::default(); MOST_JOBS],
+    };
+    let processor_list = &file[trailer.processors_at..][..4 * trailer.processors];
+    for (memory, bytes) in order
+        .memories
+        .iter_mut()
+        .zip(processor_list.chunks_exact(4))
+    {
+        *memory = number4(bytes);
+    }
+    let job_list = &file[trailer.jobs_at..][..12 * trailer.jobs];
+    for (job, bytes) in order.jobs.iter_mut().zip(job_list.chunks_exact(12)) {
+        job.time = number4(bytes);
+        job.due = number4(&bytes[4..]) as i32;
+        job.need = number4(&bytes[8..]);
+    }
+    order::accept_jobs(&order)?;
+    Ok(order)
+}

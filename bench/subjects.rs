@@ -1,0 +1,107 @@
+//! The three implementations that are compared, each behind a function that does one task on one
+//! case.
+
+use crate::cases::{Case, ROWS_MOST};
+use crate::{independent, library, plain};
+use std::hint::black_box;
+
+/// The C interface on slices, as the library and its plain build both have it.
+pub struct Functions {
+    pub judge: fn(&[u8], &mut [i32]) -> u32,
+    pub least: fn(&[u8], &mut [u32], &mut [i32]) -> u32,
+    pub plan: fn(&[u8], i32, &mut [u32], &mut [i32]) -> u32,
+    pub reason: fn(&[u8], i32, &mut [i32]) -> u32,
+    pub check: fn(&[u8], i32, &[u32], &mut [i32]) -> u32,
+}
+
+pub const LIBRARY: Functions = Functions {
+    judge: library::judge,
+    least: library::least,
+    plan: library::plan,
+    reason: library::reason,
+    check: library::check,
+};
+
+pub const PLAIN: Functions = Functions {
+    judge: plain::judge,
+    least: plain::least,
+    plan: plain::plan,
+    reason: plain::reason,
+    check: plain::check,
+};
+
+#[derive(Clone, Copy)]
+pub enum Task {
+    Judge,
+    Least,
+    PlanAtLeast,
+    PlanLooser,
+    Reason,
+    Check,
+    CheckLong,
+}
+
+pub const TASKS: [(Task, &str); 7] = [
+    (Task::Judge, "judge a file"),
+    (Task::Least, "least lateness with a plan"),
+    (Task::PlanAtLeast, "plan at the least lateness"),
+    (Task::PlanLooser, "plan at a looser bound"),
+    (Task::Reason, "reason one minute below the least"),
+    (Task::Check, "check of that plan"),
+    (Task::CheckLong, "check of it in 3,024 shuffled rows"),
+];
+
+/// What a call writes to, never cleared between calls.
+pub struct Buffers {
+    pub rows: Vec<u32>,
+    pub answer: [i32; 19],
+}
+
+impl Buffers {
+    pub fn new() -> Buffers {
+        Buffers {
+            rows: vec![0; 4 * ROWS_MOST],
+            answer: [0; 19],
+        }
+    }
+}
+
+pub fn run(functions: &Functions, task: Task, case: &Case, buffers: &mut Buffers) -> u32 {
+    let Buffers { rows, answer } = buffers;
+    let file = black_box(&case.file[..]);
+    match task {
+        Task::Judge => (functions.judge)(file, answer),
+        Task::Least => (functions.least)(file, rows, answer),
+        Task::PlanAtLeast => (functions.plan)(file, case.least, rows, answer),
+        Task::PlanLooser => (functions.plan)(file, case.looser, rows, answer),
+        Task::Reason => (functions.reason)(file, case.least - 1, answer),
+        Task::Check => (functions.check)(file, case.least, &case.plan, answer),
+        Task::CheckLong => (functions.check)(file, case.least, &case.long_plan, answer),
+    }
+}
+
+/// The independent implementation reads the file and does the task; it makes its own buffers.
+pub fn run_independent(task: Task, case: &Case) {
+    let Ok(order) = independent::read(black_box(&case.file)) else {
+        return;
+    };
+    match task {
+        Task::Judge => {
+            black_box(independent::rows_asked(&order));
+        }
+        Task::Least => {
+            let least = independent::least(&order);
+            drop(black_box(independent::plan(&order, least)));
+        }
+        Task::PlanAtLeast => drop(black_box(independent::plan(&order, case.least))),
+        Task::PlanLooser => drop(black_box(independent::plan(&order, case.looser))),
+        Task::Reason => drop(black_box(independent::reason(&order, case.least - 1))),
+        Task::Check => {
+            black_box(independent::right(&order, case.least.into(), &case.plan));
+        }
+        Task::CheckLong => {
+            let rows = &case.long_plan;
+            black_box(independent::right(&order, case.least.into(), rows));
+        }
+    }
+}

@@ -1,0 +1,82 @@
+/* Every refusal by its small example, through the C header: the result, and that the call wrote nothing. */
+#include "../../link/highboyrobin.h"
+#include <stdio.h>
+#include <string.h>
+
+#define KEPT 77
+
+static int32_t answer[HBR_REASON_ANSWER];
+static uint32_t rows[4 * (HBR_MOST_ROWS + 1)];
+static uint8_t file[HBR_MOST_BYTES];
+static uint32_t memories[HBR_MOST_PROCESSORS + 1];
+static uint32_t jobs[3 * (HBR_MOST_JOBS + 1)];
+static int wrong;
+
+static void fill(void) {
+  for (size_t i = 0; i < HBR_REASON_ANSWER; i++)
+    answer[i] = KEPT;
+  memset(rows, KEPT, sizeof rows);
+}
+
+/* the result is this refusal of this job, and answer and rows are as fill left them */
+static void refused(uint32_t result, uint32_t number, uint32_t job) {
+  int kept = 1;
+  for (size_t i = 0; i < HBR_REASON_ANSWER; i++)
+    kept = kept && answer[i] == KEPT;
+  for (size_t i = 0; i < sizeof rows; i++)
+    kept = kept && ((const uint8_t *)rows)[i] == KEPT;
+  if (hbr_number(result) != number || hbr_job(result) != job || !kept) {
+    printf("refusal %u of job %u: got %u of job %u, %s\n", number, job, hbr_number(result), hbr_job(result),
+           kept ? "nothing written" : "something written");
+    wrong++;
+  }
+}
+
+/* writes the order of m memories of this size and n jobs like this one */
+static uint32_t write(uint32_t m, uint32_t memory, uint32_t n, uint32_t time, int32_t due, uint32_t need) {
+  fill();
+  for (uint32_t i = 0; i < m; i++)
+    memories[i] = memory;
+  for (uint32_t j = 0; j < n; j++) {
+    jobs[3 * j] = time;
+    jobs[3 * j + 1] = (uint32_t)due;
+    jobs[3 * j + 2] = need;
+  }
+  return hbr_write(memories, m, jobs, 3 * n, file, sizeof file, answer, HBR_WRITE_ANSWER);
+}
+
+/* the refusals of the writer, which are those of an order */
+static void of_orders(void) {
+  refused(write(0, 0, 1, 1, 1, 0), HBR_NO_PROCESSOR, 0);
+  refused(write(17, 4, 1, 1, 1, 0), HBR_TOO_MANY_PROCESSORS, 0);
+  refused(write(1, 4, 0, 0, 0, 0), HBR_NO_JOB, 0);
+  refused(write(1, 4, 49, 1, 99, 0), HBR_TOO_MANY_JOBS, 0);
+  refused(write(1, 4, 1, 0, 5, 1), HBR_TIME_OUT_OF_RANGE, 1);
+  refused(write(1, 4, 1, 1, 1000001, 1), HBR_DUE_OUT_OF_RANGE, 1);
+  refused(write(1, 8, 1, 1, 5, 9), HBR_FITS_NO_PROCESSOR, 1);
+  fill();
+  refused(hbr_write(memories, 1, jobs, 4, file, sizeof file, answer, HBR_WRITE_ANSWER), HBR_PART_JOB, 0);
+}
+
+/* the refusals of a call on an accepted order: memory 4, job (3, 10, 4) */
+static void of_calls(void) {
+  if (write(1, 4, 1, 3, 10, 4) != 0)
+    wrong++;
+  size_t length = (size_t)answer[0];
+  fill();
+  refused(hbr_plan(file, length, 10000001, rows, 4, answer, HBR_PLAN_ANSWER), HBR_BOUND_OUT_OF_RANGE, 0);
+  refused(hbr_least(file, length, rows, 0, answer, HBR_LEAST_ANSWER), HBR_BUFFER_TOO_SHORT, 0);
+  refused(hbr_plan(file, length, -8, rows, 4, answer, HBR_PLAN_ANSWER), HBR_BOUND_TOO_TIGHT, 0);
+  refused(hbr_check(file, length, 0, rows, 4 * 3025, answer, HBR_CHECK_ANSWER), HBR_TOO_MANY_ROWS, 0);
+  refused(hbr_judge(file, length, answer, HBR_JUDGE_ANSWER - 1), HBR_SHORT_ANSWER, 0);
+  refused(hbr_reason(file, length, 0, answer, HBR_REASON_ANSWER - 1), HBR_SHORT_ANSWER, 0);
+  memset(file, 0, 11);
+  refused(hbr_judge(file, 11, answer, HBR_JUDGE_ANSWER), HBR_BAD_FILE, 0);
+}
+
+int main(void) {
+  of_orders();
+  of_calls();
+  printf("refusals: %d wrong\n", wrong);
+  return wrong != 0;
+}

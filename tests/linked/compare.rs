@@ -1,0 +1,99 @@
+//! Compares what a call did with what it had to do, over whole buffers. Which amounts a job gets in
+//! which stretch is free; "Of them it holds that the rows written are their layout and a right
+//! plan."
+
+use crate::expect::Expected;
+use crate::independent::{layout, right, rows_asked, stretches, Order};
+use crate::lent::Call;
+
+/// What is wrong with a call's result and with what it left in its buffers, or none.
+pub fn wrong(
+    expected: &Expected,
+    order: impl Fn() -> Order,
+    before: &Call,
+    after: &Call,
+    result: u32,
+) -> Option<String> {
+    let told = match expected {
+        Expected::Refused(refusal) => refusal.number + 256 * refusal.job,
+        _ => 0,
+    };
+    if result != told {
+        return Some(format!("result {result}, not {told} (refusal + 256 × job)"));
+    }
+    let mut should = before.clone();
+    match expected {
+        Expected::Refused(_) => {}
+        Expected::Answer(numbers) => should.answer.put(numbers),
+        Expected::File(bytes) => {
+            should.file.put(bytes);
+            should.answer.put(&[bytes.len() as i32]);
+        }
+        Expected::Plan { bound, lateness } => {
+            let rows = match planned(&order(), *bound, lateness.is_some().into(), after) {
+                Ok(rows) => rows,
+                Err(wrong) => return Some(wrong),
+            };
+            should.rows.put(rows);
+            let numbers = lateness.iter().copied().chain([rows.len() as i32 / 4]);
+            should.answer.put(&numbers.collect::<Vec<i32>>());
+        }
+    }
+    unequal(&should, after)
+}
+
+/// The rows written, by the count at this place of the answer, or what is wrong with them.
+fn planned<'a>(
+    order: &Order,
+    bound: i32,
+    count_at: usize,
+    after: &'a Call,
+) -> Result<&'a [u32], String> {
+    let told = after.answer.content()[count_at];
+    match usize::try_from(told) {
+        Ok(count) if count <= rows_asked(order) => {
+            let rows = &after.rows.content()[..4 * count];
+            wrong_rows(order, bound.into(), rows).map_or(Ok(rows), Err)
+        }
+        _ => Err(format!("{told} rows written")),
+    }
+}
+
+/// What is wrong with rows as a plan of the planner at this bound.
+fn wrong_rows(order: &Order, bound: i64, rows: &[u32]) -> Option<String> {
+    if !right(order, bound, rows) {
+        return Some(format!("no right plan at {bound}"));
+    }
+    let Some(amounts) = amounts(order, bound, rows) else {
+        return Some(format!("a row goes beyond its stretch at {bound}"));
+    };
+    let laid_out = layout(order, bound, &amounts).concat();
+    (laid_out != rows).then(|| format!("not the layout of its amounts at {bound}: {laid_out:?}"))
+}
+
+/// The amounts that rows give, by stretch and then by job; none if a row lies in no one stretch.
+fn amounts(order: &Order, bound: i64, rows: &[u32]) -> Option<Vec<Vec<i64>>> {
+    let stretches = stretches(order, bound);
+    let mut amounts = vec![vec![0; order.jobs.len()]; stretches.len()];
+    for row in rows.chunks_exact(4) {
+        let (from, to) = (i64::from(row[2]), i64::from(row[3]));
+        let holds = |stretch: &(i64, i64)| stretch.0 <= from && to <= stretch.1;
+        let stretch = stretches.iter().position(holds)?;
+        amounts[stretch][row[0] as usize - 1] += to - from;
+    }
+    Some(amounts)
+}
+
+/// The first place at which a buffer, guards included, is not as it should be.
+fn unequal(should: &Call, is: &Call) -> Option<String> {
+    let buffers = [
+        ("file", is.file.unequal_at(&should.file)),
+        ("memories", is.memories.unequal_at(&should.memories)),
+        ("jobs", is.jobs.unequal_at(&should.jobs)),
+        ("rows", is.rows.unequal_at(&should.rows)),
+        ("answer", is.answer.unequal_at(&should.answer)),
+    ];
+    let (name, place) = buffers.iter().find(|(_, place)| place.is_some())?;
+    let place = (*place)?;
+    Some(format!("{name}[{place}] is not as it should be"))
+}

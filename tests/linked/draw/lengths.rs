@@ -1,0 +1,45 @@
+//! Lengths of lent buffers: around what the header asks for, on both sides. Lengths of 256 and of
+//! 65,536 look like none to whoever counts in 8 or 16 bits.
+
+use super::Random;
+use crate::independent::MOST_ROWS;
+use crate::library::Function;
+
+/// Mostly enough room for the answer: exactly, or more; sometimes none, or one number too few.
+pub fn answer_length(random: &mut Random, function: Function) -> usize {
+    let exact = function.answer_length();
+    match random.below(24) {
+        0 => 0,
+        1 => exact - 1,
+        2..=5 => exact + 1 + random.below(5),
+        6 => random.pick(&[256, 256, 256, 65_536]),
+        _ => exact,
+    }
+}
+
+/// Mostly enough room for the rows: exactly, with one to three numbers left over, or more;
+/// sometimes none, or a row or one number of a row too few.
+pub fn room(random: &mut Random, asked: usize) -> usize {
+    let exact = 4 * asked;
+    match random.below(16) {
+        0 => 0,
+        1 => exact - 4,
+        2 => exact - 1,
+        3..=6 => exact + 1 + random.below(3),
+        7..=8 => exact + random.below(50),
+        9 => random.pick(&[4 * MOST_ROWS, 4 * MOST_ROWS, 65_536]),
+        _ => exact,
+    }
+}
+
+/// Mostly enough room for a file of this length: exactly, or more; sometimes one byte or more too
+/// few.
+pub fn file_room(random: &mut Random, exact: usize) -> usize {
+    match random.below(8) {
+        0 => exact - 1,
+        1 => random.below(exact),
+        2..=3 => exact + 1 + random.below(20),
+        4 => exact.max(652),
+        _ => exact,
+    }
+}

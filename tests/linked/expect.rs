@@ -1,0 +1,176 @@
+//! What a call must answer, wholly by the independent implementation. "Of several refusals that
+//! apply the first is told": 255, 254, 12, then 1 to 11 upwards.
+
+use crate::independent::{self, Job, Order, Reason, Refusal, MOST_ROWS};
+use crate::lent::Call;
+use crate::library::Function;
+use std::ops::RangeInclusive;
+
+const BOUNDS: RangeInclusive<i32> = -10_000_000..=10_000_000;
+
+#[derive(Debug)]
+pub enum Expected {
+    Refused(Refusal),
+    /// These numbers in the answer, and nothing else written.
+    Answer(Vec<i32>),
+    /// The rows of a plan at this bound; the answer is the lateness, if asked for, and the row
+    /// count.
+    Plan {
+        bound: i32,
+        lateness: Option<i32>,
+    },
+    /// These bytes, and their count in the answer.
+    File(Vec<u8>),
+}
+
+/// The order of the file that was read last, and its least lateness once that was asked for.
+pub struct Known {
+    file: Vec<u8>,
+    order: Result<Order, Refusal>,
+    least: Option<i32>,
+}
+
+impl Known {
+    pub fn of(file: &[u8]) -> Known {
+        Known {
+            file: file.to_vec(),
+            order: independent::read(file),
+            least: None,
+        }
+    }
+
+    /// Turns to this file.
+    pub fn turn_to(&mut self, file: &[u8]) {
+        if self.file != file {
+            *self = Known::of(file);
+        }
+    }
+
+    /// The order of an accepted file.
+    pub fn order(&self) -> &Order {
+        self.order.as_ref().expect("the file is accepted")
+    }
+
+    pub fn least(&mut self) -> i32 {
+        let least = self
+            .least
+            .unwrap_or_else(|| independent::least(self.order()));
+        self.least = Some(least);
+        least
+    }
+}
+
+/// What the function must do with what it is lent.
+pub fn expected(function: Function, call: &Call, known: &mut Known) -> Expected {
+    if call.answer.len() < function.answer_length() {
+        return refused(255, 0);
+    }
+    if function == Function::Write {
+        return written(call);
+    }
+    known.turn_to(call.file.content());
+    match refusal(function, call, known) {
+        Some(refusal) => Expected::Refused(refusal),
+        None => answer(function, call, known),
+    }
+}
+
+fn refused(number: u32, job: u32) -> Expected {
+    Expected::Refused(Refusal { number, job })
+}
+
+fn written(call: &Call) -> Expected {
+    if call.jobs.len() % 3 != 0 {
+        return refused(254, 0);
+    }
+    let order = listed(call);
+    if let Some(refusal) = independent::judge(&order) {
+        return Expected::Refused(refusal);
+    }
+    let file = independent::write(&order);
+    if call.file.len() < file.len() {
+        return refused(9, 0);
+    }
+    Expected::File(file)
+}
+
+/// The order of the lists lent to hbr_write.
+pub fn listed(call: &Call) -> Order {
+    let job = |three: &[u32]| Job {
+        time: three[0],
+        due: three[1] as i32,
+        need: three[2],
+    };
+    Order {
+        memories: call.memories.content().to_vec(),
+        jobs: call.jobs.content().chunks_exact(3).map(job).collect(),
+    }
+}
+
+/// The refusal of a function that reads a file: 12, then 1 to 11 upwards.
+fn refusal(function: Function, call: &Call, known: &mut Known) -> Option<Refusal> {
+    let order = match &known.order {
+        Err(refusal) => return Some(*refusal),
+        Ok(order) => order,
+    };
+    let asked = independent::rows_asked(order);
+    let number = if function.takes_bound() && !BOUNDS.contains(&call.bound) {
+        8
+    } else if function.plans() && call.rows.len() / 4 < asked {
+        9
+    } else if function == Function::Plan && call.bound < known.least() {
+        10
+    } else if function == Function::Check && call.rows.len().div_ceil(4) > MOST_ROWS {
+        11
+    } else {
+        return None;
+    };
+    Some(Refusal { number, job: 0 })
+}
+
+/// The answer of a function that reads a file.
+fn answer(function: Function, call: &Call, known: &mut Known) -> Expected {
+    let bound = call.bound;
+    match function {
+        Function::Judge => Expected::Answer(counts(known.order())),
+        Function::Least => Expected::Plan {
+            bound: known.least(),
+            lateness: Some(known.least()),
+        },
+        Function::Plan => Expected::Plan {
+            bound,
+            lateness: None,
+        },
+        Function::Reason => {
+            Expected::Answer(reason_numbers(independent::reason(known.order(), bound)))
+        }
+        Function::Check => {
+            let right = independent::right(known.order(), bound.into(), call.rows.content());
+            Expected::Answer(vec![right.into()])
+        }
+        Function::Write => written(call),
+    }
+}
+
+fn counts(order: &Order) -> Vec<i32> {
+    let asked = independent::rows_asked(order);
+    let counts = [order.memories.len(), order.jobs.len(), asked];
+    counts.map(|count| count as i32).to_vec()
+}
+
+/// The 19 numbers of hbr_reason: its kind, job or class count, time, then the due times of the
+/// classes.
+pub fn reason_numbers(reason: Option<Reason>) -> Vec<i32> {
+    let mut numbers = vec![0; Function::Reason.answer_length()];
+    match reason {
+        None => {}
+        Some(Reason::Job { job, time }) => {
+            numbers[..3].copy_from_slice(&[1, job as i32, time as i32]);
+        }
+        Some(Reason::Stairs(dues)) => {
+            numbers[..2].copy_from_slice(&[2, dues.len() as i32]);
+            numbers[3..3 + dues.len()].copy_from_slice(&dues);
+        }
+    }
+    numbers
+}

@@ -1,0 +1,158 @@
+//! Document 01's "Orders to try", the small examples of its refusal table and its order file of C,
+//! with the values that stand there.
+
+use crate::draw::Random;
+use crate::independent::{write, Job, Order};
+use crate::lent::{job_numbers, Call};
+use crate::library::{Function, READERS};
+use crate::trial::Trial;
+
+const C_FILE: [u8; 28] = [
+    0x04, 0, 0, 0, 0x03, 0, 0, 0, 0x0A, 0, 0, 0, 0x04, 0, 0, 0, 0, 0, 0, 0, 0x04, 0, 0, 0, 1, 0, 1,
+    0,
+];
+const ENOUGH: usize = 12_096;
+
+fn order(memories: &[u32], jobs: &[(u32, i32, u32)]) -> Order {
+    let job = |&(time, due, need): &(u32, i32, u32)| Job { time, due, need };
+    Order {
+        memories: memories.to_vec(),
+        jobs: jobs.iter().map(job).collect(),
+    }
+}
+
+fn a() -> Order {
+    order(&[8, 4], &[(3, 3, 8), (3, 3, 4), (2, 4, 2)])
+}
+
+fn b() -> Order {
+    order(&[8, 4], &[(2, 4, 8), (2, 4, 8), (2, 2, 4), (2, 2, 4)])
+}
+
+fn c() -> Order {
+    order(&[4], &[(3, 10, 4)])
+}
+
+fn d() -> Order {
+    order(&[8, 8], &[(1, 4, 1); 3])
+}
+
+/// Puts all fixed cases before the library.
+pub fn run(trial: &mut Trial) {
+    trial.begin("document 01", 0);
+    lateness(trial);
+    reasons(trial);
+    checks(trial);
+    refused_orders(trial);
+    other_refusals(trial);
+    accepted(trial);
+}
+
+/// A call on the order's file, all of whose buffers are long enough.
+fn on(random: &mut Random, order: &Order) -> Call {
+    Call::with_file(random, &write(order), 19).with_room(random, ENOUGH)
+}
+
+/// Compares a call with the result and the first numbers of the answer that document 01 gives.
+fn case(trial: &mut Trial, function: Function, call: Call, result: u32, answer: &[i32]) {
+    let bound = call.bound;
+    let (told, numbers) = trial.call(function, call);
+    if trial.difference.is_none() && (told != result || !numbers.starts_with(answer)) {
+        let name = function.name();
+        let is = format!("result {told}, answer {numbers:?}");
+        trial.differs(format!(
+            "{name} at {bound}: {is}; document 01 has {result}, {answer:?}"
+        ));
+    }
+}
+
+fn lateness(trial: &mut Trial) {
+    let cases = [
+        (a(), 1),
+        (b(), 1),
+        (c(), -7),
+        (d(), -2),
+        (order(&[4], &[(1, 1, 0)]), 0),
+        (order(&[1], &[(1, -5, 1)]), 6),
+    ];
+    for (order, least) in cases {
+        let call = on(&mut trial.random, &order);
+        case(trial, Function::Least, call, 0, &[least]);
+    }
+}
+
+fn reasons(trial: &mut Trial) {
+    let cases: [(Order, i32, &[i32]); 4] = [
+        (a(), 0, &[2, 2, 0, 3, 3, 0]),
+        (b(), 0, &[2, 2, 0, 4, 2, 0]),
+        (c(), -8, &[1, 1, 3, 0]),
+        (c(), -7, &[0, 0, 0, 0]),
+    ];
+    for (order, bound, reason) in cases {
+        let call = on(&mut trial.random, &order).at(bound);
+        case(trial, Function::Reason, call, 0, reason);
+    }
+}
+
+fn checks(trial: &mut Trial) {
+    let cases: [(&[u32], i32); 2] = [
+        (&[1, 1, 0, 1, 1, 1, 1, 3], 1),
+        (&[1, 1, 0, 2, 1, 1, 1, 2], 0),
+    ];
+    for (rows, answer) in cases {
+        let call = on(&mut trial.random, &c()).with_rows(&mut trial.random, rows);
+        case(trial, Function::Check, call, 0, &[answer]);
+    }
+}
+
+/// Rows 1 to 7 of the table, to each function that reads a file, and to the writer.
+fn refused_orders(trial: &mut Trial) {
+    let cases = [
+        (order(&[], &[(1, 1, 0)]), 1, 0),
+        (order(&[4; 17], &[(1, 1, 0)]), 2, 0),
+        (order(&[4], &[]), 3, 0),
+        (order(&[4], &[(1, 99, 0); 49]), 4, 0),
+        (order(&[4], &[(0, 5, 1)]), 5, 1),
+        (order(&[4], &[(1, 1_000_001, 1)]), 6, 1),
+        (order(&[8], &[(1, 5, 9)]), 7, 1),
+    ];
+    for (order, number, job) in cases {
+        for function in READERS {
+            let call = on(&mut trial.random, &order);
+            case(trial, function, call, number + 256 * job, &[]);
+        }
+        let jobs = job_numbers(&order.jobs);
+        let call = Call::with_lists(&mut trial.random, &order.memories, &jobs, 652, 1);
+        case(trial, Function::Write, call, number + 256 * job, &[]);
+    }
+}
+
+/// Rows 8 to 12 of the table.
+fn other_refusals(trial: &mut Trial) {
+    let call = on(&mut trial.random, &c()).at(10_000_001);
+    case(trial, Function::Plan, call, 8, &[]);
+    let call = on(&mut trial.random, &c()).with_room(&mut trial.random, 0);
+    case(trial, Function::Least, call, 9, &[]);
+    let call = on(&mut trial.random, &a());
+    case(trial, Function::Plan, call, 10, &[]);
+    let call = on(&mut trial.random, &c()).with_room(&mut trial.random, 4 * 3_025);
+    case(trial, Function::Check, call, 11, &[]);
+    let call = Call::with_file(&mut trial.random, &[0; 11], 3);
+    case(trial, Function::Judge, call, 12, &[]);
+    let call = Call::with_file(&mut trial.random, &[0; 12], 3);
+    case(trial, Function::Judge, call, 1, &[]);
+}
+
+/// "16 processors, 48 jobs: accepted. C with room for 1 row: accepted." And the file of C.
+fn accepted(trial: &mut Trial) {
+    let largest = order(&[4; 16], &[(1, 99, 0); 48]);
+    let call = on(&mut trial.random, &largest);
+    case(trial, Function::Judge, call, 0, &[16, 48, 63]);
+    let call = on(&mut trial.random, &c()).with_room(&mut trial.random, 4);
+    case(trial, Function::Least, call, 0, &[-7, 1]);
+    let call = Call::with_lists(&mut trial.random, &[4], &[3, 10, 4], 28, 1);
+    case(trial, Function::Write, call, 0, &[28]);
+    if write(&c()) != C_FILE {
+        trial.differs("the independent writer's file of C is not document 01's".to_string());
+    }
+}

@@ -1,0 +1,73 @@
+//! Document 01 in plain Rust, made apart from the proved code and from its text alone: orders,
+//! order files, right plans, the least lateness, reasons. Whether a bound is met is decided by a
+//! maximum flow, never by the staircase sums, so that each of the two can be held against the
+//! other.
+
+// a program that takes this module in may use only a part of it
+#![allow(dead_code, unused_imports)]
+
+#[path = "independent/accept.rs"]
+mod accept;
+#[path = "independent/amounts.rs"]
+mod amounts;
+#[path = "independent/classes.rs"]
+mod classes;
+#[path = "independent/flow.rs"]
+mod flow;
+#[path = "independent/order_file.rs"]
+mod order_file;
+#[path = "independent/reasons.rs"]
+mod reasons;
+#[path = "independent/rules.rs"]
+mod rules;
+#[path = "independent/wrap.rs"]
+mod wrap;
+
+pub use accept::judge;
+pub use amounts::{least, least_between, meets, plan};
+pub use order_file::{read, write};
+pub use reasons::{overfull, reason, reason_by_table, reason_by_trying, staircases};
+pub use rules::right;
+pub use wrap::{layout, rows_asked, stretches};
+
+/// The most rows of a plan, and the most that the check takes.
+pub const MOST_ROWS: usize = 3_024;
+
+/// A job: minutes of work, due time, memory need.
+#[derive(Clone, Copy, Debug, PartialEq)]
+pub struct Job {
+    pub time: u32,
+    pub due: i32,
+    pub need: u32,
+}
+
+impl Job {
+    /// "A job's end is its due time plus the bound."
+    pub fn end(&self, bound: i64) -> i64 {
+        i64::from(self.due).saturating_add(bound)
+    }
+}
+
+/// An order: a memory to each processor, and the jobs, both in input order.
+#[derive(Clone, Debug, PartialEq)]
+pub struct Order {
+    pub memories: Vec<u32>,
+    pub jobs: Vec<Job>,
+}
+
+/// A row of a plan: job, processor, from, to.
+pub type Row = [u32; 4];
+
+/// A refusal: its number in document 01's table, and the job that it is about or 0.
+#[derive(Clone, Copy, Debug, PartialEq)]
+pub struct Refusal {
+    pub number: u32,
+    pub job: u32,
+}
+
+/// Why a bound is too tight: a job with its time, or the due times of classes 1 to k.
+#[derive(Clone, Debug, PartialEq)]
+pub enum Reason {
+    Job { job: u32, time: u32 },
+    Stairs(Vec<i32>),
+}

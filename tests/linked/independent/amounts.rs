@@ -1,0 +1,97 @@
+//! How many minutes each job gets in each stretch, by a maximum flow, and from it whether a bound
+//! is met, a plan, and the least lateness. In a stretch of L minutes amounts can be served exactly
+//! if none is above L and, for each i, those of the jobs of classes 1 to i, which no other
+//! processors can take, sum to at most L times the processors of classes 1 to i: McNaughton's wrap
+//! then serves them.
+
+use super::classes::Classes;
+use super::flow::Network;
+use super::wrap::{layout, stretches};
+use super::{Order, Row};
+
+const SOURCE: usize = 0;
+const SINK: usize = 1;
+const FIRST_JOB: usize = 2;
+
+/// Whether some right plan meets the bound, of an accepted order.
+pub fn meets(order: &Order, bound: i64) -> bool {
+    amounts(order, bound).is_some()
+}
+
+/// A right plan at a bound, laid out by the wrap.
+pub fn plan(order: &Order, bound: i32) -> Option<Vec<Row>> {
+    let amounts = amounts(order, bound.into())?;
+    Some(layout(order, bound.into(), &amounts))
+}
+
+/// The least lateness: the smallest whole number that is met.
+pub fn least(order: &Order) -> i32 {
+    let (mut unmet, mut met) = least_between(order);
+    while met - unmet > 1 {
+        let middle = unmet + (met - unmet) / 2;
+        if meets(order, middle) {
+            met = middle;
+        } else {
+            unmet = middle;
+        }
+    }
+    met as i32
+}
+
+/// A bound that is not met and a larger one that is. A job cannot end before it has run for its
+/// time; and all jobs, one after the other on a processor of the largest memory, end by the sum of
+/// times.
+pub fn least_between(order: &Order) -> (i64, i64) {
+    let jobs = || order.jobs.iter();
+    let together: i64 = jobs().map(|job| i64::from(job.time)).sum();
+    let alone = jobs().map(|job| i64::from(job.time) - i64::from(job.due));
+    let earliest = jobs().map(|job| i64::from(job.due)).min();
+    let unmet = alone.max().expect("an accepted order has a job") - 1;
+    let met = together - earliest.expect("an accepted order has a job");
+    (unmet, met)
+}
+
+/// Amounts by stretch, then by job, that give each job its whole time; or none if there are none.
+fn amounts(order: &Order, bound: i64) -> Option<Vec<Vec<i64>>> {
+    let stretches = stretches(order, bound);
+    let classes = Classes::of(order);
+    let class_node = |stretch: usize, class: usize| {
+        let first = FIRST_JOB + order.jobs.len();
+        first + stretch * classes.count() + class
+    };
+    let mut network = Network::new(class_node(stretches.len(), 0));
+    let mut arcs = vec![vec![None; order.jobs.len()]; stretches.len()];
+    for (stretch, &(from, to)) in stretches.iter().enumerate() {
+        let node = |class| class_node(stretch, class);
+        add_rooms(&mut network, &classes, to - from, node);
+        for (number, job) in order.jobs.iter().enumerate() {
+            if to <= job.end(bound) {
+                let arc = network.add(FIRST_JOB + number, node(classes.class(job)), to - from);
+                arcs[stretch][number] = Some(arc);
+            }
+        }
+    }
+    let mut wanted = 0;
+    for (number, job) in order.jobs.iter().enumerate() {
+        network.add(SOURCE, FIRST_JOB + number, job.time.into());
+        wanted += i64::from(job.time);
+    }
+    if network.fill(SOURCE, SINK) < wanted {
+        return None;
+    }
+    let amount = |arc: &Option<usize>| arc.map_or(0, |place| network.flow(place));
+    let of_stretch = |arcs: &Vec<Option<usize>>| arcs.iter().map(amount).collect();
+    Some(arcs.iter().map(of_stretch).collect())
+}
+
+/// The rooms of one stretch, a chain: what enters at class i goes on through classes i + 1 and so
+/// on to the sink, so the arc that leaves class i carries the amounts of classes 1 to i together.
+fn add_rooms(network: &mut Network, classes: &Classes, length: i64, node: impl Fn(usize) -> usize) {
+    let mut processors = 0;
+    for class in 0..classes.count() {
+        processors += classes.processors[class];
+        let last = class + 1 == classes.count();
+        let onward = if last { SINK } else { node(class + 1) };
+        network.add(node(class), onward, length.saturating_mul(processors));
+    }
+}

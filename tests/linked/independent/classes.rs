@@ -1,0 +1,39 @@
+//! "Sort the distinct memories downwards: class 1 is the largest. A job belongs to the last class
+//! whose memory still suffices." Class 1 has index 0 here.
+
+use super::{Job, Order};
+
+/// The classes of an order.
+pub struct Classes {
+    memories: Vec<u32>,
+    /// How many processors are in each class.
+    pub processors: Vec<i64>,
+}
+
+impl Classes {
+    pub fn of(order: &Order) -> Classes {
+        let mut memories = order.memories.clone();
+        memories.sort();
+        memories.dedup();
+        memories.reverse();
+        let in_class = |class: &u32| order.memories.iter().filter(|m| *m == class).count();
+        let processors = memories.iter().map(|m| in_class(m) as i64).collect();
+        Classes {
+            memories,
+            processors,
+        }
+    }
+
+    pub fn count(&self) -> usize {
+        self.memories.len()
+    }
+
+    /// The class of a job of an accepted order.
+    pub fn class(&self, job: &Job) -> usize {
+        let suffices = |memory: &u32| *memory >= job.need;
+        self.memories
+            .iter()
+            .rposition(suffices)
+            .expect("a job of an accepted order fits some processor")
+    }
+}

@@ -1,0 +1,116 @@
+//! The six functions of the header: what they are called, how long their answers are, which
+//! refusals each can give, and a library as six entries of one form.
+
+use crate::lent::Call;
+
+#[derive(Clone, Copy, Debug, PartialEq)]
+pub enum Function {
+    Judge,
+    Least,
+    Plan,
+    Reason,
+    Check,
+    Write,
+}
+
+pub const FUNCTIONS: [Function; 6] = [
+    Function::Judge,
+    Function::Least,
+    Function::Plan,
+    Function::Reason,
+    Function::Check,
+    Function::Write,
+];
+
+/// Those that read an order file.
+pub const READERS: [Function; 5] = [
+    Function::Judge,
+    Function::Least,
+    Function::Plan,
+    Function::Reason,
+    Function::Check,
+];
+
+impl Function {
+    pub fn name(self) -> &'static str {
+        match self {
+            Function::Judge => "hbr_judge",
+            Function::Least => "hbr_least",
+            Function::Plan => "hbr_plan",
+            Function::Reason => "hbr_reason",
+            Function::Check => "hbr_check",
+            Function::Write => "hbr_write",
+        }
+    }
+
+    /// The header's HBR_.._ANSWER.
+    pub fn answer_length(self) -> usize {
+        match self {
+            Function::Judge => 3,
+            Function::Least => 2,
+            Function::Reason => 19,
+            Function::Plan | Function::Check | Function::Write => 1,
+        }
+    }
+
+    /// The refusals that the header names for it.
+    pub fn refusals(self) -> &'static [u32] {
+        match self {
+            Function::Judge => &[1, 2, 3, 4, 5, 6, 7, 12, 255],
+            Function::Least => &[1, 2, 3, 4, 5, 6, 7, 9, 12, 255],
+            Function::Plan => &[1, 2, 3, 4, 5, 6, 7, 8, 9, 10, 12, 255],
+            Function::Reason => &[1, 2, 3, 4, 5, 6, 7, 8, 12, 255],
+            Function::Check => &[1, 2, 3, 4, 5, 6, 7, 8, 11, 12, 255],
+            Function::Write => &[1, 2, 3, 4, 5, 6, 7, 9, 254, 255],
+        }
+    }
+
+    /// Whether it writes rows: then a short buffer is refused.
+    pub fn plans(self) -> bool {
+        matches!(self, Function::Least | Function::Plan)
+    }
+
+    pub fn takes_bound(self) -> bool {
+        matches!(self, Function::Plan | Function::Reason | Function::Check)
+    }
+}
+
+/// Takes what is lent, answers the result: refusal + 256 × job.
+pub type Entry = fn(&mut Call) -> u32;
+
+#[derive(Clone, Copy)]
+pub struct Library {
+    pub judge: Entry,
+    pub least: Entry,
+    pub plan: Entry,
+    pub reason: Entry,
+    pub check: Entry,
+    pub write: Entry,
+}
+
+impl Library {
+    pub fn entry(&self, function: Function) -> Entry {
+        match function {
+            Function::Judge => self.judge,
+            Function::Least => self.least,
+            Function::Plan => self.plan,
+            Function::Reason => self.reason,
+            Function::Check => self.check,
+            Function::Write => self.write,
+        }
+    }
+
+    /// The same library but for one function.
+    pub fn with(mut self, function: Function, entry: Entry) -> Library {
+        let place = match function {
+            Function::Judge => &mut self.judge,
+            Function::Least => &mut self.least,
+            Function::Plan => &mut self.plan,
+            Function::Reason => &mut self.reason,
+            Function::Check => &mut self.check,
+            Function::Write => &mut self.write,
+        };
+        *place = entry;
+        self
+    }
+}

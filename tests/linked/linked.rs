@@ -1,0 +1,89 @@
+//! The static library itself, called as a C program calls it: pointers and lengths of the lent
+//! buffers, in the header's order. The only file with unsafe code.
+
+use crate::highboyrobin::raw;
+use crate::lent::Call;
+use crate::library::Library;
+
+pub const LINKED: Library = Library {
+    judge,
+    least,
+    plan,
+    reason,
+    check,
+    write,
+};
+
+fn judge(call: &mut Call) -> u32 {
+    let (file, file_length) = (call.file.pointer(), call.file.len());
+    let (answer, answer_length) = (call.answer.pointer_mut(), call.answer.len());
+    unsafe { raw::hbr_judge(file, file_length, answer, answer_length) }
+}
+
+fn least(call: &mut Call) -> u32 {
+    let (file, file_length) = (call.file.pointer(), call.file.len());
+    let (rows, rows_length) = (call.rows.pointer_mut(), call.rows.len());
+    let (answer, answer_length) = (call.answer.pointer_mut(), call.answer.len());
+    unsafe { raw::hbr_least(file, file_length, rows, rows_length, answer, answer_length) }
+}
+
+fn plan(call: &mut Call) -> u32 {
+    let (file, file_length) = (call.file.pointer(), call.file.len());
+    let (rows, rows_length) = (call.rows.pointer_mut(), call.rows.len());
+    let (answer, answer_length) = (call.answer.pointer_mut(), call.answer.len());
+    let bound = call.bound;
+    unsafe {
+        raw::hbr_plan(
+            file,
+            file_length,
+            bound,
+            rows,
+            rows_length,
+            answer,
+            answer_length,
+        )
+    }
+}
+
+fn reason(call: &mut Call) -> u32 {
+    let (file, file_length) = (call.file.pointer(), call.file.len());
+    let (answer, answer_length) = (call.answer.pointer_mut(), call.answer.len());
+    unsafe { raw::hbr_reason(file, file_length, call.bound, answer, answer_length) }
+}
+
+fn check(call: &mut Call) -> u32 {
+    let (file, file_length) = (call.file.pointer(), call.file.len());
+    let (rows, rows_length) = (call.rows.pointer(), call.rows.len());
+    let (answer, answer_length) = (call.answer.pointer_mut(), call.answer.len());
+    let bound = call.bound;
+    unsafe {
+        raw::hbr_check(
+            file,
+            file_length,
+            bound,
+            rows,
+            rows_length,
+            answer,
+            answer_length,
+        )
+    }
+}
+
+fn write(call: &mut Call) -> u32 {
+    let (memories, memories_length) = (call.memories.pointer(), call.memories.len());
+    let (jobs, jobs_length) = (call.jobs.pointer(), call.jobs.len());
+    let (file, file_length) = (call.file.pointer_mut(), call.file.len());
+    let (answer, answer_length) = (call.answer.pointer_mut(), call.answer.len());
+    unsafe {
+        raw::hbr_write(
+            memories,
+            memories_length,
+            jobs,
+            jobs_length,
+            file,
+            file_length,
+            answer,
+            answer_length,
+        )
+    }
+}

@@ -1,0 +1,82 @@
+//! Differential tests of the static library from outside: every call that it is lent is compared
+//! with an implementation made apart from it, from document 01 alone.
+//!
+//!     linked             the run of the gate
+//!     linked N           N times as many rounds
+//!     linked --broken    wrong libraries, each of which must be caught
+
+mod agree;
+mod compare;
+mod draw;
+mod expect;
+mod fixed;
+#[allow(dead_code)]
+#[path = "../../link/highboyrobin.rs"]
+mod highboyrobin;
+mod independent;
+mod lent;
+mod library;
+mod linked;
+mod model;
+mod rounds;
+mod search;
+mod tally;
+mod trial;
+mod wrong;
+
+use rounds::Rounds;
+use std::process::ExitCode;
+use trial::Trial;
+
+fn main() -> ExitCode {
+    let arguments: Vec<String> = std::env::args().skip(1).collect();
+    let arguments: Vec<&str> = arguments.iter().map(String::as_str).collect();
+    let done = match arguments[..] {
+        [] => compare_linked(1),
+        ["--broken"] => wrong::run(),
+        [times] => match times.parse() {
+            Ok(times) => compare_linked(times),
+            Err(_) => Err("usage: linked [N | --broken]".to_string()),
+        },
+        _ => Err("usage: linked [N | --broken]".to_string()),
+    };
+    match done {
+        Ok(last_line) => {
+            println!("{last_line}");
+            ExitCode::SUCCESS
+        }
+        Err(difference) => {
+            println!("{difference}");
+            ExitCode::FAILURE
+        }
+    }
+}
+
+/// Compares the linked library with what is expected; answers the last line.
+fn compare_linked(times: u64) -> Result<String, String> {
+    let agreed = agree::run(1_800 * times, 220 * times)?;
+    println!("independent implementation: {agreed} orders agree");
+    let mut trial = Trial::of(linked::LINKED);
+    fixed::run(&mut trial);
+    let rounds = Rounds {
+        small: 2_340 * times,
+        large: 660 * times,
+        refused: 1_400 * times,
+        files: 2_400 * times,
+        lists: 1_000 * times,
+    };
+    rounds::run(&mut trial, &rounds);
+    if let Some(difference) = trial.difference {
+        return Err(difference);
+    }
+    trial
+        .tally
+        .lines()
+        .iter()
+        .for_each(|line| println!("{line}"));
+    let never = trial.tally.never_met();
+    if !never.is_empty() {
+        return Err(format!("linked: never met: {}", never.join("; ")));
+    }
+    Ok(format!("linked: {} calls, 0 differ", trial.tally.calls))
+}

@@ -1,0 +1,35 @@
+//! The independent implementation as a library of six functions: what a linked library would do
+//! that does just what is expected. The wrong libraries are made from it.
+
+use crate::expect::{expected, Expected, Known};
+use crate::independent::plan;
+use crate::lent::Call;
+use crate::library::{Function, Library};
+
+pub const MODEL: Library = Library {
+    judge: |call| run(Function::Judge, call),
+    least: |call| run(Function::Least, call),
+    plan: |call| run(Function::Plan, call),
+    reason: |call| run(Function::Reason, call),
+    check: |call| run(Function::Check, call),
+    write: |call| run(Function::Write, call),
+};
+
+fn run(function: Function, call: &mut Call) -> u32 {
+    let mut known = Known::of(call.file.content());
+    match expected(function, call, &mut known) {
+        Expected::Refused(refusal) => return refusal.number + 256 * refusal.job,
+        Expected::Answer(numbers) => call.answer.put(&numbers),
+        Expected::Plan { bound, lateness } => {
+            let rows = plan(known.order(), bound).expect("the bound is met");
+            call.rows.put(&rows.concat());
+            let answer: Vec<i32> = lateness.into_iter().chain([rows.len() as i32]).collect();
+            call.answer.put(&answer);
+        }
+        Expected::File(bytes) => {
+            call.file.put(&bytes);
+            call.answer.put(&[bytes.len() as i32]);
+        }
+    }
+    0
+}

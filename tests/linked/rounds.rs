@@ -1,0 +1,202 @@
+//! The drawn calls: accepted orders with bounds and row lists around their least lateness, orders
+//! that are refused, doubtful files, and lists for the writer.
+
+use crate::draw::bounds::Around;
+use crate::draw::damage::damaged;
+use crate::draw::files::{doubtful, file_of};
+use crate::draw::lengths::{answer_length, file_room, room};
+use crate::draw::lists;
+use crate::draw::orders::{tiny, Family, LARGE_FAMILIES, SMALL_FAMILIES};
+use crate::draw::sharp;
+use crate::draw::Random;
+use crate::independent::{plan, rows_asked, write, Order, MOST_ROWS};
+use crate::lent::{job_numbers, Call};
+use crate::library::{Function, READERS};
+use crate::trial::Trial;
+
+/// How many rounds of each part.
+pub struct Rounds {
+    pub small: u64,
+    pub large: u64,
+    pub refused: u64,
+    pub files: u64,
+    pub lists: u64,
+}
+
+/// Runs all parts, up to the first difference.
+pub fn run(trial: &mut Trial, rounds: &Rounds) {
+    let parts: [(&str, u64, fn(&mut Trial, u64)); 5] = [
+        ("small orders", rounds.small, small_order),
+        ("large orders", rounds.large, large_order),
+        ("refused orders", rounds.refused, refused_order),
+        ("files", rounds.files, doubtful_file),
+        ("lists", rounds.lists, any_lists),
+    ];
+    for (part, times, round) in parts {
+        for seed in 0..times {
+            if trial.difference.is_none() {
+                trial.begin(part, seed);
+                round(trial, seed);
+            }
+        }
+    }
+}
+
+fn small_order(trial: &mut Trial, seed: u64) {
+    accepted_order(trial, SMALL_FAMILIES, seed);
+}
+
+fn large_order(trial: &mut Trial, seed: u64) {
+    accepted_order(trial, LARGE_FAMILIES, seed);
+}
+
+fn accepted_order(trial: &mut Trial, families: &[Family], seed: u64) {
+    let (_, family) = families[seed as usize % families.len()];
+    let order = family(&mut trial.random);
+    let file = file_of(&mut trial.random, &order);
+    let least = trial.least(&file);
+    let around = Around::of(&order, least);
+    let asked = rows_asked(&order);
+    trial_of(trial, Function::Judge, |random, answer| {
+        Call::with_file(random, &file, answer)
+    });
+    for _ in 0..3 {
+        trial_of(trial, Function::Least, |random, answer| {
+            let room = room(random, asked);
+            Call::with_file(random, &file, answer).with_room(random, room)
+        });
+    }
+    for _ in 0..6 {
+        trial_of(trial, Function::Plan, |random, answer| {
+            let (room, bound) = (room(random, asked), around.bound(random));
+            Call::with_file(random, &file, answer)
+                .with_room(random, room)
+                .at(bound)
+        });
+    }
+    for _ in 0..8 {
+        trial_of(trial, Function::Reason, |random, answer| {
+            let bound = around.bound(random);
+            Call::with_file(random, &file, answer).at(bound)
+        });
+    }
+    checks(trial, &order, &file, around);
+    for _ in 0..2 {
+        write_order(trial, &order);
+    }
+}
+
+/// Makes a call with a drawn answer length.
+fn trial_of(trial: &mut Trial, function: Function, make: impl FnOnce(&mut Random, usize) -> Call) {
+    let answer = answer_length(&mut trial.random, function);
+    let call = make(&mut trial.random, answer);
+    trial.call(function, call);
+}
+
+/// Row lists before the plan check, at the bound that they were made for or at one next to it.
+fn checks(trial: &mut Trial, order: &Order, file: &[u8], around: Around) {
+    let loose = around.least + trial.random.between(0, 4) as i32;
+    let made_at = trial.random.pick(&[around.least, loose]);
+    let made = plan(order, made_at).expect("the least lateness and what is above it are met");
+    for turn in 0..12 {
+        trial_of(trial, Function::Check, |random, answer| {
+            let rows = match turn {
+                0 => made.concat(),
+                1 => lists::senseless(random),
+                2 => at_most_rows(random, &made),
+                3..=6 => sharp::one_rule_broken(random, order, made_at, &made),
+                _ => lists::hostile(random, &made),
+            };
+            let bound = match random.below(12) {
+                0..=1 => around.bound(random),
+                2 => made_at - 1,
+                3 => made_at + random.between(1, 20) as i32,
+                _ => made_at,
+            };
+            Call::with_file(random, file, answer)
+                .with_rows(random, &rows)
+                .at(bound)
+        });
+    }
+}
+
+/// A list around the most rows that the check takes, with or without numbers left over.
+fn at_most_rows(random: &mut Random, made: &[[u32; 4]]) -> Vec<u32> {
+    let far = if random.once_in(20) { 65_536 } else { 0 };
+    let count = far + random.pick(&[MOST_ROWS - 1, MOST_ROWS, MOST_ROWS + 1]);
+    let mut rows = lists::cut(made, count);
+    if random.once_in(3) {
+        rows.extend(vec![1; 1 + random.below(3)]);
+    }
+    rows
+}
+
+fn write_order(trial: &mut Trial, order: &Order) {
+    let length = write(order).len();
+    write_lists(trial, &order.memories, &job_numbers(&order.jobs), length);
+}
+
+/// hbr_write with room for a file of about this length.
+fn write_lists(trial: &mut Trial, memories: &[u32], jobs: &[u32], length: usize) {
+    trial_of(trial, Function::Write, |random, answer| {
+        let room = file_room(random, length);
+        Call::with_lists(random, memories, jobs, room, answer)
+    });
+}
+
+/// An order that is not accepted, before all six functions, the other arguments good or not.
+fn refused_order(trial: &mut Trial, seed: u64) {
+    let (_, family) = SMALL_FAMILIES[seed as usize % SMALL_FAMILIES.len()];
+    let order = family(&mut trial.random);
+    let number = 1 + seed as u32 % 7;
+    let order = damaged(&mut trial.random, &order, number);
+    let file = file_of(&mut trial.random, &order);
+    read_all(trial, &file);
+    write_order(trial, &order);
+}
+
+/// A doubtful file before the five functions that read one.
+fn doubtful_file(trial: &mut Trial, seed: u64) {
+    let (_, family) = SMALL_FAMILIES[seed as usize % SMALL_FAMILIES.len()];
+    let order = family(&mut trial.random);
+    let file = doubtful(&mut trial.random, &order);
+    read_all(trial, &file);
+}
+
+fn read_all(trial: &mut Trial, file: &[u8]) {
+    for function in READERS {
+        trial_of(trial, function, |random, answer| {
+            let bound = Around::any(random).bound(random);
+            let room = random.pick(&[0, 3, 4, 200, 4 * MOST_ROWS, 4 * MOST_ROWS + 1]);
+            Call::with_file(random, file, answer)
+                .with_room(random, room)
+                .at(bound)
+        });
+    }
+}
+
+/// Any lists before the writer: counts up to the limits and beyond, parts of jobs. Counts of 257
+/// and of 65,537 look small to whoever counts in 8 or 16 bits.
+fn any_lists(trial: &mut Trial, seed: u64) {
+    let order = tiny(&mut trial.random);
+    let random = &mut trial.random;
+    let far = if seed % 50 == 0 { 65_537 } else { 257 };
+    let memories = repeated(random, &order.memories, 19, far);
+    let mut jobs = repeated(random, &order.jobs, 52, far);
+    if random.once_in(4) {
+        jobs.extend(damaged(random, &order, 5 + seed as u32 % 3).jobs);
+    }
+    let mut numbers = job_numbers(&jobs);
+    if random.once_in(4) {
+        numbers.truncate(numbers.len().saturating_sub(1 + random.below(2)));
+    }
+    let length = 12 + 4 * memories.len() + 4 * numbers.len();
+    write_lists(trial, &memories, &numbers, length);
+}
+
+/// Elements of a list, up to so many or far too many.
+fn repeated<T: Copy>(random: &mut Random, list: &[T], most: usize, far: usize) -> Vec<T> {
+    let count = random.below(most + 1);
+    let count = if random.once_in(12) { far } else { count };
+    (0..count).map(|_| random.pick(list)).collect()
+}

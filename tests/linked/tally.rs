@@ -1,0 +1,105 @@
+//! Counts the calls by function and by what they had to do, so that a reader sees that every
+//! refusal and every kind of answer was met.
+
+use crate::expect::Expected;
+use crate::library::{Function, FUNCTIONS};
+use std::collections::BTreeMap;
+
+/// The kinds of answers that each function must have given.
+fn kinds(function: Function) -> &'static [&'static str] {
+    match function {
+        Function::Reason => &["none", "job", "level stairs", "falling stairs"],
+        Function::Check => &["yes", "no"],
+        _ => &["answered"],
+    }
+}
+
+#[derive(Default)]
+pub struct Tally {
+    pub calls: u64,
+    counts: BTreeMap<(&'static str, String), u64>,
+}
+
+impl Tally {
+    pub fn count(&mut self, function: Function, expected: &Expected) {
+        self.calls += 1;
+        let outcome = match expected {
+            Expected::Refused(refusal) => refusal.number.to_string(),
+            Expected::Answer(numbers) => kind(function, numbers).to_string(),
+            _ => "answered".to_string(),
+        };
+        *self.counts.entry((function.name(), outcome)).or_insert(0) += 1;
+    }
+
+    fn times(&self, function: Function, outcome: &str) -> u64 {
+        let key = (function.name(), outcome.to_string());
+        self.counts.get(&key).copied().unwrap_or(0)
+    }
+
+    /// A line for each function.
+    pub fn lines(&self) -> Vec<String> {
+        FUNCTIONS.map(|function| self.line(function)).to_vec()
+    }
+
+    fn line(&self, function: Function) -> String {
+        let answered = kinds(function).iter().map(|kind| {
+            let times = self.times(function, kind);
+            format!("{times} {kind}")
+        });
+        let refused = function.refusals().iter().map(|number| {
+            let times = self.times(function, &number.to_string());
+            format!("{number}: {times}")
+        });
+        let refused: Vec<String> = refused.collect();
+        let answered: Vec<String> = answered.collect();
+        let (answered, refused) = (answered.join(", "), refused.join(", "));
+        let all: u64 = self.of(function);
+        format!(
+            "{:<10} {all} calls; {answered}; refused {refused}",
+            function.name()
+        )
+    }
+
+    fn of(&self, function: Function) -> u64 {
+        let own = self
+            .counts
+            .iter()
+            .filter(|((name, _), _)| *name == function.name());
+        own.map(|(_, times)| times).sum()
+    }
+
+    /// What a function can answer and never had to.
+    pub fn never_met(&self) -> Vec<String> {
+        let mut never = Vec::new();
+        for function in FUNCTIONS {
+            let refusals = function.refusals().iter().map(u32::to_string);
+            let kinds = kinds(function).iter().map(|kind| kind.to_string());
+            let unmet = refusals
+                .chain(kinds)
+                .filter(|what| self.times(function, what) == 0);
+            never.extend(unmet.map(|what| format!("{}: {what}", function.name())));
+        }
+        never
+    }
+}
+
+/// The kind of an answer. Stairs whose times fall are told apart: only they show more than sums at
+/// one common time do.
+fn kind(function: Function, numbers: &[i32]) -> &'static str {
+    match (function, numbers[0]) {
+        (Function::Check, 0) => "no",
+        (Function::Check, _) => "yes",
+        (Function::Reason, 0) => "none",
+        (Function::Reason, 1) => "job",
+        (Function::Reason, _) => {
+            let dues = &numbers[3..3 + numbers[1] as usize];
+            let level = dues.iter().all(|due| *due == dues[0]);
+            if level {
+                "level stairs"
+            } else {
+                "falling stairs"
+            }
+        }
+        _ => "answered",
+    }
+}

@@ -1,0 +1,105 @@
+//! Puts calls before a library one by one, compares each with what it had to do, and stops at the
+//! first difference, with all that is needed to see it again.
+
+use crate::compare::wrong;
+use crate::draw::Random;
+use crate::expect::{expected, Known};
+use crate::lent::Call;
+use crate::library::{Function, Library};
+use crate::tally::Tally;
+use std::fmt::Debug;
+
+const LONG: usize = 4_000;
+
+pub struct Trial {
+    library: Library,
+    known: Known,
+    part: &'static str,
+    seed: u64,
+    pub random: Random,
+    pub tally: Tally,
+    pub difference: Option<String>,
+}
+
+impl Trial {
+    pub fn of(library: Library) -> Trial {
+        Trial {
+            library,
+            known: Known::of(&[]),
+            part: "",
+            seed: 0,
+            random: Random::new(0),
+            tally: Tally::default(),
+            difference: None,
+        }
+    }
+
+    /// Begins a round: all that it draws comes from this seed.
+    pub fn begin(&mut self, part: &'static str, seed: u64) {
+        self.part = part;
+        self.seed = seed;
+        let letters = part.bytes().map(u64::from);
+        let start = letters.fold(seed, |start, letter| start.wrapping_mul(257) ^ letter);
+        self.random = Random::new(start);
+    }
+
+    /// The least lateness of an accepted file.
+    pub fn least(&mut self, file: &[u8]) -> i32 {
+        self.known.turn_to(file);
+        self.known.least()
+    }
+
+    /// Makes one call, unless a difference was found already, and answers its result and answer.
+    pub fn call(&mut self, function: Function, call: Call) -> (u32, Vec<i32>) {
+        if self.difference.is_some() {
+            return (0, Vec::new());
+        }
+        let expected = expected(function, &call, &mut self.known);
+        self.tally.count(function, &expected);
+        let mut after = call.clone();
+        let result = self.library.entry(function)(&mut after);
+        let order = || self.known.order().clone();
+        if let Some(wrong) = wrong(&expected, order, &call, &after, result) {
+            let (name, part, seed) = (function.name(), self.part, self.seed);
+            let lines = [
+                format!("{name} differs in part {part}, seed {seed}: {wrong}"),
+                format!("expected: {}", shown(&expected)),
+                told("lent", &call),
+                told("left", &after),
+            ];
+            self.difference = Some(lines.join("\n"));
+        }
+        (result, after.answer.content().to_vec())
+    }
+
+    /// Notes a difference from a value that document 01 itself gives.
+    pub fn differs(&mut self, told: String) {
+        self.difference.get_or_insert(told);
+    }
+}
+
+/// What a call was lent, or what it left.
+fn told(what: &str, call: &Call) -> String {
+    let buffers = [
+        ("file", call.file.len(), shown(&call.file.content())),
+        (
+            "memories",
+            call.memories.len(),
+            shown(&call.memories.content()),
+        ),
+        ("jobs", call.jobs.len(), shown(&call.jobs.content())),
+        ("rows", call.rows.len(), shown(&call.rows.content())),
+        ("answer", call.answer.len(), shown(&call.answer.content())),
+    ];
+    let line = |(name, length, content)| format!("\n  {name}, length {length}: {content}");
+    format!("{what}: bound {}{}", call.bound, buffers.map(line).concat())
+}
+
+/// A value as text, cut where it is very long.
+fn shown(value: &impl Debug) -> String {
+    let text = format!("{value:?}");
+    match text.char_indices().nth(LONG) {
+        Some((at, _)) => format!("{} ..", &text[..at]),
+        None => text,
+    }
+}
