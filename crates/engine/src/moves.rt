@@ -51,16 +51,17 @@ pub fn aim(
     requires { ⌜ (n < length (now class)) × (n < length (now height)) × (s < q) × (suc n * q ≤ length (now w)) ⌝ }
     ensures { λ r. ⌜ Aim (now (class .entry)) (now (w .entry)) (now (height .entry)) n q s tight h r ⌝ }
 {
+    if h == 0 {
+        return n + 1;
+    }
+    let below = h - 1;
     let mut i = n + 1;
     while 0 < i {
         i -= 1;
-        let k = height[i];
-        if k < h {
-            if h - k == 1 {
-                if class[i] <= tight {
-                    if 0 < w[i * q + s] {
-                        return i;
-                    }
+        if height[i] == below {
+            if class[i] <= tight {
+                if 0 < w[i * q + s] {
+                    return i;
                 }
             }
         }

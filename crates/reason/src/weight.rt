@@ -8,7 +8,7 @@ ghost use lib.Dec.{eqb};
 ghost use lib.ListN.{getD};
 ghost use Rattle.sums.specs.Lists.{only};
 ghost use Rattle.tables.specs.Tables.{RowOf};
-ghost use Rattle.reason.specs.Settings.{owedBy, minutesAt, weight, Fine};
+ghost use Rattle.reason.specs.Settings.{owedBy, minutesBy, minutesAt, weight, Fine};
 
 // What one job owes by the time of the lead g.
 fn owed(time: u32, lead: u32, g: u32) -> u32
@@ -34,32 +34,34 @@ fn share(c: u32, k: u32, time: u32, lead: u32, g: u32) -> u32
     0
 }
 
-// Document 01's minutes owed by the jobs of class k, at the due time d.
-pub fn owed_at(t: Setting, k: u32, d: usize) -> u32
-    requires { ⌜ Fine t ⌝ }
-    requires { ⌜ d < 48 ⌝ }
-    ensures { λ r. ⌜ r ≡ minutesAt t k d ⌝ }
+// Document 01's minutes owed by the jobs of class k, at the due time of the lead g.
+fn owed_at(times: &[u32; 48], classes: &[u32; 48], leads: &[u32; 48], n: usize, k: u32, g: u32) -> u32
+    requires { ⌜ n ≤ 48 ⌝ }
+    requires { ⌜ ((j : ℕ) → j < n → getD (now times) j 0 ≤ 100000) ⌝ }
+    ensures { λ r. ⌜ r ≡ minutesBy (now (times .entry)) (now (classes .entry)) (now (leads .entry)) n k g ⌝ }
 {
-    let g = t.grid[d];
-    let n = t.n;
     let mut minutes: u32 = 0;
     let mut j: usize = 0;
     while j < n {
-        minutes += share(t.classes[j], k, t.times[j], t.leads[j], g);
+        minutes += share(classes[j], k, times[j], leads[j], g);
         j += 1;
     }
     minutes
 }
 
 // One class at every due time.
-pub fn owed_row(t: Setting, k: u32) -> [u32; 48]
+fn owed_row(t: Setting, k: u32) -> [u32; 48]
     requires { ⌜ Fine t ⌝ }
     ensures { λ r. ⌜ RowOf (minutesAt t k) 48 r ⌝ }
 {
+    let times = t.times;
+    let classes = t.classes;
+    let leads = t.leads;
+    let n = t.n;
     let mut r = [0u32; 48];
     let mut d: usize = 0;
     while d < 48 {
-        r[d] = owed_at(t, k, d);
+        r[d] = owed_at(&times, &classes, &leads, n, k, t.grid[d]);
         d += 1;
     }
     r
