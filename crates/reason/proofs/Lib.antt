@@ -1,2 +1,3 @@
 mod Dues
+mod JobByJob
 mod Tells

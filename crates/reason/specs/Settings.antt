@@ -27,20 +27,14 @@ use Rattle.reason.specs.declared.Why.{Why}
 abbrev pub owedBy : ℕ → ℕ → ℕ → ℕ
 owedBy time lead g = time - (g - lead)
 
--- what a job of class c adds to class k at the lead g, and what n jobs do
-abbrev pub sharesOf : List ℕ → List ℕ → List ℕ → ℕ → ℕ → ℕ → ℕ
-sharesOf times classes leads k g j = only (eqb (getD classes j 0) k) (owedBy (getD times j 0) (getD leads j 0) g)
-
-abbrev pub minutesBy : List ℕ → List ℕ → List ℕ → ℕ → ℕ → ℕ → ℕ
-minutesBy times classes leads n k g = sum n (sharesOf times classes leads k g)
-
 -- what job j adds to class k at the due time d
 abbrev pub owes : Setting → ℕ → ℕ → ℕ → ℕ
-owes t k d j = sharesOf (t .times) (t .classes) (t .leads) k (getD (t .grid) d 0) j
+owes t k d j =
+    only (eqb (getD (t .classes) j 0) k) (owedBy (getD (t .times) j 0) (getD (t .leads) j 0) (getD (t .grid) d 0))
 
 -- the minutes owed by the jobs of class k at the due time d
 unfoldable pub minutesAt : Setting → ℕ → ℕ → ℕ
-minutesAt t k d = minutesBy (t .times) (t .classes) (t .leads) (t .n) k (getD (t .grid) d 0)
+minutesAt t k d = sum (t .n) (owes t k d)
 
 -- what the i-th class from 0 on weighs at the due time d: the minutes owed by its jobs, and its processors times the lead
 unfoldable pub weight : Setting → ℕ → ℕ → ℕ

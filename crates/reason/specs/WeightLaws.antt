@@ -13,15 +13,16 @@ use Rattle.tables.specs.Places.{best}
 use Rattle.tables.specs.Tables.{Small, RowOf}
 use Rattle.tables.specs.NumberLaws.{sum-most, most-le, ceil-le}
 use Rattle.tables.specs.CompletionLaws.{best-comp, comp-le}
-use Rattle.reason.specs.Settings.{owedBy, sharesOf, owes, minutesAt, weight, procsTo, latestOf, leastFor, reachOf, Fine}
+use Rattle.reason.specs.Settings.{owedBy, owes, minutesAt, weight, procsTo, latestOf, leastFor, reachOf, Fine}
 use Rattle.reason.specs.declared.Setting.{Setting}
 
-pub share-le : (times classes leads : List ℕ) (k g j most : ℕ) → getD times j 0 ≤ most → sharesOf times classes leads k g j ≤ most
-share-le times classes leads k g j most h =
-    omega (arith, only-le (eqb (getD classes j 0) k) (owedBy (getD times j 0) (getD leads j 0) g))
-
 pub owes-le : (o : Setting) → Fine o → (i d j : ℕ) → j < o .n → owes o i d j ≤ 100000
-owes-le o f i d j h = share-le (o .times) (o .classes) (o .leads) i (getD (o .grid) d 0) j 100000 (f .times j h)
+owes-le o f i d j h = omega (
+  arith,
+  only-le (eqb (getD (o .classes) j 0) i)
+      (owedBy (getD (o .times) j 0) (getD (o .leads) j 0) (getD (o .grid) d 0)),
+  f .times j h,
+)
 
 hand-le : (o : Setting) → Fine o → (i d : ℕ) → i < 16 → d < 48 → getD (o .procs) i 0 * getD (o .grid) d 0 ≤ 32000000
 hand-le o f i d h k = omega (arith, mul-le-mul (f .procs i h) (f .grid d))

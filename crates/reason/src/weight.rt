@@ -4,11 +4,9 @@ use super::Setting;
 ghost use mathlib.Core.Path.{_≡_};
 ghost use mathlib.Core.List.{[]};
 ghost use Prim.Native.Nat.{ℕ, suc, _+_, _*_, _<_, _≤_};
-ghost use lib.Dec.{eqb};
 ghost use lib.ListN.{getD};
-ghost use Rattle.sums.specs.Lists.{only};
 ghost use Rattle.tables.specs.Tables.{RowOf};
-ghost use Rattle.reason.specs.Settings.{owedBy, minutesBy, minutesAt, weight, Fine};
+ghost use Rattle.reason.specs.Settings.{owedBy, minutesAt, weight, Fine};
 
 // What one job owes by the time of the lead g.
 fn owed(time: u32, lead: u32, g: u32) -> u32
@@ -24,60 +22,41 @@ fn owed(time: u32, lead: u32, g: u32) -> u32
     time - past
 }
 
-// What a job of class c adds to class k.
-fn share(c: u32, k: u32, time: u32, lead: u32, g: u32) -> u32
-    ensures { λ r. ⌜ r ≡ only (eqb c k) (owedBy time lead g) ⌝ }
+// What a class owes at every due time, with one job more.
+fn with_job(row: [u32; 48], time: u32, lead: u32, grid: [u32; 48]) -> [u32; 48]
+    requires { ⌜ (time ≤ 100000) × ((d : ℕ) → d < 48 → getD row d 0 ≤ 4700000) ⌝ }
+    ensures { λ r. ⌜ RowOf (λ d. getD row d 0 + owedBy time lead (getD grid d 0)) 48 r ⌝ }
 {
-    if c == k {
-        return owed(time, lead, g);
-    }
-    0
-}
-
-// Document 01's minutes owed by the jobs of class k, at the due time of the lead g.
-fn owed_at(times: &[u32; 48], classes: &[u32; 48], leads: &[u32; 48], n: usize, k: u32, g: u32) -> u32
-    requires { ⌜ n ≤ 48 ⌝ }
-    requires { ⌜ ((j : ℕ) → j < n → getD (now times) j 0 ≤ 100000) ⌝ }
-    ensures { λ r. ⌜ r ≡ minutesBy (now (times .entry)) (now (classes .entry)) (now (leads .entry)) n k g ⌝ }
-{
-    let mut minutes: u32 = 0;
-    let mut j: usize = 0;
-    while j < n {
-        minutes += share(classes[j], k, times[j], leads[j], g);
-        j += 1;
-    }
-    minutes
-}
-
-// One class at every due time.
-fn owed_row(t: Setting, k: u32) -> [u32; 48]
-    requires { ⌜ Fine t ⌝ }
-    ensures { λ r. ⌜ RowOf (minutesAt t k) 48 r ⌝ }
-{
-    let times = t.times;
-    let classes = t.classes;
-    let leads = t.leads;
-    let n = t.n;
     let mut r = [0u32; 48];
     let mut d: usize = 0;
     while d < 48 {
-        r[d] = owed_at(&times, &classes, &leads, n, k, t.grid[d]);
+        r[d] = row[d] + owed(time, lead, grid[d]);
         d += 1;
     }
     r
 }
 
-// The minutes owed: 16 classes by 48 due times, filled once.
+// Document 01's minutes owed by the jobs of each class: 16 classes by 48 due times, filled once, job by job.
 pub fn owed_table(t: Setting) -> [[u32; 48]; 16]
     requires { ⌜ Fine t ⌝ }
     ensures { λ r. ⌜ ((i : ℕ) → i < 16 → RowOf (minutesAt t (suc i)) 48 (getD r i [])) ⌝ }
 {
+    let n = t.n;
+    let grid = t.grid;
     let mut r = [[0u32; 48]; 16];
-    let mut k: u32 = 0;
-    while k < 16 {
-        let i = k as usize;
-        k += 1;
-        r[i] = owed_row(t, k);
+    let mut j: usize = 0;
+    while j < n {
+        let class = t.classes[j] as usize;
+        let time = t.times[j];
+        let lead = t.leads[j];
+        j += 1;
+        if 0 < class {
+            if class <= 16 {
+                let i = class - 1;
+                let row = r[i];
+                r[i] = with_job(row, time, lead, grid);
+            }
+        }
     }
     r
 }
