@@ -9,9 +9,9 @@ ghost use Rattle.allot.specs.Instances.{lengthIn, capIn, roomIn, Sized};
 ghost use Rattle.allot.specs.Tables.{capAt, countOf, Put, Rows, Times, Classes};
 
 // The length of stretch s.
-pub fn length_of(marks: [u32; 48], s: usize) -> u32
+pub fn length_of(marks: &[u32; 48], s: usize) -> u32
     requires { ⌜ s < 48 ⌝ }
-    ensures { λ r. ⌜ r ≡ lengthIn marks s ⌝ }
+    ensures { λ r. ⌜ r ≡ lengthIn (now (marks .entry)) s ⌝ }
 {
     let end = marks[s];
     if s == 0 {
@@ -25,9 +25,9 @@ pub fn length_of(marks: [u32; 48], s: usize) -> u32
 }
 
 // What a job may have of stretch s: its length, if it ends by the job's deadline, and else nothing.
-pub fn cap_of(marks: [u32; 48], deadline: u32, s: usize) -> u32
+pub fn cap_of(marks: &[u32; 48], deadline: u32, s: usize) -> u32
     requires { ⌜ s < 48 ⌝ }
-    ensures { λ r. ⌜ r ≡ capAt marks deadline s ⌝ }
+    ensures { λ r. ⌜ r ≡ capAt (now (marks .entry)) deadline s ⌝ }
 {
     if marks[s] <= deadline {
         return length_of(marks, s);
@@ -36,9 +36,15 @@ pub fn cap_of(marks: [u32; 48], deadline: u32, s: usize) -> u32
 }
 
 // The caps of a job, from a place on.
-pub fn put_caps_row(cap: &mut [u32], marks: [u32; 48], deadline: u32, at: usize, stretches: usize)
+pub fn put_caps_row(
+    cap: &mut [u32],
+    marks: &[u32; 48],
+    deadline: u32,
+    at: usize,
+    stretches: usize,
+)
     requires { ⌜ (stretches ≤ 48) × (at + stretches ≤ length (now cap)) ⌝ }
-    ensures { λ r. ⌜ Put (now (cap .entry)) (now (cap .exit)) at stretches (capAt marks deadline) ⌝ }
+    ensures { λ r. ⌜ Put (now (cap .entry)) (now (cap .exit)) at stretches (capAt (now (marks .entry)) deadline) ⌝ }
 {
     let mut s: usize = 0;
     while s < stretches {
@@ -55,7 +61,7 @@ pub fn put_caps(cap: &mut [u32], t: Instance)
     let marks = t.marks;
     let mut j: usize = 0;
     while j < t.jobs {
-        put_caps_row(cap, marks, t.deadlines[j], j * t.stretches, t.stretches);
+        put_caps_row(cap, &marks, t.deadlines[j], j * t.stretches, t.stretches);
         j += 1;
     }
 }
@@ -96,7 +102,7 @@ pub fn put_rooms(room: &mut [u32], t: Instance)
     let counts = t.counts;
     let mut s: usize = 0;
     while s < t.stretches {
-        let minutes = length_of(marks, s);
+        let minutes = length_of(&marks, s);
         put_rooms_row(room, counts, minutes, s * (t.classes + 1), t.classes);
         s += 1;
     }

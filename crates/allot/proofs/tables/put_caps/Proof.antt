@@ -28,13 +28,13 @@ element-copy-out-put-caps-row c = search needs
 
 mul-put-caps-row-2 : tie.Need-mul-put-caps-row-2 Inv-loop μ-loop
 mul-put-caps-row-2 c =
-    let t = c .before .before .before .before .before .before .args .t2 in
-    omega (arith, row-end (c .before .before .before .loop .j) (t .stretches) (t .jobs) (omega arith))
+    let t = c .before .before .before .before .before .before .before .args .t2 in
+    omega (arith, row-end (c .before .before .before .before .loop .j) (t .stretches) (t .jobs) (omega arith))
 
 put-caps-row-requires : tie.Need-put-caps-row-requires Inv-loop μ-loop
 put-caps-row-requires c κs =
-    let t = c .before .before .before .before .before .before .args .t2 in
-    (search needs, omega (arith, row-end (c .before .before .before .loop .j) (t .stretches) (t .jobs) (omega arith)))
+    let t = c .before .before .before .before .before .before .before .args .t2 in
+    (search needs, omega (arith, row-end (c .before .before .before .before .loop .j) (t .stretches) (t .jobs) (omega arith)))
 
 add-j : tie.Need-add-j Inv-loop μ-loop
 add-j c = search needs
@@ -44,7 +44,7 @@ loop-less c = search needs
 
 loop-again : tie.Need-loop-again Inv-loop μ-loop
 loop-again c =
-    let l = c .before .before .before .before .before .before .loop in
+    let l = c .before .before .before .before .before .before .before .loop in
     let p = c .before .before .put-caps-row in
     (search needs, search needs, rows-more _ _ _ _ _ _ _ refl (λ s. refl) (l .inv .2) (p .ensures))
 
