@@ -28,26 +28,21 @@ fn owed(time: u32, lead: u32, g: u32) -> u32 {
     time.saturating_sub(g - lead)
 }
 
-/// The minutes owed by the jobs of a class, and its processors times the lead, at each due time.
+/// The minutes owed by the jobs of each class, and its processors times the lead, at each due time.
 fn weigh(order: &Order, setting: &Setting) -> Table {
     let mut table = [[0; MOST_JOBS]; MOST_PROCESSORS];
     let grid = &setting.grid[..setting.due_count];
-    for (k, row) in table[..setting.class_count].iter_mut().enumerate() {
+    for (j, job) in order.jobs().iter().enumerate() {
+        for (weight, &g) in table[setting.classes[j] - 1].iter_mut().zip(grid) {
+            *weight += owed(job.time, setting.leads[j], g);
+        }
+    }
+    for (row, &processors) in table.iter_mut().zip(&setting.processors) {
         for (weight, &g) in row.iter_mut().zip(grid) {
-            *weight = minutes_owed(order, setting, k + 1, g) + setting.processors[k] * g;
+            *weight += processors * g;
         }
     }
     table
-}
-
-fn minutes_owed(order: &Order, setting: &Setting, class: usize, g: u32) -> u32 {
-    let mut minutes = 0;
-    for (j, job) in order.jobs().iter().enumerate() {
-        if setting.classes[j] == class {
-            minutes += owed(job.time, setting.leads[j], g);
-        }
-    }
-    minutes
 }
 
 /// For each due time the best that a class and the rest behind it weigh up to there.
