@@ -1,7 +1,7 @@
 // Plans an order from Rust: two processors, three jobs. Prints the least lateness, a plan that meets it, and why 0 is too tight.
 #[allow(dead_code)]
 mod highboyrobin;
-use highboyrobin::{least, reason, write, Job, Reason, Refused, Row, MOST_BYTES, MOST_ROWS};
+use highboyrobin::{judge, least, reason, write, Job, Reason, Refused, Row, MOST_BYTES};
 
 fn main() -> Result<(), Refused> {
     let memories = [8, 4];
@@ -26,7 +26,7 @@ fn main() -> Result<(), Refused> {
     let length = write(&memories, &jobs, &mut bytes)?;
     let file = &bytes[..length];
 
-    let mut rows = [Row::default(); MOST_ROWS];
+    let mut rows = vec![Row::default(); judge(file)?.rows];
     let answer = least(file, &mut rows)?;
     println!("least lateness {}", answer.lateness);
     for row in &rows[..answer.rows] {

@@ -3,7 +3,8 @@
  * Units. Times are whole minutes from a common start, minute 0. A memory and a need are numbers of one unit of yours, 0 to
  * 4294967295. Jobs and processors are numbered from 1, in the order in which you list them.
  *
- * An order is handed over as the bytes of an order file (docs/LINKING.md shows them; hbr_write makes them).
+ * An order is handed over as the bytes of an order file (docs/LINKING.md shows them; hbr_write makes them). Its length is exact, as
+ * hbr_write answers it.
  *
  * Rows of a plan are lent as numbers, four to a row: job, processor, from, to. A row takes the minutes from `from` up to but not
  * including `to`.
@@ -13,9 +14,9 @@
  * HBR_PART_JOB, 12, then 1 to 11 upwards.
  *
  * Memory. You own every buffer; nothing is kept after a call, and nothing is allocated. Two buffers of one call must not overlap
- * unless both are const. Lengths count elements, not bytes. Pointers must be valid, also where the length is 0. A REFUSED CALL
- * WRITES NOTHING, neither to rows or file nor to the answer. A call that succeeds leaves what lies beyond its rows, its file or
- * its answer as it was.
+ * unless both are const. Lengths count elements, not bytes. Pointers must be valid and aligned, not NULL, also where the length is
+ * 0. A REFUSED CALL WRITES NOTHING, neither to rows or file nor to the answer. A call that succeeds leaves what lies beyond its
+ * rows, its file or its answer as it was.
  *
  * Calls may run at once on several threads if what they write is apart. docs/LINKING.md says how much stack a call needs.
  */
@@ -44,7 +45,7 @@ extern "C" {
 #define HBR_DUE_OUT_OF_RANGE 6    /* a job's due time is not -1000000 to 1000000 */
 #define HBR_FITS_NO_PROCESSOR 7   /* a job needs more memory than any processor has */
 #define HBR_BOUND_OUT_OF_RANGE 8  /* the bound is not -10000000 to 10000000 */
-#define HBR_BUFFER_TOO_SHORT 9    /* rows or file: hbr_judge and hbr_write tell what is asked for */
+#define HBR_BUFFER_TOO_SHORT 9    /* rows: hbr_judge tells how many; file: 4 bytes a processor, 12 a job, and 12 */
 #define HBR_BOUND_TOO_TIGHT 10    /* no plan whatever meets the bound: hbr_reason tells why */
 #define HBR_TOO_MANY_ROWS 11      /* over 3024 rows to check */
 #define HBR_BAD_FILE 12           /* the file is under 12 or over 652 bytes, or its lists and its trailer disagree */
@@ -66,7 +67,8 @@ uint32_t hbr_judge(const uint8_t *file, size_t file_length, int32_t *answer, siz
 uint32_t hbr_least(const uint8_t *file, size_t file_length, uint32_t *rows, size_t rows_length, int32_t *answer,
                    size_t answer_length);
 
-/* A plan in which every job is done by its due time plus the bound, written from rows[0] on. Refusals: 12, 1 to 10.
+/* A plan in which every job is done by its due time plus the bound, written from rows[0] on. Refusals: 12, 1 to 10; 10 carries no
+ * job, also where hbr_reason then names one.
  * answer[0] the number of rows written. */
 #define HBR_PLAN_ANSWER 1
 uint32_t hbr_plan(const uint8_t *file, size_t file_length, int32_t bound, uint32_t *rows, size_t rows_length, int32_t *answer,

@@ -11,7 +11,7 @@ pub const MOST_ROWS: usize = 3024;
 
 /// The functions of the archive, as `highboyrobin.h` declares them. A slice is a pointer and a length in elements.
 pub mod raw {
-    extern "C" {
+    unsafe extern "C" {
         pub fn hbr_judge(
             file: *const u8,
             file_length: usize,

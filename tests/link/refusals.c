@@ -13,18 +13,21 @@ static uint32_t jobs[3 * (HBR_MOST_JOBS + 1)];
 static int wrong;
 
 static void fill(void) {
-  for (size_t i = 0; i < HBR_REASON_ANSWER; i++)
-    answer[i] = KEPT;
+  memset(answer, KEPT, sizeof answer);
   memset(rows, KEPT, sizeof rows);
+}
+
+/* every byte is as fill left it */
+static int as_filled(const void *buffer, size_t size) {
+  for (size_t i = 0; i < size; i++)
+    if (((const uint8_t *)buffer)[i] != KEPT)
+      return 0;
+  return 1;
 }
 
 /* the result is this refusal of this job, and answer and rows are as fill left them */
 static void refused(uint32_t result, uint32_t number, uint32_t job) {
-  int kept = 1;
-  for (size_t i = 0; i < HBR_REASON_ANSWER; i++)
-    kept = kept && answer[i] == KEPT;
-  for (size_t i = 0; i < sizeof rows; i++)
-    kept = kept && ((const uint8_t *)rows)[i] == KEPT;
+  int kept = as_filled(answer, sizeof answer) && as_filled(rows, sizeof rows);
   if (hbr_number(result) != number || hbr_job(result) != job || !kept) {
     printf("refusal %u of job %u: got %u of job %u, %s\n", number, job, hbr_number(result), hbr_job(result),
            kept ? "nothing written" : "something written");
@@ -54,8 +57,13 @@ static void of_orders(void) {
   refused(write(1, 4, 1, 0, 5, 1), HBR_TIME_OUT_OF_RANGE, 1);
   refused(write(1, 4, 1, 1, 1000001, 1), HBR_DUE_OUT_OF_RANGE, 1);
   refused(write(1, 8, 1, 1, 5, 9), HBR_FITS_NO_PROCESSOR, 1);
-  fill();
   refused(hbr_write(memories, 1, jobs, 4, file, sizeof file, answer, HBR_WRITE_ANSWER), HBR_PART_JOB, 0);
+  jobs[2] = 8;
+  refused(hbr_write(memories, 1, jobs, 3, file, 27, answer, HBR_WRITE_ANSWER), HBR_BUFFER_TOO_SHORT, 0);
+  if (!as_filled(file, sizeof file)) {
+    printf("a refused hbr_write wrote to the file\n");
+    wrong++;
+  }
 }
 
 /* the refusals of a call on an accepted order: memory 4, job (3, 10, 4) */
@@ -75,6 +83,7 @@ static void of_calls(void) {
 }
 
 int main(void) {
+  memset(file, KEPT, sizeof file);
   of_orders();
   of_calls();
   printf("refusals: %d wrong\n", wrong);

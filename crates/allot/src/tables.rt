@@ -36,13 +36,7 @@ pub fn cap_of(marks: &[u32; 48], deadline: u32, s: usize) -> u32
 }
 
 // The caps of a job, from a place on.
-pub fn put_caps_row(
-    cap: &mut [u32],
-    marks: &[u32; 48],
-    deadline: u32,
-    at: usize,
-    stretches: usize,
-)
+pub fn put_caps_row(cap: &mut [u32], marks: &[u32; 48], deadline: u32, at: usize, stretches: usize)
     requires { ⌜ (stretches ≤ 48) × (at + stretches ≤ length (now cap)) ⌝ }
     ensures { λ r. ⌜ Put (now (cap .entry)) (now (cap .exit)) at stretches (capAt (now (marks .entry)) deadline) ⌝ }
 {

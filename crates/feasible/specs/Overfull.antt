@@ -40,13 +40,6 @@ module _ (o : Order) (bound : ℤ) (in-time : AllInTime o bound) (a : Jobs) (m :
       ap (λ (n : ℕ). sum n (λ j. at (a .class j) (suc i) (a .time j - (a .deadline j - T i)))) (m .jobs)
       ∙ sum-cong (jobCount o) _ _ (λ j b. cc (m .of-class j b, m .times j b, m .deadlines j b)))
 
-  -- no job's time is beyond its deadline
-  pub in-time-same : (j : ℕ) → j < a .n → a .time j ≤ a .deadline j
-  unfolding deadlineOf
-  in-time-same j l =
-      let b : j < jobCount o = omega (arith, m .jobs) in
-      omega (arith, m .times j b, m .deadlines j b, cut-≤ _ _ (in-time (suc j) (omega arith, b)))
-
   -- an overfull staircase is an overfull profile
   pub overfull-profile : (dues : List ℤ) → Overfull o bound dues → Profile a (length (classes o))
   unfolding deadlineOf

@@ -1,3 +1,4 @@
 pub mod Results
 pub mod Calls
+pub mod CallLaws
 pub mod Inside

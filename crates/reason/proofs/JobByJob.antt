@@ -57,19 +57,20 @@ module _ (t : Setting) (j : ℕ) where
         RowOf (λ d. getD (getD r k []) d 0 + owedBy (getD (t .times) j 0) (getD (t .leads) j 0) (getD (t .grid) d 0)) 48 row →
         Owed t (j + 1) (set r k row)
     owed-more size k l e row new i h = elim (ℕ-discrete i k) [
-        yes p ↦ record {
-          at = λ d b.
-              ap (λ (x : ℕ). getD (getD (set r k row) x []) d 0) p
-              ∙ (ap (λ (xs : List ℕ). getD xs d 0) (getD-set-same r k row [] (omega arith))
-              ∙ (new .at d b
-              ∙ (ap (λ (x : ℕ). x + owedBy (getD (t .times) j 0) (getD (t .leads) j 0) (getD (t .grid) d 0)) (o k l .at d b)
-              ∙ (sym (own-class k d e) ∙ ap (λ (x : ℕ). sum (j + 1) (owes t (suc x) d)) (sym p)))));
-        }
+      | yes p ↦ record {
+        at = λ d b.
+            ap (λ (x : ℕ). getD (getD (set r k row) x []) d 0) p
+            ∙ (ap (λ (xs : List ℕ). getD xs d 0) (getD-set-same r k row [] (omega arith))
+            ∙ (new .at d b
+            ∙ (ap (λ (x : ℕ). x + owedBy (getD (t .times) j 0) (getD (t .leads) j 0) (getD (t .grid) d 0)) (o k l .at d b)
+            ∙ (sym (own-class k d e) ∙ ap (λ (x : ℕ). sum (j + 1) (owes t (suc x) d)) (sym p)))));
+      }
       | no n ↦ record {
-          at = λ d b.
-              ap (λ (xs : List ℕ). getD xs d 0) (getD-set-other r k i row [] n)
-              ∙ (o i h .at d b ∙ sym (other-class i d (λ q. n (omega (arith, q, e)))));
-        } ]
+        at = λ d b.
+            ap (λ (xs : List ℕ). getD xs d 0) (getD-set-other r k i row [] n)
+            ∙ (o i h .at d b ∙ sym (other-class i d (λ q. n (omega (arith, q, e)))));
+      }
+    ]
 
 -- after all jobs
 pub owed-all : (t : Setting) (j : ℕ) → j ≡ t .n → (r : List (List ℕ)) → Owed t j r → (i : ℕ) → i < 16 →

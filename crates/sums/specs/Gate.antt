@@ -82,9 +82,6 @@ pub put-all : (P : ℕ → Type 0) (κ : ℕ → ℕ) (s v : ℕ) → ((i : ℕ)
 unfolding put pick
 put-all P κ s v h b i = elim (ℕ-discrete i s) as (λ d. P (pick d v (κ i))) [ yes e ↦ b | no e ↦ h i ]
 
-pub put-≤ : (κ : ℕ → ℕ) (s v S : ℕ) → ((i : ℕ) → κ i ≤ S) → v ≤ S → (i : ℕ) → put κ s v i ≤ S
-put-≤ κ s v S = put-all (λ k. k ≤ S) κ s v
-
 -- a sum over a changed function: g k i is the term at i of a function that is k there
 pub sum-put : (q : ℕ) (g : ℕ → ℕ → ℕ) (κ : ℕ → ℕ) (s v : ℕ) → s < q →
     sum q (λ i. g (put κ s v i) i) + g (κ s) s ≡ sum q (λ i. g (κ i) i) + g v s

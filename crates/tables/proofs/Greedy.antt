@@ -46,9 +46,6 @@ pub record Greedy (w : ℕ → ℕ → ℕ) (room : ℕ) (target : FoundPlaces) 
 
 module _ {w : ℕ → ℕ → ℕ} {room : ℕ} {target : FoundPlaces} {s i top acc : ℕ} {out : List ℕ}
     (g : Greedy w room target s i top acc out) where
-  pub greedy-length : length out ≡ 16
-  greedy-length = ap length (g .out-is) ∙ length-pad 16 (g .pre)
-
   pub greedy-step : (e : ℕ) → i < s → i < 16 → e ≤ top
       → ((x m : ℕ) → i + suc m ≡ s → x < e → acc + w i x + comp w (suc i) m (suc x) ≤ room)
       → ((m : ℕ) → i + suc m ≡ s → e < top → room < acc + w i e + comp w (suc i) m (suc e))
