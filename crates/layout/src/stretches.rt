@@ -48,8 +48,10 @@ fn lay_stretch(
     while k < n {
         let job = jobs[k];
         let minutes = w[((job - 1) as usize) * q + s];
-        place = lay_share(rows, processors, m, start, end, place, job, minutes);
         k += 1;
+        if 0 < minutes {
+            place = lay_share(rows, processors, m, start, end, place, job, minutes);
+        }
     }
     place.rows
 }

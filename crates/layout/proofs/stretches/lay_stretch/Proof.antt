@@ -1,9 +1,10 @@
 -- The loop's invariant: the shares of the jobs from place k on go on from the place that the loop has come to.
-use Prim.Native.Nat.{_-_}
+use Prim.Native.Nat.{ℕ, _-_, _≤_}
 use mathlib.Core.Path.{_≡_}
 use native.Mathlib.Omega.{arith}
 use borrow.Author.Needs.{needs}
 use lib.ListN.{length}
+use Rattle.layout.proofs.Sharing.{share-none}
 use Rattle.layout.proofs.Stretching.{
   Stretching,
   amount-inside,
@@ -72,30 +73,43 @@ shared-slice-read-minutes c =
     let k = c .before .before .loop .k in
     omega (arith, amount-inside (s .pre .7) k _ _ (c .before .loop-test .taken) (s .pre .3), s .pre .4)
 
+add-k : tie.Need-add-k Inv-loop μ-loop
+add-k c = search needs
+
 lay-share-requires : tie.Need-lay-share-requires Inv-loop μ-loop
 lay-share-requires c κs =
-    let s = c .before .before .before .before .before .before .before .before in
-    let l = c .before .before .before .loop in
+    let s = c .before .before .before .before .before .before .before .before .before in
+    let l = c .before .before .before .before .loop in
     let z : length (s .args .t3) ≡ 48 = search needs in (
       s .pre .0,
       l .inv .inside,
       omega (arith, l .inv .few, l .inv .inside .a-processor),
-      share-room (l .inv) (omega arith) (s .pre .7) (c .before .before .loop-test .taken) (s .pre .8),
+      share-room (l .inv) (omega arith) (s .pre .7) (c .before .before .before .loop-test .taken) (s .pre .8),
     )
-
-add-k : tie.Need-add-k Inv-loop μ-loop
-add-k c = search needs
 
 loop-less : tie.Need-loop-less Inv-loop μ-loop
 loop-less c = search needs
 
 loop-again : tie.Need-loop-again Inv-loop μ-loop
 loop-again c =
-    let s = c .before .before .before .before .before .before .before .before .before .before .before in
-    let l = c .before .before .before .before .before .before .loop in
+    let s = c .before .before .before .before .before .before .before .before .before .before .before .before in
+    let l = c .before .before .before .before .before .before .before .loop in
     let z : length (s .args .t3) ≡ 48 = search needs in
-    let t = c .before .before .before .before .before .loop-test .taken in
-    stretching-more (l .inv) (omega arith) (s .pre .7) t (s .pre .8) (c .before .before .lay-share .ensures)
+    stretching-more (l .inv) (omega arith) (s .pre .7) (c .before .before .before .before .before .before .loop-test .taken) (s .pre .8) (c .before .before .lay-share .ensures)
+
+none : {m : ℕ} → m ≤ 0 → m ≡ 0
+none h = omega arith
+
+loop-less-2 : tie.Need-loop-less-2 Inv-loop μ-loop
+loop-less-2 c = search needs
+
+loop-again-2 : tie.Need-loop-again-2 Inv-loop μ-loop
+loop-again-2 c =
+    let s = c .before .before .before .before .before .before .before .before in
+    let l = c .before .before .before .loop in
+    let z : length (s .args .t3) ≡ 48 = search needs in
+    stretching-more (l .inv) (omega arith) (s .pre .7) (c .before .before .loop-test .taken) (s .pre .8)
+    (share-none _ _ _ _ (l .inv .inside) (none (c .if1 .left)))
 
 returns : tie.Need-returns Inv-loop μ-loop
 returns c =
@@ -123,9 +137,11 @@ lay-stretch-spec =
     add-minutes
     mul-minutes-2
     shared-slice-read-minutes
-    lay-share-requires
     add-k
+    lay-share-requires
     loop-less
     loop-again
+    loop-less-2
+    loop-again-2
     same-length
     returns)
