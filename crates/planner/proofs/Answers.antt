@@ -7,7 +7,7 @@ use mathlib.Core.List.{List, [], _∷_, _++_}
 use native.Mathlib.Omega.{arith}
 use borrow.Author.Tests.{lt-ltb, le-ltb, leb-true, not-true, not-false}
 use lib.Dec.{ltb, leb}
-use lib.IntN.{ℤ, pos, negsuc}
+use lib.IntN.{ℤ, pos, _+ℤ_, _-ℤ_}
 use lib.ListN.{length}
 use Rattle.order.specs.Order.{Order}
 use Rattle.order.specs.Refusals.{
@@ -25,7 +25,8 @@ use Rattle.order.specs.Refusals.{
   boundInRange,
   Accepted,
 }
-use Rattle.order.specs.RefusalLaws.{judge-refused-append, judge-accepted-append, both-true}
+use Rattle.order.specs.Deadline.{cut}
+use Rattle.order.specs.RefusalLaws.{judge-refused-append, judge-accepted-append, accepted-iff}
 use Rattle.order.specs.Table.{refusalTold, acceptanceTold}
 use Rattle.order.specs.TableLaws.{refused-told}
 use Rattle.order.specs.declared.Acceptance.{Acceptance}
@@ -49,6 +50,10 @@ use Rattle.profile.specs.Least.{leastLateness}
 use Rattle.profile.specs.Reason.{Reason, overEnd, stairs}
 use Rattle.profile.specs.Search.{Found, nothing, found, reasonOf}
 use Rattle.reason.specs.Told.{whyOf}
+use Rattle.reason.specs.Settings.{Matches, toldOf, reachOf}
+use Rattle.reason.specs.Matching.{reach-same}
+use Rattle.reason.specs.Telling.{told-is}
+use Rattle.reason.specs.declared.Setting.{Setting}
 use Rattle.reason.specs.declared.Why.{Why}
 use Rattle.planner.specs.Rows.{rowsAsked, bufferRow, isFound, leastRows, earlierRows, planRows}
 use Rattle.planner.specs.Told.{plannedTold, rowsOf, isReason, reasonCarried, leastTold, leastCount, LeastIn}
@@ -227,3 +232,15 @@ module _ (bound read : ℤ) (same : read ≡ bound) (b : Bool) (e : b ≡ boundI
 pub written-at : {o : Order} {bound read : ℤ} {entry exit : List ℕ} {count : ℕ} → read ≡ bound →
     Written o read entry exit count → Written o bound entry exit count
 written-at {o} {bound} {read} {entry} {exit} {count} e w = subst (λ (z : ℤ). Written o z entry exit count) e w
+
+-- what a setting of the order tells is told of the order
+module _ (o : Order) (a : Accepted o) (t : Setting) (m : Matches o t) where
+  pub reason-told : (bound read : ℤ) → read ≡ bound → (reach : ℕ) → reach ≡ cut (pos 1000000 +ℤ read) → (w : Why) →
+      w ≡ toldOf t reach → w ≡ whyOf o (reasonOf o bound)
+  reason-told bound read same reach e w h =
+      h
+      ∙ (ap (toldOf t) (e ∙ ap (λ (z : ℤ). cut (pos 1000000 +ℤ z)) same) ∙ told-is o t m (accepted-iff o .0 a) bound)
+
+  pub least-told : (z : ℤ) → z ≡ pos (reachOf t) -ℤ pos 1000000 → z ≡ leastLateness o
+  unfolding leastLateness
+  least-told z e = e ∙ ap (λ (n : ℕ). pos n -ℤ pos 1000000) (sym (reach-same o t m))

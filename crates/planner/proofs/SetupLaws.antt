@@ -34,6 +34,7 @@ use Rattle.wrap.specs.Marks.{mark-is}
 use Rattle.allot.specs.Instances.{StandsFor}
 use Rattle.layout.specs.Lent.{Rising}
 use Rattle.planner.specs.Rows.{rowsAsked}
+use Rattle.planner.specs.RowLaws.{asked-few}
 
 -- a difference, cut off at 0
 cut-less : (R : ℤ) (l : ℕ) → cut (R -ℤ pos l) ≡ cut R - l
@@ -134,25 +135,13 @@ module _ (o : Order) (bound : ℤ) (a : Acceptable o) (t : Setting) (m : Matches
       }
 
 -- the rows that a plan may have, from the code's counts
-module _ (t : OrderTable) (a : Accepted (orderOf t)) (m : Members) (g : GridOf (orderOf t) m) where
+module _ (t : OrderTable) (a : Accepted (orderOf t)) (q : ℕ) (e : q ≡ stretchCount (orderOf t)) where
   pub some-job : 1 ≤ t .jobs
   some-job = omega (arith, accepted-iff (orderOf t) .0 a .some-job, length-tabulate (t .jobs) (jobAt t))
 
-  pub rows-few : m .count * (t .jobs + t .processors - 1) ≤ 3024
-  rows-few =
-      mul-le-mul {n₂ = 48} {m₂ = 63} (g .few)
-      (omega (
-        arith,
-        accepted-iff (orderOf t) .0 a .few-jobs,
-        accepted-iff (orderOf t) .0 a .few-processors,
-        length-tabulate (t .jobs) (jobAt t),
-        length-tabulate (t .processors) (λ i. getD (t .memories) i 0),
-      ))
+  pub rows-are : q * (t .jobs + t .processors - 1) ≡ rowsAsked (orderOf t)
+  rows-are =
+      rw (e, length-tabulate (t .jobs) (jobAt t), length-tabulate (t .processors) (λ i. getD (t .memories) i 0)) refl
 
-  pub rows-asked : m .count * (t .jobs + t .processors - 1) ≡ rowsAsked (orderOf t)
-  rows-asked =
-      rw (
-        stretches-counted (orderOf t) m g,
-        length-tabulate (t .jobs) (jobAt t),
-        length-tabulate (t .processors) (λ i. getD (t .memories) i 0),
-      ) refl
+  pub rows-few : q * (t .jobs + t .processors - 1) ≤ 3024
+  rows-few = omega (arith, rows-are, asked-few (orderOf t) a)

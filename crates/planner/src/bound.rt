@@ -2,12 +2,14 @@
 use super::PlanAnswer;
 use super::Planned;
 use super::making::make_plan;
-use super::room::rows_asked;
+use super::room::rows_at;
 use order::Acceptance;
 use order::Order;
 use order::Refusal;
+use order::deadline::deadline;
 use reason::Reason;
 use reason::Why;
+use reason::given::setting_of;
 ghost use mathlib.Core.Path.{_≡_};
 ghost use lib.ListN.{length};
 ghost use Rattle.order.specs.Refusals.{judge, answerBy};
@@ -57,10 +59,11 @@ pub fn plan_at(order: Order, bound: i32, rows: &mut [u32]) -> PlanAnswer
     if !order::deadline::bound_in_range(bound) {
         return refuse(Refusal::BoundOutOfRange, order);
     }
-    if rows.len() / 4 < rows_asked(order) {
+    let t = setting_of(order);
+    if rows.len() / 4 < rows_at(order, t.q) {
         return refuse(Refusal::BufferTooShort, order);
     }
-    let why = reason::tell::reason_at(order, bound);
+    let why = reason::tell::tell(t, deadline(1000000, bound));
     let found = why.reason;
     if is_reason(found) {
         return PlanAnswer {
@@ -68,7 +71,7 @@ pub fn plan_at(order: Order, bound: i32, rows: &mut [u32]) -> PlanAnswer
             why,
         };
     }
-    let count = make_plan(order, bound, rows);
+    let count = make_plan(order, t, bound, rows);
     PlanAnswer {
         planned: Planned::Rows(count as u32),
         why,

@@ -1,10 +1,11 @@
 // The least lateness: refusals 1 to 7 and 9; else the least lateness and a right plan at it.
 use super::Least;
 use super::making::make_plan;
-use super::room::rows_asked;
+use super::room::rows_at;
 use order::Acceptance;
 use order::Order;
 use order::Refusal;
+use reason::given::setting_of;
 ghost use mathlib.Core.Path.{_≡_};
 ghost use lib.ListN.{length};
 ghost use Rattle.order.specs.Refusals.{judge, answerBy};
@@ -24,10 +25,11 @@ pub fn least_lateness(order: Order, rows: &mut [u32]) -> Least
     if let Acceptance::Refused(refusal) = order::accept::accept(order) {
         return Least::Refused(refusal);
     }
-    if rows.len() / 4 < rows_asked(order) {
+    let t = setting_of(order);
+    if rows.len() / 4 < rows_at(order, t.q) {
         return Least::Refused(Refusal::BufferTooShort);
     }
-    let lateness = reason::tell::least_of(order);
-    let count = make_plan(order, lateness, rows);
+    let lateness = reason::tell::least_in(t);
+    let count = make_plan(order, t, lateness, rows);
     Least::At(lateness, count as u32)
 }

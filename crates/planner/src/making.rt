@@ -7,6 +7,7 @@ use layout::orderings::job_order;
 use layout::orderings::processor_order;
 use layout::stretches::lay_plan;
 use order::Order;
+use reason::Setting;
 ghost use mathlib.Core.Path.{_≡_};
 ghost use mathlib.Core.Bool.{true};
 ghost use Prim.Native.Nat.{_*_, _≤_};
@@ -14,22 +15,23 @@ ghost use lib.ListN.{length};
 ghost use Rattle.order.specs.Refusals.{Accepted, boundInRange};
 ghost use Rattle.order.specs.Table.{orderOf};
 ghost use Rattle.profile.specs.ReasonLaws.{NoReason};
+ghost use Rattle.reason.specs.Settings.{Matches};
 ghost use Rattle.planner.specs.Rows.{rowsAsked};
 ghost use Rattle.planner.specs.Written.{Written};
 
-pub fn make_plan(order: Order, bound: i32, rows: &mut [u32]) -> usize
+pub fn make_plan(order: Order, t: Setting, bound: i32, rows: &mut [u32]) -> usize
     requires { ⌜ Accepted (orderOf order) × (boundInRange bound ≡ true) × NoReason (orderOf order) bound
-        × (4 * rowsAsked (orderOf order) ≤ length (now rows)) ⌝ }
+        × (4 * rowsAsked (orderOf order) ≤ length (now rows)) × Matches (orderOf order) t ⌝ }
     ensures { λ r. ⌜ Written (orderOf order) bound (now (rows .entry)) (now (rows .exit)) r × (r ≤ 3024) ⌝ }
 {
-    let t = instance_of(order, bound);
-    let q = t.stretches;
+    let instance = instance_of(t, bound);
+    let q = instance.stretches;
     let mut w = [0u32; 2352];
-    fill_amounts(t, &mut w);
+    fill_amounts(instance, &mut w);
     lay_plan(
         order,
         bound,
-        rising_dues(order),
+        rising_dues(t),
         q,
         processor_order(order),
         job_order(order),

@@ -1,19 +1,17 @@
 // An order at a bound, made ready for the engine and the layout. Each function serves this crate alone and has a `requires`.
 use allot::Instance;
-use order::Order;
 use order::deadline::deadline;
-use reason::given::setting_of;
+use reason::Setting;
 use reason::lead::due_of;
-use reason::lead::grid_of;
 ghost use mathlib.Core.Path.{_≡_};
 ghost use mathlib.Core.Bool.{true};
-ghost use Prim.Native.Nat.{ℕ, _+_, _-_, _*_, _<_, _≤_};
+ghost use Prim.Native.Nat.{ℕ, _-_, _<_, _≤_};
 ghost use lib.IntN.{pos};
-ghost use lib.ListN.{length, getD};
+ghost use lib.ListN.{getD};
 ghost use Rattle.order.specs.Refusals.{Accepted, boundInRange};
-ghost use Rattle.order.specs.Table.{orderOf};
+ghost use Rattle.order.specs.Order.{Order};
 ghost use Rattle.tables.specs.Tables.{RowOf};
-ghost use Rattle.reason.specs.Settings.{dueAt};
+ghost use Rattle.reason.specs.Settings.{dueAt, Fine, Matches};
 ghost use Rattle.allot.specs.Instances.{StandsFor};
 ghost use Rattle.layout.specs.Lent.{Rising};
 
@@ -54,12 +52,11 @@ fn dues_at(leads: [u32; 48]) -> [i32; 48]
     r
 }
 
-// The instance of an order at a bound.
-pub fn instance_of(order: Order, bound: i32) -> Instance
-    requires { ⌜ Accepted (orderOf order) × (boundInRange bound ≡ true) ⌝ }
-    ensures { λ r. ⌜ StandsFor (orderOf order) bound r ⌝ }
+// The instance at a bound of an order that this setting is of.
+pub fn instance_of(t: Setting, bound: i32) -> Instance
+    requires { ⌜ boundInRange bound ≡ true ⌝ }
+    ensures { λ r. ⌜ ((o : Order) → Accepted o → Matches o t → StandsFor o bound r) ⌝ }
 {
-    let t = setting_of(order);
     let reach = deadline(1000000, bound);
     let times = t.times;
     let job_classes = t.classes;
@@ -78,12 +75,11 @@ pub fn instance_of(order: Order, bound: i32) -> Instance
     }
 }
 
-// The distinct due times of an order, upwards.
-pub fn rising_dues(order: Order) -> [i32; 48]
-    requires { ⌜ Accepted (orderOf order) ⌝ }
-    ensures { λ r. ⌜ Rising (orderOf order) r ⌝ }
+// The distinct due times of an order that this setting is of, upwards.
+pub fn rising_dues(t: Setting) -> [i32; 48]
+    requires { ⌜ Fine t ⌝ }
+    ensures { λ r. ⌜ ((o : Order) → Matches o t → Rising o r) ⌝ }
 {
-    let grid = grid_of(order);
-    let leads = grid.at;
+    let leads = t.grid;
     dues_at(leads)
 }

@@ -1,4 +1,4 @@
-// The reason at a bound, and the least lateness. All serve the crates above and have a `requires`.
+// The reason at a bound, and the least lateness, of a setting. All serve the crates above and have a `requires`.
 use super::Reason;
 use super::Setting;
 use super::Why;
@@ -12,14 +12,13 @@ use tables::Outcome;
 ghost use mathlib.Core.Path.{_≡_};
 ghost use mathlib.Core.Bool.{true};
 ghost use Prim.Native.Nat.{ℕ, _<_, _≤_};
-ghost use lib.IntN.{pos};
+ghost use lib.IntN.{pos, _-ℤ_};
 ghost use lib.ListN.{length, getD};
 ghost use Rattle.sums.specs.Lists.{tabulate};
 ghost use Rattle.order.specs.Refusals.{Accepted, boundInRange, first};
 ghost use Rattle.order.specs.Table.{orderOf, findingOf};
 ghost use Rattle.profile.specs.Search.{reasonOf};
-ghost use Rattle.profile.specs.Least.{leastLateness};
-ghost use Rattle.reason.specs.Settings.{Fine, late, dueOr, toldOf};
+ghost use Rattle.reason.specs.Settings.{Fine, late, dueOr, toldOf, reachOf};
 ghost use Rattle.reason.specs.Told.{whyOf};
 
 // The first job whose time exceeds its end, or 0.
@@ -95,11 +94,10 @@ pub fn reason_at(order: Order, bound: i32) -> Why
     tell(o, deadline(1000000, bound))
 }
 
-// The least lateness.
-pub fn least_of(order: Order) -> i32
-    requires { ⌜ Accepted (orderOf order) ⌝ }
-    ensures { λ r. ⌜ r ≡ leastLateness (orderOf order) ⌝ }
+// The least lateness of a setting.
+pub fn least_in(o: Setting) -> i32
+    requires { ⌜ Fine o ⌝ }
+    ensures { λ r. ⌜ r ≡ pos (reachOf o) -ℤ pos 1000000 ⌝ }
 {
-    let o = setting_of(order);
     (least_reach(o) as i32) - 1000000
 }

@@ -1,5 +1,10 @@
-use mathlib.Core.Path.{_≡_, ap, _∙_}
-use lib.IntN.{ℤ}
+use Rattle.order.specs.RefusalLaws.{accepted-iff}
+use Rattle.reason.specs.LeadLaws.{reach-most}
+use Rattle.reason.specs.Matching.{fine-of}
+use Rattle.planner.proofs.SetupLaws.{stretches-counted}
+use mathlib.Core.Path.{_≡_, refl, ap, _∙_}
+use lib.IntN.{ℤ, pos, _+ℤ_}
+use Rattle.order.specs.Deadline.{cut}
 use lib.ListN.{length}
 use mir.ValLaws.{toZ-ofZ}
 use mir.Syntax.{w32}
@@ -23,6 +28,7 @@ use Rattle.planner.proofs.Answers.{
   read-in,
   within-range,
   written-at,
+  reason-told,
 }
 use borrow.Author.Needs.{needs}
 use native.Mathlib.Omega.{arith}
@@ -32,11 +38,13 @@ use Rattle.planner.proofs.bound.plan_at.Reads as reads
 use Rattle.planner.proofs.bound.plan_at.Lts as lts
 use Rattle.order.proofs.accept.accept.Reads as accept-reads
 use Rattle.order.proofs.deadline.bound_in_range.Reads as bound-in-range-reads
+use Rattle.order.proofs.deadline.deadline.Reads as deadline-reads
 use Rattle.planner.proofs.bound.is_reason.Reads as is-reason-reads
 use Rattle.planner.proofs.bound.refuse.Reads as refuse-reads
 use Rattle.planner.proofs.making.make_plan.Reads as make-plan-reads
-use Rattle.planner.proofs.room.rows_asked.Reads as rows-asked-reads
-use Rattle.reason.proofs.tell.reason_at.Reads as reason-at-reads
+use Rattle.planner.proofs.room.rows_at.Reads as rows-at-reads
+use Rattle.reason.proofs.given.setting_of.Reads as setting-of-reads
+use Rattle.reason.proofs.tell.tell.Reads as tell-reads
 
 accept-requires : tie.Need-accept-requires
 accept-requires c κs = search needs
@@ -54,7 +62,8 @@ returns c =
     let e = toZ-ofZ w32 (s .args .bound) (s .fits .bound) in
     let n = length (s .args .rows .now) in
     refused-ensured o (s .args .bound) n (s .args .rows .now) (c .before .before .refusal .given .0 .0)
-    (refused-first o (s .args .bound) n (c .before .before .refusal .given .0 .0) (order-refused o _ _ (c .before .before .before .before .accept .ensures) (c .before .before .refusal .given .1)))
+    (refused-first o (s .args .bound) n (c .before .before .refusal .given .0 .0)
+    (order-refused o _ _ (c .before .before .before .before .accept .ensures) (c .before .before .refusal .given .1)))
     _ (c .refuse .ensures .0) _ (c .refuse .ensures .1)
 
 enum-told : tie.Need-enum-told
@@ -72,78 +81,105 @@ returns-2 c =
     let o = orderOf (s .args .order) in
     let e = toZ-ofZ w32 (s .args .bound) (s .fits .bound) in
     let n = length (s .args .rows .now) in
+    let ok = order-accepted o _ (c .before .before .before .before .before .accept .ensures) (c .before .before .before .enum-told .given .1) in
     refused-ensured o (s .args .bound) n (s .args .rows .now) BoundOutOfRange
-    (refused-8 o (s .args .bound) n (order-accepted o _ (c .before .before .before .before .before .accept .ensures) (c .before .before .before .enum-told .given .1)) (out-of-range _ _ e _ (c .before .before .bound-in-range .ensures) (c .before .if1 .taken)))
+    (refused-8 o (s .args .bound) n ok (out-of-range _ _ e _ (c .before .before .bound-in-range .ensures) (c .before .if1 .taken)))
     _ (c .refuse2 .ensures .0) _ (c .refuse2 .ensures .1)
 
-rows-asked-requires : tie.Need-rows-asked-requires
-rows-asked-requires c κs =
-    let s = c .before .before .before .before .before .before in
-    let o = orderOf (s .args .order) in
-    let e = toZ-ofZ w32 (s .args .bound) (s .fits .bound) in
-    let n = length (s .args .rows .now) in
-    (order-accepted o _ (c .before .before .before .before .accept .ensures) (c .before .before .enum-told .given .1))
+setting-of-requires : tie.Need-setting-of-requires
+setting-of-requires c κs =
+    let o = orderOf (c .before .before .before .before .before .before .args .order) in
+    order-accepted o _ (c .before .before .before .before .accept .ensures) (c .before .before .enum-told .given .1)
+
+rows-at-requires : tie.Need-rows-at-requires
+rows-at-requires c κs =
+    let o = orderOf (c .before .before .before .before .before .before .before .args .order) in
+    (order-accepted o _ (c .before .before .before .before .before .accept .ensures) (c .before .before .before .enum-told .given .1), stretches-counted o _ (c .setting-of .ensures .grid))
 
 refuse-requires-3 : tie.Need-refuse-requires-3
 refuse-requires-3 c κs = search needs
 
 returns-3 : tie.Need-returns-3
 returns-3 c =
+    let s = c .before .before .before .before .before .before .before .before .before .before in
+    let o = orderOf (s .args .order) in
+    let e = toZ-ofZ w32 (s .args .bound) (s .fits .bound) in
+    let n = length (s .args .rows .now) in
+    let ok = order-accepted o _ (c .before .before .before .before .before .before .before .before .accept .ensures) (c .before .before .before .before .before .before .enum-told .given .1) in
+    refused-ensured o (s .args .bound) n (s .args .rows .now) BufferTooShort
+    (refused-9 o (s .args .bound) n ok (within-range _ _ e _ (c .before .before .before .before .before .bound-in-range .ensures) (c .before .before .before .before .if1 .left))
+    (omega (arith, c .before .if2 .taken, c .before .before .rows-at .ensures .0)))
+    _ (c .refuse3 .ensures .0) _ (c .refuse3 .ensures .1)
+
+deadline-requires : tie.Need-deadline-requires
+deadline-requires c κs =
     let s = c .before .before .before .before .before .before .before .before .before in
     let o = orderOf (s .args .order) in
     let e = toZ-ofZ w32 (s .args .bound) (s .fits .bound) in
     let n = length (s .args .rows .now) in
-    refused-ensured o (s .args .bound) n (s .args .rows .now) BufferTooShort
-    (refused-9 o (s .args .bound) n (order-accepted o _ (c .before .before .before .before .before .before .before .accept .ensures) (c .before .before .before .before .before .enum-told .given .1)) (within-range _ _ e _ (c .before .before .before .before .bound-in-range .ensures) (c .before .before .before .if1 .left)) (omega (arith, c .before .if2 .taken, c .before .before .rows-asked .ensures .0)))
-    _ (c .refuse3 .ensures .0) _ (c .refuse3 .ensures .1)
+    (refl, read-in _ _ e _ (c .before .before .before .before .bound-in-range .ensures) (c .before .before .before .if1 .left))
 
-reason-at-requires : tie.Need-reason-at-requires
-reason-at-requires c κs =
-    let s = c .before .before .before .before .before .before .before .before in
+tell-requires : tie.Need-tell-requires
+tell-requires c κs =
+    let s = c .before .before .before .before .before .before .before .before .before .before in
     let o = orderOf (s .args .order) in
     let e = toZ-ofZ w32 (s .args .bound) (s .fits .bound) in
     let n = length (s .args .rows .now) in
-    ((order-accepted o _ (c .before .before .before .before .before .before .accept .ensures) (c .before .before .before .before .enum-told .given .1)), (read-in _ _ e _ (c .before .before .before .bound-in-range .ensures) (c .before .before .if1 .left)))
+    let ok = order-accepted o _ (c .before .before .before .before .before .before .before .before .accept .ensures) (c .before .before .before .before .before .before .enum-told .given .1) in (
+      fine-of o _ (c .before .before .before .setting-of .ensures) (accepted-iff o .0 ok),
+      omega (
+        arith,
+        c .deadline .ensures ∙ ap (λ (z : ℤ). cut (pos 1000000 +ℤ z)) e,
+        reach-most (s .args .bound) (within-range _ _ e _ (c .before .before .before .before .before .bound-in-range .ensures) (c .before .before .before .before .if1 .left)),
+      ),
+    )
 
 is-reason-requires : tie.Need-is-reason-requires
 is-reason-requires c κs = search needs
 
 returns-4 : tie.Need-returns-4
 returns-4 c =
-    let s = c .before .before .before .before .before .before .before .before .before .before .before in
+    let s = c .before .before .before .before .before .before .before .before .before .before .before .before .before in
     let o = orderOf (s .args .order) in
     let e = toZ-ofZ w32 (s .args .bound) (s .fits .bound) in
     let n = length (s .args .rows .now) in
-    let f = (c .before .before .reason-at .ensures ∙ ap (λ (z : ℤ). whyOf o (reasonOf o z)) e) in
-    tight-ensured o (s .args .bound) n (order-accepted o _ (c .before .before .before .before .before .before .before .before .before .accept .ensures) (c .before .before .before .before .before .before .before .enum-told .given .1)) (within-range _ _ e _ (c .before .before .before .before .before .before .bound-in-range .ensures) (c .before .before .before .before .before .if1 .left)) (omega (arith, c .before .before .before .if2 .left, c .before .before .before .before .rows-asked .ensures .0)) (s .args .rows .now) _ f
+    let ok = order-accepted o _ (c .before .before .before .before .before .before .before .before .before .before .before .accept .ensures) (c .before .before .before .before .before .before .before .before .before .enum-told .given .1) in
+    let f = reason-told o ok _ (c .before .before .before .before .before .before .setting-of .ensures) (s .args .bound) _ e _ (c .before .before .before .deadline .ensures) _ (c .before .before .tell .ensures) in
+    tight-ensured o (s .args .bound) n ok (within-range _ _ e _ (c .before .before .before .before .before .before .before .before .bound-in-range .ensures) (c .before .before .before .before .before .before .before .if1 .left))
+    (omega (arith, c .before .before .before .before .if2 .left, c .before .before .before .before .before .rows-at .ensures .0)) (s .args .rows .now) _ f
     (reason-there o (reasonOf o (s .args .bound)) _ _ f (c .before .is-reason .ensures) (c .if3 .taken))
 
 make-plan-requires : tie.Need-make-plan-requires
 make-plan-requires c κs =
-    let s = c .before .before .before .before .before .before .before .before .before .before .before .before in
+    let s = c .before .before .before .before .before .before .before .before .before .before .before .before .before .before in
     let o = orderOf (s .args .order) in
     let e = toZ-ofZ w32 (s .args .bound) (s .fits .bound) in
-    let n = length (s .args .rows .now) in (
-      (order-accepted o _ (c .before .before .before .before .before .before .before .before .before .before .accept .ensures) (c .before .before .before .before .before .before .before .before .enum-told .given .1)),
-      (read-in _ _ e _ (c .before .before .before .before .before .before .before .bound-in-range .ensures) (c .before .before .before .before .before .before .if1 .left)),
-      reason-none o _ .0 (reason-not-there o _ _ _ (c .before .before .before .reason-at .ensures) (c .before .before .is-reason .ensures) (c .before .if3 .left)),
-      omega (arith, c .before .before .before .before .if2 .left, c .before .before .before .before .before .rows-asked .ensures .0),
+    let n = length (s .args .rows .now) in
+    let ok = order-accepted o _ (c .before .before .before .before .before .before .before .before .before .before .before .before .accept .ensures) (c .before .before .before .before .before .before .before .before .before .before .enum-told .given .1) in
+    let f = reason-told o ok _ (c .before .before .before .before .before .before .before .setting-of .ensures) _ _ refl _ (c .before .before .before .before .deadline .ensures) _ (c .before .before .before .tell .ensures) in (
+      ok,
+      read-in _ _ e _ (c .before .before .before .before .before .before .before .before .before .bound-in-range .ensures) (c .before .before .before .before .before .before .before .before .if1 .left),
+      reason-none o _ .0 (reason-not-there o _ _ _ f (c .before .before .is-reason .ensures) (c .before .if3 .left)),
+      omega (arith, c .before .before .before .before .before .if2 .left, c .before .before .before .before .before .before .rows-at .ensures .0),
+      c .before .before .before .before .before .before .before .setting-of .ensures,
     )
 
-cast-t20 : tie.Need-cast-t20
-cast-t20 c = search needs
+cast-t17 : tie.Need-cast-t17
+cast-t17 c = search needs
 
 same-length : tie.Need-same-length
 same-length c = search needs
 
 returns-5 : tie.Need-returns-5
 returns-5 c =
-    let s = c .before .before .before .before .before .before .before .before .before .before .before .before .before .before .before in
+    let s = c .before .before .before .before .before .before .before .before .before .before .before .before .before .before .before .before .before in
     let o = orderOf (s .args .order) in
     let e = toZ-ofZ w32 (s .args .bound) (s .fits .bound) in
     let n = length (s .args .rows .now) in
-    let f = (c .before .before .before .before .before .before .reason-at .ensures ∙ ap (λ (z : ℤ). whyOf o (reasonOf o z)) e) in
-    rows-ensured o (s .args .bound) n (order-accepted o _ (c .before .before .before .before .before .before .before .before .before .before .before .before .before .accept .ensures) (c .before .before .before .before .before .before .before .before .before .before .before .enum-told .given .1)) (within-range _ _ e _ (c .before .before .before .before .before .before .before .before .before .before .bound-in-range .ensures) (c .before .before .before .before .before .before .before .before .before .if1 .left)) (omega (arith, c .before .before .before .before .before .before .before .if2 .left, c .before .before .before .before .before .before .before .before .rows-asked .ensures .0)) (s .args .rows .now) _ _ _ f
+    let ok = order-accepted o _ (c .before .before .before .before .before .before .before .before .before .before .before .before .before .before .before .accept .ensures) (c .before .before .before .before .before .before .before .before .before .before .before .before .before .enum-told .given .1) in
+    let f = reason-told o ok _ (c .before .before .before .before .before .before .before .before .before .before .setting-of .ensures) (s .args .bound) _ e _ (c .before .before .before .before .before .before .before .deadline .ensures) _ (c .before .before .before .before .before .before .tell .ensures) in
+    rows-ensured o (s .args .bound) n ok (within-range _ _ e _ (c .before .before .before .before .before .before .before .before .before .before .before .before .bound-in-range .ensures) (c .before .before .before .before .before .before .before .before .before .before .before .if1 .left))
+    (omega (arith, c .before .before .before .before .before .before .before .before .if2 .left, c .before .before .before .before .before .before .before .before .before .rows-at .ensures .0)) (s .args .rows .now) _ _ _ f
     (reason-not-there o (reasonOf o (s .args .bound)) _ _ f (c .before .before .before .before .before .is-reason .ensures) (c .before .before .before .before .if3 .left))
     (written-at e (c .before .before .make-plan .ensures .0))
 
@@ -159,13 +195,15 @@ plan-at-spec =
     bound-in-range-requires
     refuse-requires-2
     returns-2
-    rows-asked-requires
+    setting-of-requires
+    rows-at-requires
     refuse-requires-3
     returns-3
-    reason-at-requires
+    deadline-requires
+    tell-requires
     is-reason-requires
     returns-4
     make-plan-requires
-    cast-t20
+    cast-t17
     same-length
     returns-5)

@@ -1,4 +1,3 @@
-use borrow.Author.Needs.{needs}
 use mathlib.Core.Path.{ap, _∙_}
 use lib.IntN.{ℤ, pos, _+ℤ_}
 use mir.Syntax.{w32}
@@ -7,16 +6,16 @@ use Rattle.order.specs.Deadline.{cut}
 use Rattle.order.specs.RefusalLaws.{accepted-iff}
 use Rattle.order.specs.Table.{orderOf}
 use Rattle.planner.proofs.SetupLaws.{stands-for}
+use Rattle.order.proofs.deadline.deadline.Reads as deadline-reads
+use Rattle.planner.proofs.setup.minutes_at.Reads as minutes-at-reads
+use borrow.Author.Needs.{needs}
+use native.Mathlib.Omega.{arith}
 use Rattle.planner.proofs.setup.instance_of.Statement.{statement}
 use Rattle.planner.proofs.setup.instance_of.Tie as tie
 use Rattle.planner.proofs.setup.instance_of.Reads as reads
 use Rattle.planner.proofs.setup.instance_of.Lts as lts
 use Rattle.order.proofs.deadline.deadline.Reads as deadline-reads
 use Rattle.planner.proofs.setup.minutes_at.Reads as minutes-at-reads
-use Rattle.reason.proofs.given.setting_of.Reads as setting-of-reads
-
-setting-of-requires : tie.Need-setting-of-requires
-setting-of-requires c κs = search needs
 
 deadline-requires : tie.Need-deadline-requires
 deadline-requires c κs = search needs
@@ -29,20 +28,13 @@ minutes-at-requires-2 c κs = search needs
 
 returns : tie.Need-returns
 returns c =
-    let a = c .before .before .before .before .before .before .before .before in
-    let s = a .before in
-    let o = orderOf (s .args .order) in
+    let s = c .before .before .before .before .before .before .before .before in
     let d = c .before .before .before .before .before .before .before .deadline in
-    stands-for o (s .args .bound) (accepted-iff o .0 (s .pre .0)) (a .setting-of .result) (a .setting-of .ensures)
+    λ o a m.
+    stands-for o (s .args .bound) (accepted-iff o .0 a) (s .args .t) m
     (d .result) (d .ensures ∙ ap (λ (z : ℤ). cut (pos 1000000 +ℤ z)) (toZ-ofZ w32 (s .args .bound) (s .fits .bound)))
     (c .before .minutes-at .result) (c .minutes-at2 .result) (c .before .minutes-at .ensures) (c .minutes-at2 .ensures)
 
 pub instance-of-spec : {M : Type 1} → statement M
 instance-of-spec =
-    tie.close
-    (tie.spec
-    setting-of-requires
-    deadline-requires
-    minutes-at-requires
-    minutes-at-requires-2
-    returns)
+    tie.close (tie.spec deadline-requires minutes-at-requires minutes-at-requires-2 returns)
