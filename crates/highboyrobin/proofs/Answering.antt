@@ -6,7 +6,7 @@ use native.Mathlib.Omega.{arith}
 use lib.IntN.{ℤ}
 use lib.ListN.{length, drop}
 use Rattle.order.specs.Order.{Order}
-use Rattle.order.specs.Refusals.{Verdict, accepted, refused, Answer, answer, refusal, answerBy}
+use Rattle.order.specs.Refusals.{Verdict, accepted, refused, answer, refusal, answerBy}
 use Rattle.order.specs.Table.{refusalTold}
 use Rattle.order.specs.TableLaws.{refused-told}
 use Rattle.order.specs.declared.Refusal.{Refusal}

@@ -1,12 +1,9 @@
 -- How a call that takes a file comes to its verdict: the answer's room first, then the reader, then the entry point.
 use Prim.Native.Nat.{ℕ, _≤_, _<_}
 use mathlib.Core.Path.{_≡_, refl, sym, ap, _∙_}
-use mathlib.Core.Bool.{Bool, true, false, not}
 use mathlib.Core.List.{List, [], _∷_, _++_}
 use borrow.Author.Tests.{lt-ltb, le-ltb}
-use lib.Dec.{ltb}
-use Rattle.order.specs.Order.{Order}
-use Rattle.order.specs.Refusals.{limits, TableRow, Verdict, accepted, refused, judge, answerBy, orderRows, Accepted}
+use Rattle.order.specs.Refusals.{limits, TableRow, accepted, refused, judge, answerBy, orderRows, Accepted}
 use Rattle.order.specs.RefusalLaws.{judge-accepted, judge-clear, judge-refused-append}
 use Rattle.order.specs.Table.{orderOf, refusalTold, acceptanceTold}
 use Rattle.order.specs.TableLaws.{refused-told}

@@ -3,16 +3,14 @@
 use Prim.Native.Nat.{ℕ, _+_, _*_, _/_, _%_, _≤_, _<_}
 use mathlib.Core.Path.{_≡_, refl, sym, ap, _∙_, subst}
 use mathlib.Core.Logic.{_≢_}
-use mathlib.Core.Bool.{Bool, true, false, not}
 use mathlib.Core.List.{List, [], _∷_, _++_}
 use native.Mathlib.Omega.{arith}
 use borrow.Author.Tests.{lt-ltb, le-ltb, eq-eqb, ne-eqb}
-use lib.Dec.{ltb, eqb}
 use lib.IntN.{ℤ, pos}
 use lib.ListN.{length, drop}
 use Rattle.sums.specs.ListLaws.{length-tabulate}
 use Rattle.order.specs.Order.{Order, processorCount, jobCount}
-use Rattle.order.specs.Refusals.{limits, TableRow, Verdict, accepted, refused, judge, answerBy, roomRow, countRows, orderRows}
+use Rattle.order.specs.Refusals.{limits, Verdict, accepted, refused, judge, answerBy, roomRow, countRows, orderRows}
 use Rattle.order.specs.RefusalLaws.{judge-accepted, counts-in-limits}
 use Rattle.order.specs.Table.{refusalTold}
 use Rattle.order.specs.TableLaws.{refused-told}
@@ -21,7 +19,7 @@ use Rattle.order_file.specs.File.{fileLength, writeRows, writtenBy}
 use Rattle.order_file.specs.Told.{writtenTold}
 use Rattle.order_file.specs.declared.OrderWritten.{OrderWritten}
 use Rattle.order_file.specs.declared.OrderWritten.the-variants.{Bytes, Refused}
-use Rattle.highboyrobin.specs.Results.{resultOf, answeredBy, answerRow, partJobRow}
+use Rattle.highboyrobin.specs.Results.{resultOf, answeredBy}
 use Rattle.highboyrobin.specs.Calls.{orderFrom, writeCall}
 use Rattle.highboyrobin.proofs.Answering.{verdict-refused, verdict-accepted}
 

@@ -1,12 +1,12 @@
 -- What the planner's answers say of the verdict and of the lent rows. The order is told twice, as it was read and as the file has
 -- it, and the bound as it was passed and as the machine reads it back.
 use Prim.Native.Nat.{ℕ}
-use mathlib.Core.Path.{_≡_, refl, sym, ap, _∙_, subst}
+use mathlib.Core.Path.{_≡_, refl, _∙_, subst}
 use mathlib.Core.List.{List, [], _∷_, _++_, append-assoc}
 use lib.IntN.{ℤ}
 use lib.ListN.{length}
 use Rattle.order.specs.Order.{Order}
-use Rattle.order.specs.Refusals.{limits, TableRow, Verdict, accepted, refused, judge, answerBy, orderRows, boundRow, tightRow}
+use Rattle.order.specs.Refusals.{limits, Verdict, accepted, refused, judge, answerBy, orderRows, boundRow, tightRow}
 use Rattle.order.specs.Table.{refusalTold}
 use Rattle.order.specs.TableLaws.{refused-told}
 use Rattle.order.specs.declared.Refusal.{Refusal}

@@ -1,14 +1,14 @@
 -- The reason as numbers: they are few, and those of the code's reason are those of document 01's.
-use Prim.Native.Nat.{ℕ, _≤_, _<_}
-use mathlib.Core.Path.{_≡_, refl, sym, ap, _∙_, subst}
-use mathlib.Core.Bool.{Bool, true, false, not}
-use mathlib.Core.List.{List, [], _∷_, _++_}
+use Prim.Native.Nat.{_<_}
+use mathlib.Core.Path.{_≡_, refl, sym, _∙_, subst}
+use mathlib.Core.Bool.{true, false}
+use mathlib.Core.List.{[], _∷_, _++_}
 use native.Mathlib.Omega.{arith}
-use lib.IntN.{ℤ, pos}
+use lib.IntN.{ℤ}
 use lib.ListN.{length}
 use Rattle.sums.specs.ListLaws.{All-nth}
 use Rattle.order.specs.Order.{Order, noJob}
-use Rattle.order.specs.Refusals.{limits, Verdict, accepted, refused, judge, orderRows, boundRow, boundInRange, Accepted}
+use Rattle.order.specs.Refusals.{limits, accepted, refused, judge, orderRows, boundRow, boundInRange, Accepted}
 use Rattle.order.specs.RefusalLaws.{accepted-iff, judge-accepted-append}
 use Rattle.profile.specs.Reason.{Reason, overEnd, stairs}
 use Rattle.profile.specs.ReasonLaws.{reason-found}

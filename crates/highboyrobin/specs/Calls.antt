@@ -6,7 +6,7 @@ use mathlib.Core.List.{List, [], _∷_, _++_}
 use lib.IntN.{ℤ, pos}
 use lib.ListN.{length, getD, drop}
 use Rattle.sums.specs.Lists.{tabulate}
-use Rattle.order.specs.Order.{Job, Order, processorCount, jobCount, jobOf}
+use Rattle.order.specs.Order.{Order, processorCount, jobCount, jobOf}
 use Rattle.order.specs.Refusals.{limits, TableRow, Verdict, accepted, refused, orderRows, boundRow}
 use Rattle.order_file.specs.Bytes.{signed}
 use Rattle.order_file.specs.File.{orderIn, writeRows}

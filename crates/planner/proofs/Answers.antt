@@ -1,30 +1,14 @@
 -- How the planner puts its answers together: a refusal stands whatever rows follow, 10 comes with its reason, and where the table
 -- accepts a plan was written.
-use Prim.Native.Nat.{ℕ, zero, suc, _/_, _*_, _≤_, _<_}
+use Prim.Native.Nat.{ℕ, _/_, _≤_, _<_}
 use mathlib.Core.Path.{_≡_, refl, sym, ap, _∙_, subst}
 use mathlib.Core.Bool.{Bool, true, false, not}
 use mathlib.Core.List.{List, [], _∷_, _++_}
 use native.Mathlib.Omega.{arith}
-use borrow.Author.Tests.{lt-ltb, le-ltb, leb-true, not-true, not-false}
-use lib.Dec.{ltb, leb}
+use borrow.Author.Tests.{lt-ltb, le-ltb, not-true, not-false}
 use lib.IntN.{ℤ, pos, _+ℤ_, _-ℤ_}
-use lib.ListN.{length}
 use Rattle.order.specs.Order.{Order}
-use Rattle.order.specs.Refusals.{
-  limits,
-  TableRow,
-  Verdict,
-  accepted,
-  refused,
-  judge,
-  Answer,
-  answerBy,
-  orderRows,
-  boundRow,
-  tightRow,
-  boundInRange,
-  Accepted,
-}
+use Rattle.order.specs.Refusals.{limits, TableRow, Verdict, accepted, refused, judge, answerBy, orderRows, boundRow, tightRow, boundInRange, Accepted}
 use Rattle.order.specs.Deadline.{cut}
 use Rattle.order.specs.RefusalLaws.{judge-refused-append, judge-accepted-append, accepted-iff}
 use Rattle.order.specs.Table.{refusalTold, acceptanceTold}

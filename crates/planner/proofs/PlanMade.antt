@@ -1,26 +1,23 @@
 -- How a plan is made where there is no reason: the instance's amounts are feasible, their layout has room and is right. The bound
 -- is told twice, as it was passed and as the machine reads it back.
-use Prim.Native.Nat.{ℕ, suc, _+_, _-_, _*_, _≤_, _<_}
-use mathlib.Core.Path.{_≡_, refl, sym, ap, _∙_, subst}
+use Prim.Native.Nat.{ℕ, suc, _+_, _*_, _≤_}
+use mathlib.Core.Path.{_≡_, ap, _∙_, subst}
 use mathlib.Core.Bool.{Bool, true}
 use mathlib.Core.List.{List, _++_}
 use native.Mathlib.Omega.{arith}
 use native.Mathlib.Nat.{mul-le-mul-left, mul-le-mul-right}
 use lib.IntN.{ℤ}
-use lib.ListN.{length, drop, getD}
+use lib.ListN.{length, drop}
 use Rattle.sums.specs.ListLaws.{length-tabulate}
-use Rattle.order.specs.Order.{Order, processorCount, jobCount}
 use Rattle.order.specs.Refusals.{Accepted, boundInRange}
 use Rattle.order.specs.Table.{orderOf, jobAt}
 use Rattle.order.specs.declared.Order.{Order as OrderTable}
 use Rattle.plan.specs.Check.{numbersOf}
 use Rattle.profile.specs.ReasonLaws.{NoReason}
-use Rattle.wrap.specs.Stretches.{stretchCount, FeasibleFor}
 use Rattle.wrap.specs.Layout.{layout}
 use Rattle.wrap.specs.LayoutRight.{layout-right}
 use Rattle.wrap.specs.LayoutOrdered.{layout-count}
 use Rattle.engine.specs.View.{grid, Answer}
-use Rattle.allot.specs.Bounds.{stretches-few}
 use Rattle.allot.specs.Instances.{flowIn, Sized, StandsFor, amountIn}
 use Rattle.allot.specs.Feasible.{stands-sized, stands-feasible}
 use Rattle.allot.specs.declared.Instance.{Instance}

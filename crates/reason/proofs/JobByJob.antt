@@ -6,11 +6,9 @@ use mathlib.Core.List.{List, []}
 use native.Mathlib.Omega.{arith}
 use native.Mathlib.Decide.{ℕ-discrete}
 use borrow.Author.Tests.{eq-eqb, ne-eqb}
-use lib.Dec.{eqb}
 use lib.ListN.{length, getD, set, replicate, getD-replicate}
 use lib.Seq.{getD-set-same, getD-set-other}
 use Rattle.sums.specs.Sum.{sum}
-use Rattle.sums.specs.Lists.{only}
 use Rattle.tables.specs.Tables.{RowOf}
 use Rattle.tables.specs.NumberLaws.{sum-none, sum-more, sum-most}
 use Rattle.reason.specs.Settings.{owedBy, owes, minutesAt, Fine}

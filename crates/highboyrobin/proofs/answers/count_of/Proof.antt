@@ -1,6 +1,5 @@
 use Rattle.highboyrobin.proofs.Stored.{low}
 use borrow.Author.Needs.{needs}
-use native.Mathlib.Omega.{arith}
 use Rattle.highboyrobin.proofs.answers.count_of.Statement.{statement}
 use Rattle.highboyrobin.proofs.answers.count_of.Tie as tie
 use Rattle.highboyrobin.proofs.answers.count_of.Reads as reads

@@ -3,7 +3,6 @@ use mir.ValLaws.{toZ-ofZ}
 use mir.Syntax.{w32}
 use Rattle.highboyrobin.proofs.Stored.{one-stored}
 use borrow.Author.Needs.{needs}
-use native.Mathlib.Omega.{arith}
 use Rattle.highboyrobin.proofs.answers.put_count.Statement.{statement}
 use Rattle.highboyrobin.proofs.answers.put_count.Tie as tie
 use Rattle.highboyrobin.proofs.answers.put_count.Reads as reads

@@ -1,4 +1,4 @@
-use mathlib.Core.Path.{ap, sym, _∙_}
+use mathlib.Core.Path.{ap}
 use lib.IntN.{pos}
 use Rattle.highboyrobin.proofs.Stored.{nineteen-stored}
 use Rattle.highboyrobin.proofs.ReasonTold.{kind-small}

@@ -1,22 +1,17 @@
 use mathlib.Core.Bool.{Bool}
-use mathlib.Core.Path.{_≡_, refl, sym, ap, _∙_, subst}
-use mathlib.Core.List.{List, [], _∷_, _++_}
-use lib.IntN.{ℤ, pos}
+use mathlib.Core.Path.{ap, _∙_}
+use mathlib.Core.List.{_++_}
 use lib.ListN.{length, drop}
 use mir.ValLaws.{toZ-ofZ}
 use mir.Syntax.{w32}
-use Rattle.order.specs.Order.{Order}
-use Rattle.order.specs.Refusals.{limits, judge, orderRows, Accepted}
 use Rattle.order.specs.Table.{orderOf}
 use Rattle.order_file.specs.File.{orderIn}
-use Rattle.highboyrobin.proofs.Answering.{ended-refused, ended-told, ended-done, plan-refused, plan-told, plan-done}
-use Rattle.highboyrobin.proofs.Carried.{carried-few, read-carries, least-carries, plan-carries, check-carries, write-carries}
-use Rattle.highboyrobin.proofs.Calling.{call-short, reader-refused, order-is, order-accepted, call-refused, call-read}
-use Rattle.plan.specs.Check.{isRight}
+use Rattle.highboyrobin.proofs.Answering.{ended-refused, ended-told, ended-done}
+use Rattle.highboyrobin.proofs.Carried.{carried-few, read-carries, check-carries}
+use Rattle.highboyrobin.proofs.Calling.{call-short, reader-refused, order-is, call-refused, call-read}
 use Rattle.highboyrobin.specs.Calls.{yesOrNo}
-use Rattle.highboyrobin.proofs.ChecksTold.{CheckTold, check-begins, check-moved, check-refused, check-yes, check-no}
+use Rattle.highboyrobin.proofs.ChecksTold.{check-begins, check-moved, check-refused, check-yes, check-no}
 use borrow.Author.Needs.{needs}
-use native.Mathlib.Omega.{arith}
 use Rattle.highboyrobin.proofs.checking.hbr_check.Statement.{statement}
 use Rattle.highboyrobin.proofs.checking.hbr_check.Tie as tie
 use Rattle.highboyrobin.proofs.checking.hbr_check.Reads as reads

@@ -1,10 +1,6 @@
 use Prim.Native.Nat.{_+_, _*_, _-_, _≤_}
-use mathlib.Core.Path.{_≡_, refl, ap, _∙_}
-use lib.IntN.{pos}
+use mathlib.Core.Path.{_≡_, refl}
 use lib.ListN.{getD}
-use mir.ValLaws.{toZ-ofZ}
-use mir.Syntax.{w32}
-use Rattle.order_file.specs.Bytes.{signed}
 use Rattle.order_file.specs.Inside.{paddedTo}
 use Rattle.order_file.specs.PaddedLaws.{padded-none, padded-more}
 use borrow.Author.Needs.{needs}

@@ -1,5 +1,5 @@
 use Prim.Native.Nat.{_+_, _*_, _-_, _≤_}
-use mathlib.Core.Path.{_≡_, refl, ap, _∙_}
+use mathlib.Core.Path.{_≡_, _∙_}
 use lib.IntN.{pos}
 use lib.ListN.{getD}
 use mir.ValLaws.{toZ-ofZ}

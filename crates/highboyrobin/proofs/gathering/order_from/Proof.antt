@@ -1,4 +1,4 @@
-use mathlib.Core.Path.{_≡_, refl}
+use mathlib.Core.Path.{refl}
 use Rattle.highboyrobin.proofs.Gathered.{gathered}
 use borrow.Author.Needs.{needs}
 use native.Mathlib.Omega.{arith}

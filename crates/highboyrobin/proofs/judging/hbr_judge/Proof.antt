@@ -2,14 +2,13 @@ use mathlib.Core.Path.{sym, ap, _∙_, subst}
 use mathlib.Core.List.{[], _++_, append-nil}
 use lib.ListN.{length, drop}
 use Rattle.order.specs.Order.{Order}
-use Rattle.order.specs.Refusals.{limits, judge, orderRows, Accepted}
+use Rattle.order.specs.Refusals.{limits, orderRows, Accepted}
 use Rattle.order_file.specs.File.{orderIn}
-use Rattle.highboyrobin.specs.Calls.{judgeCall, sizesOf}
+use Rattle.highboyrobin.specs.Calls.{sizesOf}
 use Rattle.highboyrobin.proofs.Answering.{ended-refused, ended-told, ended-done}
 use Rattle.highboyrobin.proofs.Carried.{carried-few, read-carries}
 use Rattle.highboyrobin.proofs.Calling.{call-short, reader-refused, order-is, order-accepted, call-refused, call-read}
 use borrow.Author.Needs.{needs}
-use native.Mathlib.Omega.{arith}
 use Rattle.highboyrobin.proofs.judging.hbr_judge.Statement.{statement}
 use Rattle.highboyrobin.proofs.judging.hbr_judge.Tie as tie
 use Rattle.highboyrobin.proofs.judging.hbr_judge.Reads as reads

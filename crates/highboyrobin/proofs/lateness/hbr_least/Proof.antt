@@ -1,21 +1,16 @@
 use Rattle.profile.specs.LeastRange.{least-in-range}
 use Rattle.planner.specs.LeastRead.{read-least}
-use mathlib.Core.Path.{_≡_, refl, sym, ap, _∙_, subst}
-use mathlib.Core.List.{List, [], _∷_, _++_}
+use mathlib.Core.Path.{refl, ap, _∙_}
+use mathlib.Core.List.{_∷_}
 use lib.IntN.{ℤ, pos}
 use lib.ListN.{length, drop}
-use mir.ValLaws.{toZ-ofZ}
-use mir.Syntax.{w32}
-use Rattle.order.specs.Order.{Order}
-use Rattle.order.specs.Refusals.{limits, judge, orderRows, Accepted}
 use Rattle.order.specs.Table.{orderOf}
 use Rattle.order_file.specs.File.{orderIn}
-use Rattle.highboyrobin.proofs.Answering.{ended-refused, ended-told, ended-done, plan-refused, plan-told, plan-done}
-use Rattle.highboyrobin.proofs.Carried.{carried-few, read-carries, least-carries, plan-carries, check-carries, write-carries}
+use Rattle.highboyrobin.proofs.Answering.{plan-refused, plan-told, plan-done}
+use Rattle.highboyrobin.proofs.Carried.{carried-few, read-carries, least-carries}
 use Rattle.highboyrobin.proofs.Calling.{call-short, reader-refused, order-is, order-accepted, call-refused, call-read}
-use Rattle.profile.specs.Least.{leastLateness}
 use Rattle.planner.specs.RowLaws.{written-few}
-use Rattle.highboyrobin.proofs.PlansTold.{LeastTold, least-begins, least-moved, least-refused, least-at}
+use Rattle.highboyrobin.proofs.PlansTold.{least-begins, least-moved, least-refused, least-at}
 use borrow.Author.Needs.{needs}
 use native.Mathlib.Omega.{arith}
 use Rattle.highboyrobin.proofs.lateness.hbr_least.Statement.{statement}

@@ -1,18 +1,14 @@
-use mathlib.Core.Path.{_≡_, refl, sym, ap, _∙_, subst}
-use mathlib.Core.List.{List, [], _∷_, _++_}
-use lib.IntN.{ℤ, pos}
-use lib.ListN.{length, drop}
+use mathlib.Core.Path.{refl, _∙_}
+use lib.ListN.{length}
 use mir.ValLaws.{toZ-ofZ}
 use mir.Syntax.{w32}
-use Rattle.order.specs.Order.{Order}
-use Rattle.order.specs.Refusals.{limits, judge, orderRows, Accepted}
 use Rattle.order.specs.Table.{orderOf}
 use Rattle.order_file.specs.File.{orderIn}
-use Rattle.highboyrobin.proofs.Answering.{ended-refused, ended-told, ended-done, plan-refused, plan-told, plan-done}
-use Rattle.highboyrobin.proofs.Carried.{carried-few, read-carries, least-carries, plan-carries, check-carries, write-carries}
+use Rattle.highboyrobin.proofs.Answering.{plan-refused, plan-told, plan-done}
+use Rattle.highboyrobin.proofs.Carried.{carried-few, read-carries, plan-carries}
 use Rattle.highboyrobin.proofs.Calling.{call-short, reader-refused, order-is, order-accepted, call-refused, call-read}
 use Rattle.planner.specs.RowLaws.{written-few}
-use Rattle.highboyrobin.proofs.PlansTold.{PlanTold, plan-begins, plan-moved, planned-refused, planned-tight, planned-rows}
+use Rattle.highboyrobin.proofs.PlansTold.{plan-begins, plan-moved, planned-refused, planned-tight, planned-rows}
 use borrow.Author.Needs.{needs}
 use native.Mathlib.Omega.{arith}
 use Rattle.highboyrobin.proofs.planning.hbr_plan.Statement.{statement}

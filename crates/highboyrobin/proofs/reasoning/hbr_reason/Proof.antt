@@ -1,19 +1,16 @@
 use Prim.Native.Nat.{ℕ}
-use mathlib.Core.Path.{_≡_, refl, sym, ap, _∙_, subst}
-use mathlib.Core.List.{List, [], _∷_, _++_}
+use mathlib.Core.Path.{refl, sym, ap, _∙_, subst}
+use mathlib.Core.List.{List, _++_}
 use borrow.Author.Tests.{not-true, not-false}
 use lib.IntN.{ℤ}
 use lib.ListN.{length, drop}
 use mir.ValLaws.{toZ-ofZ}
 use mir.Syntax.{w32}
-use Rattle.order.specs.Order.{Order}
 use Rattle.order.specs.Refusals.{Accepted, boundInRange}
 use Rattle.order.specs.Table.{orderOf}
 use Rattle.order.specs.declared.Refusal.the-variants.{BoundOutOfRange}
 use Rattle.order_file.specs.File.{orderIn}
 use Rattle.profile.specs.Search.{reasonOf}
-use Rattle.reason.specs.Told.{whyOf}
-use Rattle.reason.specs.declared.Why.{Why}
 use Rattle.highboyrobin.specs.Calls.{reasonNumbers}
 use Rattle.highboyrobin.specs.Inside.{whyNumbers}
 use Rattle.highboyrobin.proofs.Answering.{ended-refused, ended-told, ended-done}

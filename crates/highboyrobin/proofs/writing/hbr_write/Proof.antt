@@ -1,13 +1,12 @@
 use Prim.Native.Nat.{ℕ}
-use mathlib.Core.Path.{_≡_, refl, sym, ap, _∙_, subst}
-use mathlib.Core.List.{List, [], _∷_, _++_}
-use lib.IntN.{ℤ, pos}
+use mathlib.Core.Path.{refl, sym, ap, _∙_}
+use mathlib.Core.List.{_∷_}
+use lib.IntN.{pos}
 use lib.ListN.{length, drop}
-use Rattle.order.specs.Order.{Order}
-use Rattle.order.specs.Refusals.{Accepted, Verdict}
+use Rattle.order.specs.Refusals.{Verdict}
 use Rattle.order.specs.Table.{orderOf}
 use Rattle.order.specs.declared.Refusal.the-variants.{NoProcessor, TooManyProcessors, TooManyJobs}
-use Rattle.order_file.specs.File.{fileLength, writtenBy}
+use Rattle.order_file.specs.File.{writtenBy}
 use Rattle.highboyrobin.specs.Calls.{orderFrom}
 use Rattle.highboyrobin.proofs.Carried.{carried-few, write-carries}
 use Rattle.highboyrobin.proofs.FilesTold.{

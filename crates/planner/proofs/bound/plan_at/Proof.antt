@@ -2,7 +2,7 @@ use Rattle.order.specs.RefusalLaws.{accepted-iff}
 use Rattle.reason.specs.LeadLaws.{reach-most}
 use Rattle.reason.specs.Matching.{fine-of}
 use Rattle.planner.proofs.SetupLaws.{stretches-counted}
-use mathlib.Core.Path.{_≡_, refl, ap, _∙_}
+use mathlib.Core.Path.{refl, ap, _∙_}
 use lib.IntN.{ℤ, pos, _+ℤ_}
 use Rattle.order.specs.Deadline.{cut}
 use lib.ListN.{length}
@@ -12,7 +12,6 @@ use Rattle.order.specs.Table.{orderOf}
 use Rattle.order.specs.declared.Refusal.the-variants.{BoundOutOfRange, BufferTooShort}
 use Rattle.profile.specs.Search.{reasonOf}
 use Rattle.profile.specs.ReasonLaws.{reason-none}
-use Rattle.reason.specs.Told.{whyOf}
 use Rattle.planner.proofs.Answers.{
   order-refused,
   order-accepted,

@@ -2,7 +2,7 @@ use Rattle.order.specs.RefusalLaws.{accepted-iff}
 use Rattle.reason.specs.Matching.{fine-of}
 use Rattle.planner.proofs.SetupLaws.{stretches-counted}
 use Rattle.planner.specs.LeastRead.{read-least}
-use mathlib.Core.Path.{_≡_, sym, ap, _∙_, subst}
+use mathlib.Core.Path.{sym, ap, _∙_, subst}
 use lib.ListN.{length}
 use lib.Signed.{≤ℤ-refl}
 use Rattle.order.specs.Refusals.{boundInRange}

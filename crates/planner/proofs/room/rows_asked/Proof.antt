@@ -1,7 +1,6 @@
 use Rattle.order.specs.Table.{orderOf}
 use Rattle.planner.proofs.SetupLaws.{stretches-counted}
 use borrow.Author.Needs.{needs}
-use native.Mathlib.Omega.{arith}
 use Rattle.planner.proofs.room.rows_asked.Statement.{statement}
 use Rattle.planner.proofs.room.rows_asked.Tie as tie
 use Rattle.planner.proofs.room.rows_asked.Reads as reads

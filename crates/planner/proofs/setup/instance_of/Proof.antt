@@ -4,12 +4,10 @@ use mir.Syntax.{w32}
 use mir.ValLaws.{toZ-ofZ}
 use Rattle.order.specs.Deadline.{cut}
 use Rattle.order.specs.RefusalLaws.{accepted-iff}
-use Rattle.order.specs.Table.{orderOf}
 use Rattle.planner.proofs.SetupLaws.{stands-for}
 use Rattle.order.proofs.deadline.deadline.Reads as deadline-reads
 use Rattle.planner.proofs.setup.minutes_at.Reads as minutes-at-reads
 use borrow.Author.Needs.{needs}
-use native.Mathlib.Omega.{arith}
 use Rattle.planner.proofs.setup.instance_of.Statement.{statement}
 use Rattle.planner.proofs.setup.instance_of.Tie as tie
 use Rattle.planner.proofs.setup.instance_of.Reads as reads

@@ -1,6 +1,4 @@
 use Rattle.planner.proofs.SetupLaws.{rising-of}
-use borrow.Author.Needs.{needs}
-use native.Mathlib.Omega.{arith}
 use Rattle.planner.proofs.setup.rising_dues.Statement.{statement}
 use Rattle.planner.proofs.setup.rising_dues.Tie as tie
 use Rattle.planner.proofs.setup.rising_dues.Reads as reads

@@ -1,4 +1,4 @@
-use Prim.Native.Nat.{ℕ, suc, _-_, _≤_}
+use Prim.Native.Nat.{_-_, _≤_}
 use mathlib.Core.Path.{_≡_}
 use lib.ListN.{length, getD}
 use Rattle.reason.proofs.JobByJob.{Owed, owed-none, owed-small, owed-outside, owed-more, owed-all}
