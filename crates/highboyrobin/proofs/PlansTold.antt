@@ -19,6 +19,7 @@ use Rattle.planner.specs.declared.Least.{Least}
 use Rattle.planner.specs.declared.Least.the-variants.{At, Refused as LeastRefused}
 use Rattle.planner.specs.declared.Planned.{Planned}
 use Rattle.planner.specs.declared.Planned.the-variants.{Rows, Tight, Refused}
+use Rattle.reason.specs.declared.Reason.{Reason}
 use Rattle.highboyrobin.proofs.Answering.{refused-by, verdict-refused, verdict-accepted}
 
 -- both tables begin with the order's rows
@@ -65,9 +66,9 @@ module _ (o : Order) (bound : ℤ) (rows rows′ : List ℕ) (p : Planned) (t : 
       let r = refused-told why in
       (w, kept v (r .0) (r .1) (w ∙ r .2) o bound rows rows′ 0 (u .1))
 
-  pub planned-tight : p ≡ Tight → (v ≡ refused 10 0) × (rows′ ≡ rows)
-  planned-tight e =
-      let u = told-as Tight e in
+  pub planned-tight : (reason : Reason) → p ≡ Tight reason → (v ≡ refused 10 0) × (rows′ ≡ rows)
+  planned-tight reason e =
+      let u = told-as (Tight reason) e in
       let w = refused-by v 10 0 0 (u .0) in
       (w, kept v 10 0 w o bound rows rows′ 0 (u .1))
 

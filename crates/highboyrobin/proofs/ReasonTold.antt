@@ -15,8 +15,9 @@ use Rattle.profile.specs.ReasonLaws.{reason-found}
 use Rattle.profile.specs.Search.{Found, nothing, found, reasonOf}
 use Rattle.allot.specs.Bounds.{classes-few}
 use Rattle.reason.specs.Told.{whyOf}
-use Rattle.reason.specs.declared.Reason.{Reason as CodeReason}
-use Rattle.reason.specs.declared.Reason.the-variants.{Job, Stairs, Nothing}
+use Rattle.reason.specs.declared.Reason.the-variants.{Job, Stairs}
+use Rattle.reason.specs.declared.Tightness.{Tightness}
+use Rattle.reason.specs.declared.Tightness.the-variants.{Tight, Met}
 use Rattle.reason.specs.declared.Why.{Why}
 use Rattle.highboyrobin.specs.Calls.{reasonNumbers}
 use Rattle.highboyrobin.specs.Inside.{kindOf, whichOf, timeOf, whyNumbers}
@@ -31,10 +32,10 @@ numbers-count o nothing = refl
 numbers-count o (found (overEnd j)) = refl
 numbers-count o (found (stairs dues)) = refl
 
-pub kind-small : (r : CodeReason) → kindOf r < 2147483648
-kind-small Nothing = omega arith
-kind-small (Job j t) = omega arith
-kind-small (Stairs k) = omega arith
+pub kind-small : (t : Tightness) → kindOf t < 2147483648
+kind-small Met = omega arith
+kind-small (Tight (Job j t)) = omega arith
+kind-small (Tight (Stairs k)) = omega arith
 
 -- row 8 decides after an accepted order
 module _ (o : Order) (bound : ℤ) (a : Accepted o) where
@@ -49,7 +50,7 @@ module _ (o : Order) (bound : ℤ) (a : Accepted o) where
 -- each of its numbers is below 2^31
 module _ (o : Order) (bound : ℤ) (a : Accepted o) where
   small : (r : Found Reason) → reasonOf o bound ≡ r →
-      (whichOf (whyOf o r .reason) < 2147483648) × (timeOf (whyOf o r .reason) < 2147483648)
+      (whichOf (whyOf o r .tightness) < 2147483648) × (timeOf (whyOf o r .tightness) < 2147483648)
   small nothing e = (omega arith, omega arith)
   small (found (overEnd j)) e =
       let h = accepted-iff o .0 a in
@@ -63,9 +64,9 @@ module _ (o : Order) (bound : ℤ) (a : Accepted o) where
       (omega (arith, p, classes-few o, h .few-processors), omega arith)
 
   pub reason-small : (w : Why) → w ≡ whyOf o (reasonOf o bound) →
-      (whichOf (w .reason) < 2147483648) × (timeOf (w .reason) < 2147483648)
+      (whichOf (w .tightness) < 2147483648) × (timeOf (w .tightness) < 2147483648)
   reason-small w e =
-      subst (λ (w : Why). (whichOf (w .reason) < 2147483648) × (timeOf (w .reason) < 2147483648)) (sym e)
+      subst (λ (w : Why). (whichOf (w .tightness) < 2147483648) × (timeOf (w .tightness) < 2147483648)) (sym e)
       (small (reasonOf o bound) refl)
 
 -- the reason of the order that was read is that of the file's

@@ -2,6 +2,7 @@
 use order::Order;
 use planner::room::rows_asked;
 use reason::Reason;
+use reason::Tightness;
 use reason::Why;
 ghost use mathlib.Core.Path.{_≡_};
 ghost use mathlib.Core.List.{[], _∷_, _++_};
@@ -70,32 +71,38 @@ fn put_dues(answer: &mut [i32], dues: [i32; 16])
     }
 }
 
-// The kind of a reason; the job or the count of classes; the job's time.
-fn kind_of(reason: Reason) -> u32
-    ensures { λ r. ⌜ r ≡ kindOf reason ⌝ }
+// The kind of a reason; the job or the count of classes; the job's time. 0 where there is none.
+fn kind_of(told: Tightness) -> u32
+    ensures { λ r. ⌜ r ≡ kindOf told ⌝ }
 {
+    let Tightness::Tight(reason) = told else {
+        return 0;
+    };
     match reason {
-        Reason::Nothing => 0,
         Reason::Job(_, _) => 1,
         Reason::Stairs(_) => 2,
     }
 }
 
-fn which_of(reason: Reason) -> u32
-    ensures { λ r. ⌜ r ≡ whichOf reason ⌝ }
+fn which_of(told: Tightness) -> u32
+    ensures { λ r. ⌜ r ≡ whichOf told ⌝ }
 {
+    let Tightness::Tight(reason) = told else {
+        return 0;
+    };
     match reason {
-        Reason::Nothing => 0,
         Reason::Job(job, _) => job,
         Reason::Stairs(count) => count,
     }
 }
 
-fn time_of(reason: Reason) -> u32
-    ensures { λ r. ⌜ r ≡ timeOf reason ⌝ }
+fn time_of(told: Tightness) -> u32
+    ensures { λ r. ⌜ r ≡ timeOf told ⌝ }
 {
+    let Tightness::Tight(reason) = told else {
+        return 0;
+    };
     match reason {
-        Reason::Nothing => 0,
         Reason::Job(_, time) => time,
         Reason::Stairs(_) => 0,
     }
@@ -103,11 +110,11 @@ fn time_of(reason: Reason) -> u32
 
 // A reason, or that there is none.
 pub fn put_reason(answer: &mut [i32], why: Why)
-    requires { ⌜ (whichOf (why .reason) < 2147483648) × (timeOf (why .reason) < 2147483648) × (19 ≤ length (now answer)) ⌝ }
+    requires { ⌜ (whichOf (why .tightness) < 2147483648) × (timeOf (why .tightness) < 2147483648) × (19 ≤ length (now answer)) ⌝ }
     ensures { λ r. ⌜ now (answer .exit) ≡ whyNumbers why ++ drop 19 (now (answer .entry)) ⌝ }
 {
-    let reason = why.reason;
+    let told = why.tightness;
     let dues = why.dues;
-    put_three(answer, kind_of(reason), which_of(reason), time_of(reason));
+    put_three(answer, kind_of(told), which_of(told), time_of(told));
     put_dues(answer, dues);
 }

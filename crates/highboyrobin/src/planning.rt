@@ -34,7 +34,7 @@ pub extern "C" fn hbr_plan(file: &[u8], bound: i32, rows: &mut [u32], answer: &m
     let planned = told.planned;
     match planned {
         Planned::Refused(refusal) => result_of(refusal),
-        Planned::Tight => TOO_TIGHT,
+        Planned::Tight(_) => TOO_TIGHT,
         Planned::Rows(count) => {
             put_count(answer, count);
             0

@@ -4,7 +4,6 @@ use order::Refusal;
 use planner::PlanAnswer;
 use planner::Planned;
 use reason::Reason;
-use reason::Why;
 ghost use Prim.Native.Nat.{_<_};
 
 fn wide(x: u32) -> u64
@@ -70,9 +69,7 @@ fn due_times(dues: [i32; 16], count: u32) {
 }
 
 // The line of a reason.
-fn tight(why: Why) {
-    let reason = why.reason;
-    let dues = why.dues;
+fn tight(reason: Reason, dues: [i32; 16]) {
     match reason {
         Reason::Job(job, _) => {
             text(b"tight job");
@@ -82,7 +79,6 @@ fn tight(why: Why) {
             text(b"tight stairs");
             due_times(dues, count);
         }
-        Reason::Nothing => text(b"tight"),
     }
     text(b"\n");
 }
@@ -90,10 +86,10 @@ fn tight(why: Why) {
 // The line of an answer at a bound.
 pub fn planned(answer: PlanAnswer) {
     let kind = answer.planned;
-    let why = answer.why;
+    let dues = answer.dues;
     match kind {
         Planned::Rows(_) => text(b"meets\n"),
-        Planned::Tight => tight(why),
+        Planned::Tight(reason) => tight(reason, dues),
         Planned::Refused(refusal) => refused(refusal),
     }
 }

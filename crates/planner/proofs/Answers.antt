@@ -7,8 +7,10 @@ use mathlib.Core.List.{List, [], _∷_, _++_}
 use native.Mathlib.Omega.{arith}
 use borrow.Author.Tests.{lt-ltb, le-ltb, not-true, not-false}
 use lib.IntN.{ℤ, pos, _+ℤ_, _-ℤ_}
+use lib.ListN.{length}
 use Rattle.order.specs.Order.{Order}
 use Rattle.order.specs.Refusals.{limits, TableRow, Verdict, accepted, refused, judge, answerBy, orderRows, boundRow, tightRow, boundInRange, Accepted}
+use Rattle.order.specs.Class.{classes}
 use Rattle.order.specs.Deadline.{cut}
 use Rattle.order.specs.RefusalLaws.{judge-refused-append, judge-accepted-append, accepted-iff}
 use Rattle.order.specs.Table.{refusalTold, acceptanceTold}
@@ -33,17 +35,22 @@ use Rattle.plan.specs.IsLeast.{IsLeast}
 use Rattle.profile.specs.Least.{leastLateness}
 use Rattle.profile.specs.Reason.{Reason, overEnd, stairs}
 use Rattle.profile.specs.Search.{Found, nothing, found, reasonOf}
-use Rattle.reason.specs.Told.{whyOf}
+use Rattle.reason.specs.Told.{sixteen, whyOf}
+use Rattle.reason.specs.ToldLaws.{why-told}
 use Rattle.reason.specs.Settings.{Matches, toldOf, reachOf}
 use Rattle.reason.specs.Matching.{reach-same}
 use Rattle.reason.specs.Telling.{told-is}
+use Rattle.reason.specs.declared.Reason.{Reason as CodeReason}
 use Rattle.reason.specs.declared.Setting.{Setting}
+use Rattle.reason.specs.declared.Tightness.{Tightness}
+use Rattle.reason.specs.declared.Tightness.the-variants.{Tight as TooTight, Met}
 use Rattle.reason.specs.declared.Why.{Why}
 use Rattle.planner.specs.Rows.{rowsAsked, bufferRow, isFound, leastRows, earlierRows, planRows}
-use Rattle.planner.specs.Told.{plannedTold, rowsOf, isReason, reasonCarried, leastTold, leastCount, LeastIn}
+use Rattle.planner.specs.Told.{plannedTold, rowsOf, reasonCarried, ReasonTold, leastTold, leastCount, LeastIn}
 use Rattle.planner.specs.Written.{Written, BufferBy}
 use Rattle.planner.specs.declared.Least.{Least}
 use Rattle.planner.specs.declared.Least.the-variants.{At, Refused as LeastRefused}
+use Rattle.planner.specs.declared.PlanAnswer.{PlanAnswer}
 use Rattle.planner.specs.declared.Planned.{Planned}
 use Rattle.planner.specs.declared.Planned.the-variants.{Rows, Tight, Refused}
 
@@ -80,6 +87,23 @@ order-refused o a rf e is = sym (ap acceptanceTold is) ∙ e
 pub order-accepted : (o : Order) (a : Acceptance) → acceptanceTold a ≡ judge (orderRows limits o) → a ≡ Accepts → Accepted o
 order-accepted o a e is = sym e ∙ ap acceptanceTold is
 
+-- what is told is tight exactly where there is a reason
+tight-found : (o : Order) (f : Found Reason) (r : CodeReason) → whyOf o f .tightness ≡ TooTight r → isFound f ≡ true
+tight-found o nothing r e = let z : _≡_ {A = ℕ} 0 1 = cc in absurd (omega arith)
+tight-found o (found reason) r e = refl
+
+met-none : (o : Order) (f : Found Reason) → whyOf o f .tightness ≡ Met → f ≡ nothing
+met-none o nothing e = refl
+met-none o (found (overEnd j)) e = let z : _≡_ {A = ℕ} 0 1 = cc in absurd (omega arith)
+met-none o (found (stairs dues)) e = let z : _≡_ {A = ℕ} 0 1 = cc in absurd (omega arith)
+
+pub told-met : (o : Order) (f : Found Reason) (w : Why) → w ≡ whyOf o f → w .tightness ≡ Met → f ≡ nothing
+told-met o f w e h = met-none o f (sym (ap (λ (w : Why). w .tightness) e) ∙ h)
+
+-- a setting has room for sixteen classes
+pub classes-few : (o : Order) {t : Setting} → Matches o t → length (classes o) ≤ 16
+classes-few o m = omega (arith, m .classed, m .few-classes)
+
 -- the verdicts, row by row
 module _ (o : Order) (bound : ℤ) (n : ℕ) where
   pub refused-first : (rf : Refusal) → refusalTold rf ≡ judge (orderRows limits o) → refusalTold rf ≡ judge (planRows o bound n)
@@ -113,58 +137,46 @@ module _ (o : Order) (bound : ℤ) (n : ℕ) where
         last-row = judge-accepted-append (earlierRows o bound n) _ earlier
 
   -- what plan_at ensures
-  abbrev pub Ensured : List ℕ → List ℕ → Planned → Why → Type 0
-  Ensured entry exit p w =
-      (plannedTold p ≡ answerBy (judge (planRows o bound n)) (rowsOf p))
-      × ((w ≡ whyOf o (reasonCarried (judge (planRows o bound n)) (reasonOf o bound)))
-      × BufferBy (judge (planRows o bound n)) o bound entry exit (rowsOf p))
+  abbrev pub Ensured : List ℕ → List ℕ → PlanAnswer → Type 0
+  Ensured entry exit r =
+      (plannedTold (r .planned) ≡ answerBy (judge (planRows o bound n)) (rowsOf (r .planned)))
+      × (ReasonTold o (reasonCarried (judge (planRows o bound n)) (reasonOf o bound)) r
+      × BufferBy (judge (planRows o bound n)) o bound entry exit (rowsOf (r .planned)))
 
   pub refused-ensured : (entry : List ℕ) (rf : Refusal) → refusalTold rf ≡ judge (planRows o bound n) →
-      (p : Planned) → p ≡ Refused rf → (w : Why) → w ≡ whyOf o nothing → Ensured entry entry p w
-  refused-ensured entry rf v p e w f =
-      subst (λ (p : Planned). Ensured entry entry p w) (sym e) (
+      (p : Planned) → p ≡ Refused rf → (ds : List ℤ) → ds ≡ sixteen [] → Ensured entry entry (record { planned = p; dues = ds })
+  refused-ensured entry rf v p e ds f =
+      let none : nothing ≡ reasonCarried (judge (planRows o bound n)) (reasonOf o bound)
+      = sym (carried-none rf (reasonOf o bound)) ∙ ap (λ (v : Verdict). reasonCarried v (reasonOf o bound)) v in
+      rw (e, f) (
         ap (λ (v : Verdict). answerBy v 0) v,
         (
-          f ∙ ap (whyOf o) (sym (carried-none rf (reasonOf o bound)) ∙ ap (λ (v : Verdict). reasonCarried v (reasonOf o bound)) v),
+          subst (λ (g : Found Reason). ReasonTold o g (record { planned = Refused rf; dues = sixteen [] })) none (refl, refl),
           subst (λ (v : Verdict). BufferBy v o bound entry entry 0) v (buffer-kept rf o bound entry),
         ),
       )
 
-  module _ (ok : Accepted o) (in-range : boundInRange bound ≡ true) (room : rowsAsked o ≤ n / 4) where
-    pub tight-ensured : (entry : List ℕ) (w : Why) → w ≡ whyOf o (reasonOf o bound) → isFound (reasonOf o bound) ≡ true →
-        Ensured entry entry Tight w
+  module _ (ok : Accepted o) (in-range : boundInRange bound ≡ true) (room : rowsAsked o ≤ n / 4) (few : length (classes o) ≤ 16)
+      (w : Why) (f : w ≡ whyOf o (reasonOf o bound)) where
+    pub tight-ensured : (entry : List ℕ) (r : CodeReason) → w .tightness ≡ TooTight r →
+        Ensured entry entry (record { planned = Tight r; dues = w .dues })
     unfolding judge
-    tight-ensured entry w f h =
-        let v : judge (planRows o bound n) ≡ refused 10 0 = last-row ok in-range room ∙ rw h in
-        rw v (refl, (f, (refl, refl)))
+    tight-ensured entry r h =
+        let is : record { tightness = TooTight r; dues = w .dues } ≡ w
+        = ap (λ (t : Tightness). record { tightness = t; dues = w .dues }) (sym h) in
+        let v : judge (planRows o bound n) ≡ refused 10 0
+        = last-row ok in-range room ∙ rw (tight-found o (reasonOf o bound) r (sym (ap (λ (w : Why). w .tightness) f) ∙ h)) in
+        rw v (refl, ((why-told o bound few _ (is ∙ f), is ∙ f), (refl, refl)))
 
-    pub rows-ensured : (entry exit : List ℕ) (count : ℕ) (w : Why) → w ≡ whyOf o (reasonOf o bound) →
-        reasonOf o bound ≡ nothing → Written o bound entry exit count → Ensured entry exit (Rows count) w
+    pub rows-ensured : (entry exit : List ℕ) (count : ℕ) → w .tightness ≡ Met → Written o bound entry exit count →
+        Ensured entry exit (record { planned = Rows count; dues = w .dues })
     unfolding judge
-    rows-ensured entry exit count w f h written =
-        let v : judge (planRows o bound n) ≡ accepted = last-row ok in-range room ∙ rw h in
-        rw v (refl, (f ∙ ap (whyOf o) h, written))
-
--- the code's reason is one exactly if there is one
-pub is-reason : (o : Order) (f : Found Reason) → isReason (whyOf o f .reason) ≡ isFound f
-is-reason o nothing = refl
-is-reason o (found (overEnd j)) = refl
-is-reason o (found (stairs dues)) = refl
-
-not-found : (f : Found Reason) → isFound f ≡ false → f ≡ nothing
-not-found nothing e = refl
-not-found (found r) e = let z : _≡_ {A = ℕ} 0 1 = cc in absurd (omega arith)
-
--- what the test of the code's reason says
-module _ (o : Order) (f : Found Reason) (w : Why) (b : Bool) (e : w ≡ whyOf o f) (g : b ≡ isReason (w .reason)) where
-  test-is : b ≡ isFound f
-  test-is = g ∙ ap (λ (w : Why). isReason (w .reason)) e ∙ is-reason o f
-
-  pub reason-there : b ≡ true → isFound f ≡ true
-  reason-there h = sym test-is ∙ h
-
-  pub reason-not-there : b ≡ false → f ≡ nothing
-  reason-not-there h = not-found f (sym test-is ∙ h)
+    rows-ensured entry exit count h written =
+        let none = told-met o (reasonOf o bound) w f h in
+        let is : record { tightness = Met; dues = w .dues } ≡ w
+        = ap (λ (t : Tightness). record { tightness = t; dues = w .dues }) (sym h) in
+        let v : judge (planRows o bound n) ≡ accepted = last-row ok in-range room ∙ rw none in
+        rw v (refl, ((refl, is ∙ f ∙ ap (whyOf o) none), written))
 
 -- what least_lateness ensures
 module _ (o : Order) (n : ℕ) where

@@ -7,40 +7,26 @@ use order::Acceptance;
 use order::Order;
 use order::Refusal;
 use order::deadline::deadline;
-use reason::Reason;
-use reason::Why;
+use reason::Tightness;
 use reason::given::setting_of;
 ghost use mathlib.Core.Path.{_≡_};
+ghost use mathlib.Core.List.{[]};
 ghost use lib.ListN.{length};
 ghost use Rattle.order.specs.Refusals.{judge, answerBy};
 ghost use Rattle.order.specs.Table.{orderOf};
-ghost use Rattle.profile.specs.Search.{reasonOf, nothing};
-ghost use Rattle.reason.specs.Told.{whyOf};
+ghost use Rattle.profile.specs.Search.{reasonOf};
+ghost use Rattle.reason.specs.Told.{sixteen};
 ghost use Rattle.planner.specs.Rows.{planRows};
 ghost use Rattle.planner.specs.Written.{BufferBy};
-ghost use Rattle.planner.specs.Told.{plannedTold, rowsOf, reasonCarried, isReason};
+ghost use Rattle.planner.specs.Told.{plannedTold, rowsOf, reasonCarried, ReasonTold};
 
 // A refusal, with no reason.
-fn refuse(refusal: Refusal, order: Order) -> PlanAnswer
-    ensures { λ r. ⌜ (r .planned ≡ Planned.Refused refusal) × (r .why ≡ whyOf (orderOf order) nothing) ⌝ }
+fn refuse(refusal: Refusal) -> PlanAnswer
+    ensures { λ r. ⌜ (r .planned ≡ Planned.Refused refusal) × (r .dues ≡ sixteen []) ⌝ }
 {
     PlanAnswer {
         planned: Planned::Refused(refusal),
-        why: Why {
-            reason: Reason::Nothing,
-            dues: [0i32; 16],
-        },
-    }
-}
-
-// Whether there is a reason.
-fn is_reason(reason: Reason) -> bool
-    ensures { λ r. ⌜ r ≡ isReason reason ⌝ }
-{
-    match reason {
-        Reason::Job(_, _) => true,
-        Reason::Stairs(_) => true,
-        Reason::Nothing => false,
+        dues: [0i32; 16],
     }
 }
 
@@ -48,32 +34,33 @@ fn is_reason(reason: Reason) -> bool
 pub fn plan_at(order: Order, bound: i32, rows: &mut [u32]) -> PlanAnswer
     ensures { λ r. ⌜ plannedTold (r .planned)
         ≡ answerBy (judge (planRows (orderOf order) bound (length (now (rows .entry))))) (rowsOf (r .planned)) ⌝ }
-    ensures { λ r. ⌜ r .why ≡ whyOf (orderOf order)
-        (reasonCarried (judge (planRows (orderOf order) bound (length (now (rows .entry))))) (reasonOf (orderOf order) bound)) ⌝ }
+    ensures { λ r. ⌜ ReasonTold (orderOf order)
+        (reasonCarried (judge (planRows (orderOf order) bound (length (now (rows .entry))))) (reasonOf (orderOf order) bound)) r ⌝ }
     ensures { λ r. ⌜ BufferBy (judge (planRows (orderOf order) bound (length (now (rows .entry))))) (orderOf order) bound
         (now (rows .entry)) (now (rows .exit)) (rowsOf (r .planned)) ⌝ }
 {
     if let Acceptance::Refused(refusal) = order::accept::accept(order) {
-        return refuse(refusal, order);
+        return refuse(refusal);
     }
     if !order::deadline::bound_in_range(bound) {
-        return refuse(Refusal::BoundOutOfRange, order);
+        return refuse(Refusal::BoundOutOfRange);
     }
     let t = setting_of(order);
     if rows.len() / 4 < rows_at(order, t.q) {
-        return refuse(Refusal::BufferTooShort, order);
+        return refuse(Refusal::BufferTooShort);
     }
     let why = reason::tell::tell(t, deadline(1000000, bound));
-    let found = why.reason;
-    if is_reason(found) {
+    let tightness = why.tightness;
+    let dues = why.dues;
+    if let Tightness::Tight(reason) = tightness {
         return PlanAnswer {
-            planned: Planned::Tight,
-            why,
+            planned: Planned::Tight(reason),
+            dues,
         };
     }
     let count = make_plan(order, t, bound, rows);
     PlanAnswer {
         planned: Planned::Rows(count as u32),
-        why,
+        dues,
     }
 }

@@ -1,6 +1,6 @@
 // The planner (document 01): the least lateness of an order with a plan at it, and a plan at a given bound.
 use order::Refusal;
-use reason::Why;
+use reason::Reason;
 
 pub mod bound; // plan_at
 pub mod lateness; // least_lateness
@@ -14,15 +14,15 @@ pub enum Least {
     Refused(Refusal),
 }
 
-// The number of rows written; or that the bound is too tight; or why it was not judged.
+// The number of rows written; or why the bound is too tight; or why it was not judged.
 pub enum Planned {
     Rows(u32),
-    Tight,
+    Tight(Reason),
     Refused(Refusal),
 }
 
-// The answer at a bound, and beside it the reason where it is too tight.
+// The answer at a bound, and beside it the due times of a staircase; 0 beyond.
 pub struct PlanAnswer {
     pub planned: Planned,
-    pub why: Why,
+    pub dues: [i32; 16],
 }

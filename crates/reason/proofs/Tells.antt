@@ -19,7 +19,8 @@ use Rattle.tables.specs.declared.Outcome.the-variants.{Places, Nothing as Nowhe
 use Rattle.tables.specs.declared.Stop.{Stop}
 use Rattle.reason.specs.Told.{sixteen}
 use Rattle.reason.specs.Settings.{Fine, firstOf, late, dueAt, dueOr, toldAt, toldBy, toldOf}
-use Rattle.reason.specs.declared.Reason.the-variants.{Job, Stairs, Nothing}
+use Rattle.reason.specs.declared.Reason.the-variants.{Job, Stairs}
+use Rattle.reason.specs.declared.Tightness.the-variants.{Tight, Met}
 use Rattle.reason.specs.declared.Setting.{Setting}
 
 module _ (f : ℕ → ℤ) where
@@ -80,15 +81,15 @@ hit-of t reach fine w k e r = go (firstOf t reach) refl e
 
 module _ (t : Setting) (reach j : ℕ) (e : findingOf j ≡ first (late t reach) (tabulate (t .n) (λ j. j))) where
   -- a job was found
-  pub tell-late : 0 < j → record { reason = Job j (getD (t .times) (j - 1) 0); dues = replicate 16 (pos 0) } ≡ toldOf t reach
+  pub tell-late : 0 < j → record { tightness = Tight (Job j (getD (t .times) (j - 1) 0)); dues = replicate 16 (pos 0) } ≡ toldOf t reach
   unfolding toldOf
   tell-late h = go j h ∙ ap (λ (f : Finding). toldBy t f (firstOf t reach)) e
     where
-      go : (j : ℕ) → 0 < j → record { reason = Job j (getD (t .times) (j - 1) 0); dues = replicate 16 (pos 0) } ≡
+      go : (j : ℕ) → 0 < j → record { tightness = Tight (Job j (getD (t .times) (j - 1) 0)); dues = replicate 16 (pos 0) } ≡
           toldBy t (findingOf j) (firstOf t reach)
       go zero h = absurd (omega arith)
       go (suc i) h =
-          ap (λ (x : ℕ). record { reason = Job (suc i) (getD (t .times) x 0); dues = replicate 16 (pos 0) }) (omega arith)
+          ap (λ (x : ℕ). record { tightness = Tight (Job (suc i) (getD (t .times) x 0)); dues = replicate 16 (pos 0) }) (omega arith)
 
   module _ (h : j ≤ 0) where
     by-profile : toldAt t (firstOf t reach) ≡ toldOf t reach
@@ -104,25 +105,25 @@ module _ (t : Setting) (reach j : ℕ) (e : findingOf j ≡ first (late t reach)
     -- a profile was found
     pub tell-stairs : (w : Stop) (k : ℕ) → Hit t reach w k → (r : List ℤ) →
         (length r ≡ 16) × ((i : ℕ) → i < 16 → getD r i (pos 0) ≡ dueOr (t .grid) (w .at) k i) →
-        record { reason = Stairs k; dues = r } ≡ toldOf t reach
+        record { tightness = Tight (Stairs k); dues = r } ≡ toldOf t reach
     tell-stairs w k x r f =
         let d : r ≡ sixteen (map (λ d. dueAt (getD (t .grid) d 0)) (x .ds))
         = sym (ap (λ (n : ℕ). tabulate n (λ i. getD r i (pos 0))) (sym (f .0)) ∙ tabulate-getD r (pos 0))
         ∙ tabulate-cong 16 (λ i. getD r i (pos 0)) (λ i. getD (map (λ d. dueAt (getD (t .grid) d 0)) (x .ds)) i (pos 0))
         (λ i l.
         f .1 i l ∙ (rw (x .at, ← x .count) (due-or-map (t .grid) (x .ds) i (omega (arith, x .count, x .few))))) in
-        ap (λ (l : List ℤ). record { reason = Stairs k; dues = l }) d
-        ∙ (ap (λ (n : ℕ). record { reason = Stairs n; dues = sixteen (map (λ d. dueAt (getD (t .grid) d 0)) (x .ds)) })
+        ap (λ (l : List ℤ). record { tightness = Tight (Stairs k); dues = l }) d
+        ∙ (ap (λ (n : ℕ). record { tightness = Tight (Stairs n); dues = sixteen (map (λ d. dueAt (getD (t .grid) d 0)) (x .ds)) })
         (sym (x .count))
         ∙ (ap (toldAt t) (sym (x .is)) ∙ by-profile))
 
     -- none was
     pub tell-nothing : (w : Stop) → w ≡ stopAt (firstOf t reach) → w .outcome ≡ Nowhere →
-        record { reason = Nothing; dues = replicate 16 (pos 0) } ≡ toldOf t reach
+        record { tightness = Met; dues = replicate 16 (pos 0) } ≡ toldOf t reach
     unfolding stopAt
     tell-nothing w q r = go (firstOf t reach) refl q
       where
         go : (f : FoundPlaces) → firstOf t reach ≡ f → w ≡ stopAt f →
-            record { reason = Nothing; dues = replicate 16 (pos 0) } ≡ toldOf t reach
+            record { tightness = Met; dues = replicate 16 (pos 0) } ≡ toldOf t reach
         go nothing g q = ap (toldAt t) (sym g) ∙ by-profile
         go (found ds) g q = let z : _≡_ {A = ℕ} 0 1 = cc (ap (λ (v : Stop). v .outcome) q) in absurd (omega arith)

@@ -12,3 +12,4 @@ pub mod Choices
 pub mod Weighing
 pub mod Matching
 pub mod Telling
+pub mod ToldLaws

@@ -20,7 +20,8 @@ use Rattle.reason.specs.Downwards.{listed}
 use Rattle.reason.specs.Told.{sixteen}
 use Rattle.reason.specs.declared.Members.{Members}
 use Rattle.reason.specs.declared.Setting.{Setting}
-use Rattle.reason.specs.declared.Reason.the-variants.{Job, Stairs, Nothing}
+use Rattle.reason.specs.declared.Reason.the-variants.{Job, Stairs}
+use Rattle.reason.specs.declared.Tightness.the-variants.{Tight, Met}
 use Rattle.reason.specs.declared.Why.{Why}
 
 -- what a job owes at the lead g
@@ -86,11 +87,11 @@ dueOr grid at k i = cond (ltb i k) (dueAt (getD grid (getD at i 0) 0)) (pos 0)
 
 -- what is told of a profile found, or of none
 abbrev pub toldAt : Setting → FoundPlaces → Why
-toldAt t nothing = record { reason = Nothing; dues = sixteen [] }
-toldAt t (found ds) = record { reason = Stairs (length ds); dues = sixteen (map (λ d. dueAt (getD (t .grid) d 0)) ds) }
+toldAt t nothing = record { tightness = Met; dues = sixteen [] }
+toldAt t (found ds) = record { tightness = Tight (Stairs (length ds)); dues = sixteen (map (λ d. dueAt (getD (t .grid) d 0)) ds) }
 
 abbrev pub toldBy : Setting → Finding → FoundPlaces → Why
-toldBy t (holds j) f = record { reason = Job j (getD (t .times) (pred j) 0); dues = sixteen [] }
+toldBy t (holds j) f = record { tightness = Tight (Job j (getD (t .times) (pred j) 0)); dues = sixteen [] }
 toldBy t clear f = toldAt t f
 
 -- a job whose time exceeds its end, the first such; if there is none, the first overfull profile

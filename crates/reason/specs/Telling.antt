@@ -30,6 +30,7 @@ use Rattle.reason.specs.Choices.{foundMap, first-image, first-agree, ran
 use Rattle.reason.specs.Weighing.{Within, overfull-weighs}
 use Rattle.reason.specs.Matching.{dueIn, value-same, procs-same}
 use Rattle.reason.specs.declared.Reason.the-variants.{Job as JobReason, Stairs}
+use Rattle.reason.specs.declared.Tightness.the-variants.{Tight}
 use Rattle.reason.specs.declared.Setting.{Setting}
 
 -- a condition about single ones, asked place by place
@@ -162,7 +163,7 @@ module _ (o : Order) (t : Setting) (m : Matches o t) (a : Acceptable o) (bound :
         at : (f : FoundPlaces) → whyOf o (reasonBy clear (foundMap (map (dueIn o t m)) f)) ≡ toldAt t f
         at nothing = refl
         at (found ds) =
-            ap (λ (n : ℕ). record { reason = Stairs n; dues = sixteen (map (dueIn o t m) ds) }) (length-map ds (dueIn o t m))
+            ap (λ (n : ℕ). record { tightness = Tight (Stairs n); dues = sixteen (map (dueIn o t m) ds) }) (length-map ds (dueIn o t m))
 
   told-by : (f : Finding) → firstOverEnd o bound ≡ f → whyOf o (reasonBy f (firstOverfull o bound)) ≡ toldBy t f
       (firstOf t reach)
@@ -171,7 +172,7 @@ module _ (o : Order) (t : Setting) (m : Matches o t) (a : Acceptable o) (bound :
   told-by (holds j) e =
       let r = first-holds over (o .jobs) 0 j e in
       let q : j ≡ suc (r .0) = omega (arith, r .2) in
-      ap (λ (x : ℕ). record { reason = JobReason j x; dues = sixteen [] })
+      ap (λ (x : ℕ). record { tightness = Tight (JobReason j x); dues = sixteen [] })
       (rw q (sym (m .times (r .0) (r .1))))
 
   -- what is told is the reason

@@ -9,16 +9,21 @@ pub mod tell; // the reason at a bound, and the least lateness
 pub mod weight; // what each class weighs at each due time
 
 // Document 01's two kinds of reason: a job whose time exceeds its end, with its number and its time, or a staircase with its
-// class count; or none.
+// class count.
 pub enum Reason {
     Job(u32, u32),
     Stairs(u32),
-    Nothing,
 }
 
-// The reason, and beside it the due times of the classes 1 to k of a staircase; 0 beyond.
+// Whether a bound is too tight, and for which reason.
+pub enum Tightness {
+    Tight(Reason),
+    Met,
+}
+
+// Whether a bound is too tight, and beside it the due times of the classes 1 to k of a staircase; 0 beyond.
 pub struct Why {
-    pub reason: Reason,
+    pub tightness: Tightness,
     pub dues: [i32; 16],
 }
 

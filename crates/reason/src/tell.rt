@@ -1,6 +1,7 @@
 // The reason at a bound, and the least lateness, of a setting. All serve the crates above and have a `requires`.
 use super::Reason;
 use super::Setting;
+use super::Tightness;
 use super::Why;
 use super::given::setting_of;
 use super::lead::due_of;
@@ -19,7 +20,7 @@ ghost use Rattle.order.specs.Refusals.{Accepted, boundInRange, first};
 ghost use Rattle.order.specs.Table.{orderOf, findingOf};
 ghost use Rattle.profile.specs.Search.{reasonOf};
 ghost use Rattle.reason.specs.Settings.{Fine, late, dueOr, toldOf, reachOf};
-ghost use Rattle.reason.specs.Told.{whyOf};
+ghost use Rattle.reason.specs.Told.{whyOf, whyTold};
 
 // The first job whose time exceeds its end, or 0.
 pub fn first_late(o: Setting, reach: u32) -> u32
@@ -65,7 +66,7 @@ pub fn tell(o: Setting, reach: u32) -> Why
     if 0 < j {
         let i = (j - 1) as usize;
         return Why {
-            reason: Reason::Job(j, o.times[i]),
+            tightness: Tightness::Tight(Reason::Job(j, o.times[i])),
             dues: [0i32; 16],
         };
     }
@@ -75,11 +76,11 @@ pub fn tell(o: Setting, reach: u32) -> Why
     let grid = o.grid;
     match outcome {
         Outcome::Places(k) => Why {
-            reason: Reason::Stairs(k),
+            tightness: Tightness::Tight(Reason::Stairs(k)),
             dues: dues_of(grid, at, k),
         },
         Outcome::Nothing => Why {
-            reason: Reason::Nothing,
+            tightness: Tightness::Met,
             dues: [0i32; 16],
         },
     }
@@ -88,6 +89,7 @@ pub fn tell(o: Setting, reach: u32) -> Why
 // Document 01's reason why a bound is too tight, or that there is none.
 pub fn reason_at(order: Order, bound: i32) -> Why
     requires { ⌜ Accepted (orderOf order) × (boundInRange bound ≡ true) ⌝ }
+    ensures { λ r. ⌜ whyTold r ≡ reasonOf (orderOf order) bound ⌝ }
     ensures { λ r. ⌜ r ≡ whyOf (orderOf order) (reasonOf (orderOf order) bound) ⌝ }
 {
     let o = setting_of(order);

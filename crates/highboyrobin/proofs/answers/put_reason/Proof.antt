@@ -26,7 +26,7 @@ time-of-requires c κs = search needs
 put-three-requires : tie.Need-put-three-requires
 put-three-requires c κs =
     let s = c .before .before .before .before .before in (
-      omega (arith, kind-small (s .args .why .reason), c .before .before .kind-of .ensures),
+      omega (arith, kind-small (s .args .why .tightness), c .before .before .kind-of .ensures),
       omega (arith, s .pre .0, c .before .which-of .ensures),
       omega (arith, s .pre .1, c .time-of .ensures),
       omega (arith, s .pre .2),

@@ -120,7 +120,7 @@ returns-4 c =
     let p = c .before .before .before .before .plan-at in
     let same = toZ-ofZ w32 (s .bound) (c .before .before .before .before .before .before .before .before .before .before .before .before .fits .bound) in
     let t = plan-moved (orderOf (r .order)) o _ (s .bound) (s .rows .now) _ (p .result .planned) (order-is f 0 0 r e ok) same (p .ensures .0, p .ensures .1 .1) in
-    let h = planned-tight o (s .bound) (s .rows .now) _ (p .result .planned) t (c .enum-told2 .given .1) in
+    let h = planned-tight o (s .bound) (s .rows .now) _ (p .result .planned) t _ (c .enum-told2 .given .1) in
     plan-refused _ _ _ _ _ _ 10 0 (call-read f (length (s .answer .now)) 1 r e (c .before .before .before .before .before .before .before .before .before .if1 .left) _ ok ∙ h .0) _ (h .1)
 
 same-length-3 : tie.Need-same-length-3

@@ -103,7 +103,7 @@ put-reason-requires c κs =
     let same = toZ-ofZ w32 (s .bound) (c .before .before .before .before .before .before .before .before .before .fits .bound) in
     let b = sym (ap boundInRange same) ∙ sym (c .before .before .before .bound-in-range .ensures) in
     let h = reason-small (orderIn f) (s .bound) a (c .reason-at .result)
-    (why-moved (orderOf (r .order)) (orderIn f) _ (s .bound) _ is same (c .reason-at .ensures)) in
+    (why-moved (orderOf (r .order)) (orderIn f) _ (s .bound) _ is same (c .reason-at .ensures .1)) in
     (h .0, h .1, c .before .before .before .before .before .before .before .if1 .left)
 
 same-length : tie.Need-same-length
@@ -120,7 +120,7 @@ returns-4 c =
     let a = order-accepted f 0 0 r e ok in
     let same = toZ-ofZ w32 (s .bound) (c .before .before .before .before .before .before .before .before .before .before .before .fits .bound) in
     let b = sym (ap boundInRange same) ∙ sym (c .before .before .before .before .before .bound-in-range .ensures) in
-    let w = why-moved (orderOf (r .order)) (orderIn f) _ (s .bound) _ is same (c .before .before .reason-at .ensures) in
+    let w = why-moved (orderOf (r .order)) (orderIn f) _ (s .bound) _ is same (c .before .before .reason-at .ensures .1) in
     let g = reasonOf (orderIn f) (s .bound) in
     ended-done _ _ _ _
     (call-read f (length (s .answer .now)) 19 r e (c .before .before .before .before .before .before .before .before .before .if1 .left) _ ok ∙ bound-accepted (orderIn f) (s .bound) a (b ∙ not-false _ (c .before .before .before .before .if2 .left)))

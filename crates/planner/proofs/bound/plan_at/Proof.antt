@@ -1,7 +1,9 @@
 use Rattle.order.specs.RefusalLaws.{accepted-iff}
 use Rattle.reason.specs.LeadLaws.{reach-most}
 use Rattle.reason.specs.Matching.{fine-of}
+use Rattle.planner.specs.Rows.{rowsAsked}
 use Rattle.planner.proofs.SetupLaws.{stretches-counted}
+use Prim.Native.Nat.{_/_, _≤_}
 use mathlib.Core.Path.{refl, ap, _∙_}
 use lib.IntN.{ℤ, pos, _+ℤ_}
 use Rattle.order.specs.Deadline.{cut}
@@ -21,12 +23,12 @@ use Rattle.planner.proofs.Answers.{
   refused-ensured,
   tight-ensured,
   rows-ensured,
-  reason-there,
-  reason-not-there,
+  told-met,
   out-of-range,
   read-in,
   within-range,
   written-at,
+  classes-few,
   reason-told,
 }
 use borrow.Author.Needs.{needs}
@@ -38,7 +40,6 @@ use Rattle.planner.proofs.bound.plan_at.Lts as lts
 use Rattle.order.proofs.accept.accept.Reads as accept-reads
 use Rattle.order.proofs.deadline.bound_in_range.Reads as bound-in-range-reads
 use Rattle.order.proofs.deadline.deadline.Reads as deadline-reads
-use Rattle.planner.proofs.bound.is_reason.Reads as is-reason-reads
 use Rattle.planner.proofs.bound.refuse.Reads as refuse-reads
 use Rattle.planner.proofs.making.make_plan.Reads as make-plan-reads
 use Rattle.planner.proofs.room.rows_at.Reads as rows-at-reads
@@ -133,53 +134,60 @@ tell-requires c κs =
       ),
     )
 
-is-reason-requires : tie.Need-is-reason-requires
-is-reason-requires c κs = search needs
+enum-known-tightness : tie.Need-enum-known-tightness
+enum-known-tightness c = search needs
 
 returns-4 : tie.Need-returns-4
 returns-4 c =
-    let s = c .before .before .before .before .before .before .before .before .before .before .before .before .before in
+    let s = c .before .before .before .before .before .before .before .before .before .before .before .before .before .before .before in
     let o = orderOf (s .args .order) in
     let e = toZ-ofZ w32 (s .args .bound) (s .fits .bound) in
     let n = length (s .args .rows .now) in
-    let ok = order-accepted o _ (c .before .before .before .before .before .before .before .before .before .before .before .accept .ensures) (c .before .before .before .before .before .before .before .before .before .enum-told .given .1) in
-    let f = reason-told o ok _ (c .before .before .before .before .before .before .setting-of .ensures) (s .args .bound) _ e _ (c .before .before .before .deadline .ensures) _ (c .before .before .tell .ensures) in
-    tight-ensured o (s .args .bound) n ok (within-range _ _ e _ (c .before .before .before .before .before .before .before .before .bound-in-range .ensures) (c .before .before .before .before .before .before .before .if1 .left))
-    (omega (arith, c .before .before .before .before .if2 .left, c .before .before .before .before .before .rows-at .ensures .0)) (s .args .rows .now) _ f
-    (reason-there o (reasonOf o (s .args .bound)) _ _ f (c .before .is-reason .ensures) (c .if3 .taken))
+    let ok = order-accepted o _ (c .before .before .before .before .before .before .before .before .before .before .before .before .before .accept .ensures) (c .before .before .before .before .before .before .before .before .before .before .before .enum-told .given .1) in
+    let m = c .before .before .before .before .before .before .before .before .setting-of .ensures in
+    let f = reason-told o ok _ m (s .args .bound) _ e _ (c .before .before .before .before .before .deadline .ensures) _ (c .before .before .before .before .tell .ensures) in
+    let in-range = within-range _ _ e _ (c .before .before .before .before .before .before .before .before .before .before .bound-in-range .ensures) (c .before .before .before .before .before .before .before .before .before .if1 .left) in
+    let room : rowsAsked o ≤ n / 4 = omega (arith, c .before .before .before .before .before .before .if2 .left, c .before .before .before .before .before .before .before .rows-at .ensures .0) in
+    tight-ensured o (s .args .bound) n ok in-range room (classes-few o m) _ f (s .args .rows .now) _ (c .before .tightness .given .1)
+
+enum-told-2 : tie.Need-enum-told-2
+enum-told-2 c = search needs
 
 make-plan-requires : tie.Need-make-plan-requires
 make-plan-requires c κs =
-    let s = c .before .before .before .before .before .before .before .before .before .before .before .before .before .before in
+    let s = c .before .before .before .before .before .before .before .before .before .before .before .before .before .before .before in
     let o = orderOf (s .args .order) in
     let e = toZ-ofZ w32 (s .args .bound) (s .fits .bound) in
     let n = length (s .args .rows .now) in
-    let ok = order-accepted o _ (c .before .before .before .before .before .before .before .before .before .before .before .before .accept .ensures) (c .before .before .before .before .before .before .before .before .before .before .enum-told .given .1) in
-    let f = reason-told o ok _ (c .before .before .before .before .before .before .before .setting-of .ensures) _ _ refl _ (c .before .before .before .before .deadline .ensures) _ (c .before .before .before .tell .ensures) in (
+    let ok = order-accepted o _ (c .before .before .before .before .before .before .before .before .before .before .before .before .before .accept .ensures) (c .before .before .before .before .before .before .before .before .before .before .before .enum-told .given .1) in
+    let m = c .before .before .before .before .before .before .before .before .setting-of .ensures in
+    let room : rowsAsked o ≤ n / 4 = omega (arith, c .before .before .before .before .before .before .if2 .left, c .before .before .before .before .before .before .before .rows-at .ensures .0) in
+    let f = reason-told o ok _ m _ _ refl _ (c .before .before .before .before .before .deadline .ensures) _ (c .before .before .before .before .tell .ensures) in (
       ok,
-      read-in _ _ e _ (c .before .before .before .before .before .before .before .before .before .bound-in-range .ensures) (c .before .before .before .before .before .before .before .before .if1 .left),
-      reason-none o _ .0 (reason-not-there o _ _ _ f (c .before .before .is-reason .ensures) (c .before .if3 .left)),
-      omega (arith, c .before .before .before .before .before .if2 .left, c .before .before .before .before .before .before .rows-at .ensures .0),
-      c .before .before .before .before .before .before .before .setting-of .ensures,
+      read-in _ _ e _ (c .before .before .before .before .before .before .before .before .before .before .bound-in-range .ensures) (c .before .before .before .before .before .before .before .before .before .if1 .left),
+      reason-none o _ .0 (told-met o _ _ f (c .before .enum-told2 .given .1)),
+      omega arith,
+      m,
     )
 
-cast-t17 : tie.Need-cast-t17
-cast-t17 c = search needs
+cast-t19 : tie.Need-cast-t19
+cast-t19 c = search needs
 
 same-length : tie.Need-same-length
 same-length c = search needs
 
 returns-5 : tie.Need-returns-5
 returns-5 c =
-    let s = c .before .before .before .before .before .before .before .before .before .before .before .before .before .before .before .before .before in
+    let s = c .before .before .before .before .before .before .before .before .before .before .before .before .before .before .before .before .before .before in
     let o = orderOf (s .args .order) in
     let e = toZ-ofZ w32 (s .args .bound) (s .fits .bound) in
     let n = length (s .args .rows .now) in
-    let ok = order-accepted o _ (c .before .before .before .before .before .before .before .before .before .before .before .before .before .before .before .accept .ensures) (c .before .before .before .before .before .before .before .before .before .before .before .before .before .enum-told .given .1) in
-    let f = reason-told o ok _ (c .before .before .before .before .before .before .before .before .before .before .setting-of .ensures) (s .args .bound) _ e _ (c .before .before .before .before .before .before .before .deadline .ensures) _ (c .before .before .before .before .before .before .tell .ensures) in
-    rows-ensured o (s .args .bound) n ok (within-range _ _ e _ (c .before .before .before .before .before .before .before .before .before .before .before .before .bound-in-range .ensures) (c .before .before .before .before .before .before .before .before .before .before .before .if1 .left))
-    (omega (arith, c .before .before .before .before .before .before .before .before .if2 .left, c .before .before .before .before .before .before .before .before .before .rows-at .ensures .0)) (s .args .rows .now) _ _ _ f
-    (reason-not-there o (reasonOf o (s .args .bound)) _ _ f (c .before .before .before .before .before .is-reason .ensures) (c .before .before .before .before .if3 .left))
+    let ok = order-accepted o _ (c .before .before .before .before .before .before .before .before .before .before .before .before .before .before .before .before .accept .ensures) (c .before .before .before .before .before .before .before .before .before .before .before .before .before .before .enum-told .given .1) in
+    let m = c .before .before .before .before .before .before .before .before .before .before .before .setting-of .ensures in
+    let f = reason-told o ok _ m (s .args .bound) _ e _ (c .before .before .before .before .before .before .before .before .deadline .ensures) _ (c .before .before .before .before .before .before .before .tell .ensures) in
+    let in-range = within-range _ _ e _ (c .before .before .before .before .before .before .before .before .before .before .before .before .before .bound-in-range .ensures) (c .before .before .before .before .before .before .before .before .before .before .before .before .if1 .left) in
+    let room : rowsAsked o ≤ n / 4 = omega (arith, c .before .before .before .before .before .before .before .before .before .if2 .left, c .before .before .before .before .before .before .before .before .before .before .rows-at .ensures .0) in
+    rows-ensured o (s .args .bound) n ok in-range room (classes-few o m) _ f (s .args .rows .now) _ _ (c .before .before .before .before .enum-told2 .given .1)
     (written-at e (c .before .before .make-plan .ensures .0))
 
 pub plan-at-spec : {M : Type 1} → statement M
@@ -200,9 +208,10 @@ plan-at-spec =
     returns-3
     deadline-requires
     tell-requires
-    is-reason-requires
+    enum-known-tightness
     returns-4
+    enum-told-2
     make-plan-requires
-    cast-t17
+    cast-t19
     same-length
     returns-5)

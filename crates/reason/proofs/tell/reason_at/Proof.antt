@@ -1,9 +1,12 @@
+use Prim.Native.Nat.{_≤_}
 use mathlib.Core.Path.{_≡_, ap, _∙_}
 use native.Mathlib.Omega.{arith}
 use borrow.Author.Needs.{needs}
 use lib.IntN.{ℤ, pos, _+ℤ_}
+use lib.ListN.{length}
 use mir.Syntax.{w32}
 use mir.ValLaws.{toZ-ofZ}
+use Rattle.order.specs.Class.{classes}
 use Rattle.order.specs.Deadline.{cut}
 use Rattle.order.specs.RefusalLaws.{accepted-iff}
 use Rattle.order.specs.Table.{orderOf}
@@ -11,6 +14,7 @@ use Rattle.reason.specs.Settings.{toldOf}
 use Rattle.reason.specs.LeadLaws.{reach-most}
 use Rattle.reason.specs.Matching.{fine-of}
 use Rattle.reason.specs.Telling.{told-is}
+use Rattle.reason.specs.ToldLaws.{why-told}
 use Rattle.reason.proofs.tell.reason_at.Statement.{statement}
 use Rattle.reason.proofs.tell.reason_at.Tie as tie
 
@@ -39,9 +43,11 @@ returns c =
     let e : c .before .deadline .result ≡ cut (pos 1000000 +ℤ s .args .bound)
     = c .before .deadline .ensures ∙ ap (λ (z : ℤ). cut (pos 1000000 +ℤ z))
     (toZ-ofZ w32 (s .args .bound) (s .fits .bound)) in
-    c .tell .ensures
+    let is = c .tell .ensures
     ∙ (ap (toldOf (f .result)) e
-    ∙ told-is o (f .result) (f .ensures) (accepted-iff o .0 (s .pre .0)) (s .args .bound))
+    ∙ told-is o (f .result) (f .ensures) (accepted-iff o .0 (s .pre .0)) (s .args .bound)) in
+    let few : length (classes o) ≤ 16 = omega (arith, f .ensures .classed, f .ensures .few-classes) in
+    (why-told o (s .args .bound) few (c .tell .result) is, is)
 
 pub reason-at-spec : {M : Type 1} → statement M
 reason-at-spec = tie.close (tie.spec setting-of-requires deadline-requires tell-requires returns)
