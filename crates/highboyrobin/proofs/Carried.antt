@@ -10,82 +10,82 @@ use lib.ListN.{length}
 use Rattle.order.specs.Order.{Order, processorCount, jobCount}
 use Rattle.order.specs.Refusals.{limits, TableRow, Verdict, accepted, refused, holds, verdictOf, judge, row, whole, firstAfter, countRows, jobRows, orderRows, boundInRange}
 use Rattle.order.specs.RefusalLaws.{judge-accepted-append, judge-refused-append, counts-in-limits}
+use Rattle.order.specs.Table.{carriedBy}
 use Rattle.order_file.specs.File.{goodFile, orderIn, readRows, fileLength, writeRows}
 use Rattle.plan.specs.Check.{checkRows}
 use Rattle.profile.specs.Search.{reasonOf}
 use Rattle.planner.specs.Rows.{rowsAsked, isFound, leastRows, earlierRows, planRows}
-use Rattle.highboyrobin.specs.Results.{jobBy}
 
 -- a refusal carries what its verdict carries
-pub carried-few : (v w : Verdict) → v ≡ w → jobBy v ≤ 48 → jobBy w ≤ 48
-carried-few v w e h = subst (λ (v : Verdict). jobBy v ≤ 48) e h
+pub carried-few : (v w : Verdict) → v ≡ w → carriedBy v ≤ 48 → carriedBy w ≤ 16777215
+carried-few v w e h = subst (λ (v : Verdict). carriedBy v ≤ 16777215) e (omega arith)
 
 -- a row about no single job carries 0
-pub whole-carries : (number most : ℕ) (b : Bool) (rows : List TableRow) → jobBy (judge rows) ≤ most →
-    jobBy (judge (row number (whole b) ∷ rows)) ≤ most
+pub whole-carries : (number most : ℕ) (b : Bool) (rows : List TableRow) → carriedBy (judge rows) ≤ most →
+    carriedBy (judge (row number (whole b) ∷ rows)) ≤ most
 unfolding judge
 whole-carries number most true rows h = omega arith
 whole-carries number most false rows h = h
 
 -- a row about single jobs carries one of them
 first-carries : {A : Type 0} (number k most : ℕ) (test : A → Bool) (xs : List A) (later : Verdict) → length xs + k ≤ most →
-    jobBy later ≤ most → jobBy (verdictOf number (firstAfter k test xs) later) ≤ most
+    carriedBy later ≤ most → carriedBy (verdictOf number (firstAfter k test xs) later) ≤ most
 unfolding firstAfter
 first-carries number k most test [] later h l = l
 first-carries number k most test (x ∷ xs) later h l =
     at (test x) (first-carries number (suc k) most test xs later (omega arith) l)
   where
-    at : (b : Bool) → jobBy (verdictOf number (firstAfter (suc k) test xs) later) ≤ most →
-        jobBy (verdictOf number (cond b (holds (suc k)) (firstAfter (suc k) test xs)) later) ≤ most
+    at : (b : Bool) → carriedBy (verdictOf number (firstAfter (suc k) test xs) later) ≤ most →
+        carriedBy (verdictOf number (cond b (holds (suc k)) (firstAfter (suc k) test xs)) later) ≤ most
     at true q = omega arith
     at false q = q
 
-job-carries : (o : Order) → jobCount o ≤ 48 → jobBy (judge (jobRows o)) ≤ 48
+job-carries : (o : Order) → jobCount o ≤ 48 → carriedBy (judge (jobRows o)) ≤ 48
 unfolding judge
 job-carries o h =
     first-carries 5 0 48 _ (o .jobs) _ (omega arith)
     (first-carries 6 0 48 _ (o .jobs) _ (omega arith) (first-carries 7 0 48 _ (o .jobs) _ (omega arith) (omega arith)))
 
-none-carries : jobBy (judge []) ≤ 48
+none-carries : carriedBy (judge []) ≤ 48
 unfolding judge
 none-carries = omega arith
 
-count-carries : (processors jobs : ℕ) → jobBy (judge (countRows limits processors jobs)) ≤ 48
+count-carries : (processors jobs : ℕ) → carriedBy (judge (countRows limits processors jobs)) ≤ 48
 count-carries processors jobs =
     whole-carries 1 48 (eqb processors 0) _ (whole-carries 2 48 (ltb 16 processors) _
     (whole-carries 3 48 (eqb jobs 0) _ (whole-carries 4 48 (ltb 48 jobs) [] none-carries)))
 
 -- one table after another
-append-carries : (rows later : List TableRow) → jobBy (judge rows) ≤ 48 → jobBy (judge later) ≤ 48 →
-    jobBy (judge (rows ++ later)) ≤ 48
+append-carries : (rows later : List TableRow) → carriedBy (judge rows) ≤ 48 → carriedBy (judge later) ≤ 48 →
+    carriedBy (judge (rows ++ later)) ≤ 48
 append-carries rows later h l = decided (judge rows) refl
   where
-    decided : (v : Verdict) → judge rows ≡ v → jobBy (judge (rows ++ later)) ≤ 48
+    decided : (v : Verdict) → judge rows ≡ v → carriedBy (judge (rows ++ later)) ≤ 48
     decided accepted e = rw (judge-accepted-append rows later e) l
     decided (refused n j) e = rw (judge-refused-append rows later n j e) (rw e at h)
 
-order-carries : (o : Order) → jobBy (judge (orderRows limits o)) ≤ 48
+order-carries : (o : Order) → carriedBy (judge (orderRows limits o)) ≤ 48
 order-carries o = decided (judge counts) refl
   where
     counts : List TableRow
     counts = countRows limits (processorCount o) (jobCount o)
 
-    decided : (v : Verdict) → judge counts ≡ v → jobBy (judge (counts ++ jobRows o)) ≤ 48
+    decided : (v : Verdict) → judge counts ≡ v → carriedBy (judge (counts ++ jobRows o)) ≤ 48
     decided accepted e =
         rw (judge-accepted-append counts (jobRows o) e)
         (job-carries o (counts-in-limits (processorCount o) (jobCount o) e .3))
     decided (refused n j) e =
         rw (judge-refused-append counts (jobRows o) n j e) (rw e at (count-carries (processorCount o) (jobCount o)))
 
-pub read-carries : (f : List ℕ) → jobBy (judge (readRows f)) ≤ 48
+pub read-carries : (f : List ℕ) → carriedBy (judge (readRows f)) ≤ 48
 unfolding readRows
 read-carries f = whole-carries 12 48 (not (goodFile f)) _ (order-carries (orderIn f))
 
-pub least-carries : (o : Order) (n : ℕ) → jobBy (judge (leastRows o n)) ≤ 48
+pub least-carries : (o : Order) (n : ℕ) → carriedBy (judge (leastRows o n)) ≤ 48
 unfolding leastRows
 least-carries o n = append-carries (orderRows limits o) _ (order-carries o) (whole-carries 9 48 (ltb (n / 4) (rowsAsked o)) [] none-carries)
 
-pub plan-carries : (o : Order) (bound : ℤ) (n : ℕ) → jobBy (judge (planRows o bound n)) ≤ 48
+pub plan-carries : (o : Order) (bound : ℤ) (n : ℕ) → carriedBy (judge (planRows o bound n)) ≤ 48
 unfolding planRows earlierRows
 plan-carries o bound n =
     append-carries (earlierRows o bound n) _
@@ -93,13 +93,13 @@ plan-carries o bound n =
     (whole-carries 8 48 (not (boundInRange bound)) _ (whole-carries 9 48 (ltb (n / 4) (rowsAsked o)) [] none-carries)))
     (whole-carries 10 48 (isFound (reasonOf o bound)) [] none-carries)
 
-pub check-carries : (o : Order) (bound : ℤ) (n : ℕ) → jobBy (judge (checkRows o bound n)) ≤ 48
+pub check-carries : (o : Order) (bound : ℤ) (n : ℕ) → carriedBy (judge (checkRows o bound n)) ≤ 48
 unfolding checkRows
 check-carries o bound n =
     append-carries (orderRows limits o) _ (order-carries o)
     (whole-carries 8 48 (not (boundInRange bound)) _ (whole-carries 11 48 (ltb 3024 ((n + 3) / 4)) [] none-carries))
 
-pub write-carries : (o : Order) (n : ℕ) → jobBy (judge (writeRows o n)) ≤ 48
+pub write-carries : (o : Order) (n : ℕ) → carriedBy (judge (writeRows o n)) ≤ 48
 unfolding writeRows
 write-carries o n =
     append-carries (orderRows limits o) _ (order-carries o) (whole-carries 9 48 (ltb n (fileLength o)) [] none-carries)

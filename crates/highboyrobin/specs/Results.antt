@@ -6,20 +6,12 @@ use lib.Dec.{ltb, eqb}
 use lib.IntN.{ℤ}
 use lib.ListN.{length, drop}
 use Rattle.order.specs.Refusals.{TableRow, Verdict, accepted, refused, row, whole, fileRow}
+use Rattle.order.specs.Table.{numberBy, carriedBy}
 use Rattle.order_file.specs.File.{goodFile}
 
--- the number of a refusal, and the job that it carries; 0 where there is none
-abbrev pub numberBy : Verdict → ℕ
-numberBy accepted = 0
-numberBy (refused number job) = number
-
-abbrev pub jobBy : Verdict → ℕ
-jobBy accepted = 0
-jobBy (refused number job) = job
-
--- the result: 0 where the call succeeds, else the refusal's number and 256 times the job
+-- the result: 0 where the call succeeds, else the refusal's number and 256 times what it carries
 abbrev pub resultOf : Verdict → ℕ
-resultOf v = numberBy v + 256 * jobBy v
+resultOf v = numberBy v + 256 * carriedBy v
 
 -- the lent answer at exit: these numbers and what stood beyond them; what it held where the call is refused
 abbrev pub answeredBy : Verdict → List ℤ → List ℤ → List ℤ

@@ -46,7 +46,7 @@ tableOf o = record {
   needs = tabulate (limits .jobs) (λ j. getD (o .jobs) j noJob .need);
 }
 
--- document 01's number of a refusal, and the job that it carries
+-- document 01's number of a refusal, and what it carries
 abbrev pub refusalTold : Refusal → Verdict
 refusalTold NoProcessor = refused 1 0
 refusalTold TooManyProcessors = refused 2 0
@@ -59,6 +59,15 @@ refusalTold BoundOutOfRange = refused 8 0
 refusalTold BufferTooShort = refused 9 0
 refusalTold TooManyRows = refused 11 0
 refusalTold BadFile = refused 12 0
+
+-- the number of a verdict, and what it carries; 0 where nothing is refused
+abbrev pub numberBy : Verdict → ℕ
+numberBy accepted = 0
+numberBy (refused number carried) = number
+
+abbrev pub carriedBy : Verdict → ℕ
+carriedBy accepted = 0
+carriedBy (refused number carried) = carried
 
 -- the answer of acceptance
 abbrev pub acceptanceTold : Acceptance → Verdict
