@@ -1,33 +1,16 @@
--- What an answer tells of the table's verdict, and what a refused call leaves behind.
+-- What a call leaves behind, by the table's verdict.
 use Prim.Native.Nat.{ℕ, _+_, _*_}
 use mathlib.Core.Path.{_≡_, refl, sym, ap, _∙_, subst}
 use mathlib.Core.List.{List, _++_}
-use native.Mathlib.Omega.{arith}
 use lib.IntN.{ℤ}
 use lib.ListN.{length, drop}
 use Rattle.order.specs.Order.{Order}
-use Rattle.order.specs.Refusals.{Verdict, accepted, refused, answer, refusal, answerBy}
+use Rattle.order.specs.Refusals.{Verdict, accepted, refused}
 use Rattle.order.specs.Table.{refusalTold}
 use Rattle.order.specs.TableLaws.{refused-told}
 use Rattle.order.specs.declared.Refusal.{Refusal}
 use Rattle.highboyrobin.specs.Results.{resultOf, answeredBy}
 use Rattle.highboyrobin.specs.Calls.{PlanAnswered, PlanBy}
-
-module _ {A : Type 0} where
-  pub refused-by : (v : Verdict) (number job : ℕ) (a : A) → refusal number job ≡ answerBy v a → v ≡ refused number job
-  refused-by accepted number job a e = let z : _≡_ {A = ℕ} 0 1 = cc in absurd (omega arith)
-  refused-by (refused n j) number job a e = cc
-
-  -- a refusal of the code is the verdict
-  pub verdict-refused : (v : Verdict) (why : Refusal) (a b : A) → answerBy (refusalTold why) a ≡ answerBy v b → v ≡ refusalTold why
-  verdict-refused v why a b e =
-      let t = refused-told why in
-      refused-by v (t .0) (t .1) b (sym (ap (λ (w : Verdict). answerBy w a) (t .2)) ∙ e) ∙ sym (t .2)
-
-  -- where something is answered, the table accepts, and it is the value
-  pub verdict-accepted : (v : Verdict) (a b : A) → answer a ≡ answerBy v b → (v ≡ accepted) × (a ≡ b)
-  verdict-accepted accepted a b e = (refl, cc)
-  verdict-accepted (refused n j) a b e = let z : _≡_ {A = ℕ} 0 1 = cc in absurd (omega arith)
 
 -- what a call leaves behind, by the verdict
 module _ (v : Verdict) (numbers entry : List ℤ) where

@@ -13,7 +13,7 @@ use Rattle.plan.specs.Check.{isRight, checkRows}
 use Rattle.plan.specs.Told.{checkedTold}
 use Rattle.plan.specs.declared.Checked.{Checked}
 use Rattle.plan.specs.declared.Checked.the-variants.{Yes, No, Refused}
-use Rattle.highboyrobin.proofs.Answering.{verdict-refused, verdict-accepted}
+use Rattle.order.specs.TableLaws.{verdict-refused, verdict-accepted}
 
 pub check-begins : (o : Order) (bound : ℤ) (n : ℕ) →
     checkRows o bound n ≡ orderRows limits o ++ (boundRow bound ∷ rowsToCheckRow n ∷ [])

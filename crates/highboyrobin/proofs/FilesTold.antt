@@ -13,7 +13,6 @@ use Rattle.order.specs.Order.{Order, processorCount, jobCount}
 use Rattle.order.specs.Refusals.{limits, Verdict, accepted, refused, judge, answerBy, roomRow, countRows, orderRows}
 use Rattle.order.specs.RefusalLaws.{judge-accepted, counts-in-limits}
 use Rattle.order.specs.Table.{refusalTold}
-use Rattle.order.specs.TableLaws.{refused-told}
 use Rattle.order.specs.declared.Refusal.{Refusal}
 use Rattle.order_file.specs.File.{fileLength, writeRows, writtenBy}
 use Rattle.order_file.specs.Told.{writtenTold}
@@ -21,7 +20,7 @@ use Rattle.order_file.specs.declared.OrderWritten.{OrderWritten}
 use Rattle.order_file.specs.declared.OrderWritten.the-variants.{Bytes, Refused}
 use Rattle.highboyrobin.specs.Results.{resultOf, answeredBy}
 use Rattle.highboyrobin.specs.Calls.{orderFrom, writeCall}
-use Rattle.highboyrobin.proofs.Answering.{verdict-refused, verdict-accepted}
+use Rattle.order.specs.TableLaws.{refused-told, verdict-refused, verdict-accepted}
 
 -- result, file and answer, by the verdict
 module _ (v : Verdict) (o : Order) (file : List ℕ) (entry : List ℤ) where

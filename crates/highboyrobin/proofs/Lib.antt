@@ -3,7 +3,6 @@ mod Carried
 mod Calling
 mod Stored
 mod Gathered
-mod PlansTold
 mod ReasonTold
 mod ChecksTold
 mod FilesTold

@@ -1,8 +1,9 @@
 -- A refusal of the code is a refusal of the table, and stands whatever rows follow.
 use Prim.Native.Nat.{ℕ}
-use mathlib.Core.Path.{_≡_, refl, sym, _∙_}
+use mathlib.Core.Path.{_≡_, refl, sym, ap, _∙_}
 use mathlib.Core.List.{List, _++_}
-use Rattle.order.specs.Refusals.{TableRow, Verdict, accepted, refused, judge, Answer, answerBy}
+use native.Mathlib.Omega.{arith}
+use Rattle.order.specs.Refusals.{TableRow, Verdict, accepted, refused, judge, answer, refusal, answerBy}
 use Rattle.order.specs.RefusalLaws.{judge-refused-append}
 use Rattle.order.specs.Table.{refusalTold}
 use Rattle.order.specs.declared.Refusal.{Refusal}
@@ -40,3 +41,20 @@ pub refused-answer : {A : Type 0} (rows later : List TableRow) (r : Refusal) (a 
 refused-answer rows later r a b e =
     let t = refused-told r in
     rw (judge-refused-append rows later (t .0) (t .1) (sym e ∙ t .2), t .2)
+
+-- what an answer tells of the table's verdict
+module _ {A : Type 0} where
+  pub refused-by : (v : Verdict) (number job : ℕ) (a : A) → refusal number job ≡ answerBy v a → v ≡ refused number job
+  refused-by accepted number job a e = let z : _≡_ {A = ℕ} 0 1 = cc in absurd (omega arith)
+  refused-by (refused n j) number job a e = cc
+
+  -- a refusal of the code is the verdict
+  pub verdict-refused : (v : Verdict) (why : Refusal) (a b : A) → answerBy (refusalTold why) a ≡ answerBy v b → v ≡ refusalTold why
+  verdict-refused v why a b e =
+      let t = refused-told why in
+      refused-by v (t .0) (t .1) b (sym (ap (λ (w : Verdict). answerBy w a) (t .2)) ∙ e) ∙ sym (t .2)
+
+  -- where something is answered, the table accepts, and it is the value
+  pub verdict-accepted : (v : Verdict) (a b : A) → answer a ≡ answerBy v b → (v ≡ accepted) × (a ≡ b)
+  verdict-accepted accepted a b e = (refl, cc)
+  verdict-accepted (refused n j) a b e = let z : _≡_ {A = ℕ} 0 1 = cc in absurd (omega arith)

@@ -6,3 +6,4 @@ pub mod PaddedLaws
 pub mod ByteLaws
 pub mod FileLaws
 pub mod RoundTrip
+pub mod ReaderLaws

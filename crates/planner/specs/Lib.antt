@@ -5,3 +5,4 @@ pub mod RowLaws
 pub mod LeastRead
 pub mod Demand
 pub mod DemandMet
+pub mod AnswerLaws

@@ -8,7 +8,8 @@ use Rattle.order.specs.Table.{orderOf}
 use Rattle.order_file.specs.File.{orderIn}
 use Rattle.highboyrobin.proofs.Answering.{ended-refused, ended-told, ended-done}
 use Rattle.highboyrobin.proofs.Carried.{carried-few, read-carries, check-carries}
-use Rattle.highboyrobin.proofs.Calling.{call-short, reader-refused, order-is, call-refused, call-read}
+use Rattle.order_file.specs.ReaderLaws.{reader-refused, order-is}
+use Rattle.highboyrobin.proofs.Calling.{call-short, call-refused, call-read}
 use Rattle.highboyrobin.specs.Calls.{yesOrNo}
 use Rattle.highboyrobin.proofs.ChecksTold.{check-begins, check-moved, check-refused, check-yes, check-no}
 use borrow.Author.Needs.{needs}
@@ -35,7 +36,7 @@ enum-known-status c = search needs
 result-of-requires : tie.Need-result-of-requires
 result-of-requires c κs =
     let f = c .before .before .before .before .before .before .before .args .file .now in
-    carried-few _ _ (reader-refused f 0 0 (c .before .before .before .read-order .result) (c .before .before .before .read-order .ensures .0) (c .before .status .given .0 .0) (c .before .status .given .1))
+    carried-few _ _ (reader-refused f (c .before .before .before .read-order .result) (c .before .before .before .read-order .ensures .0) (c .before .status .given .0 .0) (c .before .status .given .1))
     (read-carries f)
 
 returns-2 : tie.Need-returns-2
@@ -65,7 +66,7 @@ result-of-requires-2 c κs =
     let ok = c .before .before .before .before .enum-told .given .1 in
     let p = c .before .before .before .check-plan in
     let same = toZ-ofZ w32 (s .bound) (c .before .before .before .before .before .before .before .before .before .before .fits .bound) in
-    let t = check-moved (orderOf (r .order)) o _ (s .bound) (s .rows .now) (p .result) (order-is f 0 0 r e ok) same (p .ensures) in
+    let t = check-moved (orderOf (r .order)) o _ (s .bound) (s .rows .now) (p .result) (order-is f r e ok) same (p .ensures) in
     carried-few _ _ (check-refused o (s .bound) (s .rows .now) (p .result) t (c .before .checked .given .0 .0) (c .before .checked .given .1))
     (check-carries o (s .bound) (length (s .rows .now)))
 
@@ -91,7 +92,7 @@ returns-3 c =
     let ok = c .before .before .before .before .before .enum-told .given .1 in
     let p = c .before .before .before .before .check-plan in
     let same = toZ-ofZ w32 (s .bound) (c .before .before .before .before .before .before .before .before .before .before .before .fits .bound) in
-    let t = check-moved (orderOf (r .order)) o _ (s .bound) (s .rows .now) (p .result) (order-is f 0 0 r e ok) same (p .ensures) in
+    let t = check-moved (orderOf (r .order)) o _ (s .bound) (s .rows .now) (p .result) (order-is f r e ok) same (p .ensures) in
     ended-told _ _ _ (c .before .before .checked .given .0 .0)
     (call-read f (length (s .answer .now)) 1 r e (c .before .before .before .before .before .before .before .before .if1 .left) _ ok
     ∙ check-refused o (s .bound) (s .rows .now) (p .result) t (c .before .before .checked .given .0 .0) (c .before .before .checked .given .1))
@@ -110,7 +111,7 @@ returns-4 c =
     let ok = c .before .before .before .before .before .before .enum-told .given .1 in
     let p = c .before .before .before .before .before .check-plan in
     let same = toZ-ofZ w32 (s .bound) (c .before .before .before .before .before .before .before .before .before .before .before .before .fits .bound) in
-    let t = check-moved (orderOf (r .order)) o _ (s .bound) (s .rows .now) (p .result) (order-is f 0 0 r e ok) same (p .ensures) in
+    let t = check-moved (orderOf (r .order)) o _ (s .bound) (s .rows .now) (p .result) (order-is f r e ok) same (p .ensures) in
     let h = check-yes o (s .bound) (s .rows .now) (p .result) t (c .before .before .before .enum-told2 .given .1) in
     ended-done _ _ _ _ (call-read f (length (s .answer .now)) 1 r e (c .before .before .before .before .before .before .before .before .before .if1 .left) _ ok ∙ h .0)
     (c .before .put-count .ensures ∙ ap (λ (b : Bool). yesOrNo b ++ drop 1 (s .answer .now)) (h .1))
@@ -128,7 +129,7 @@ returns-5 c =
     let ok = c .before .before .before .before .before .before .enum-told .given .1 in
     let p = c .before .before .before .before .before .check-plan in
     let same = toZ-ofZ w32 (s .bound) (c .before .before .before .before .before .before .before .before .before .before .before .before .fits .bound) in
-    let t = check-moved (orderOf (r .order)) o _ (s .bound) (s .rows .now) (p .result) (order-is f 0 0 r e ok) same (p .ensures) in
+    let t = check-moved (orderOf (r .order)) o _ (s .bound) (s .rows .now) (p .result) (order-is f r e ok) same (p .ensures) in
     let h = check-no o (s .bound) (s .rows .now) (p .result) t (c .before .before .before .enum-told3 .given .1) in
     ended-done _ _ _ _ (call-read f (length (s .answer .now)) 1 r e (c .before .before .before .before .before .before .before .before .before .if1 .left) _ ok ∙ h .0)
     (c .before .put-count2 .ensures ∙ ap (λ (b : Bool). yesOrNo b ++ drop 1 (s .answer .now)) (h .1))

@@ -7,7 +7,8 @@ use Rattle.order_file.specs.File.{orderIn}
 use Rattle.highboyrobin.specs.Calls.{sizesOf}
 use Rattle.highboyrobin.proofs.Answering.{ended-refused, ended-told, ended-done}
 use Rattle.highboyrobin.proofs.Carried.{carried-few, read-carries}
-use Rattle.highboyrobin.proofs.Calling.{call-short, reader-refused, order-is, order-accepted, call-refused, call-read}
+use Rattle.order_file.specs.ReaderLaws.{reader-refused, order-is, order-accepted}
+use Rattle.highboyrobin.proofs.Calling.{call-short, call-refused, call-read}
 use borrow.Author.Needs.{needs}
 use Rattle.highboyrobin.proofs.judging.hbr_judge.Statement.{statement}
 use Rattle.highboyrobin.proofs.judging.hbr_judge.Tie as tie
@@ -31,7 +32,7 @@ enum-known-status c = search needs
 result-of-requires : tie.Need-result-of-requires
 result-of-requires c κs =
     let f = c .before .before .before .before .before .before .args .file .now in
-    carried-few _ _ (reader-refused f 0 0 (c .before .before .before .read-order .result) (c .before .before .before .read-order .ensures .0) (c .before .status .given .0 .0) (c .before .status .given .1))
+    carried-few _ _ (reader-refused f (c .before .before .before .read-order .result) (c .before .before .before .read-order .ensures .0) (c .before .status .given .0 .0) (c .before .status .given .1))
     (read-carries f)
 
 returns-2 : tie.Need-returns-2
@@ -52,7 +53,7 @@ put-sizes-requires c κs =
     let r = c .before .before .before .read-order .result in
     let e = c .before .before .before .read-order .ensures .0 in
     let ok = c .before .enum-told .given .1 in
-    (subst Accepted (sym (order-is f 0 0 r e ok)) (order-accepted f 0 0 r e ok), c .before .before .before .before .if1 .left)
+    (subst Accepted (sym (order-is f r e ok)) (order-accepted f r e ok), c .before .before .before .before .if1 .left)
 
 same-length : tie.Need-same-length
 same-length c = search needs
@@ -64,8 +65,8 @@ returns-3 c =
     let e = c .before .before .before .before .before .read-order .ensures .0 in
     let ok = c .before .before .before .enum-told .given .1 in
     ended-done _ _ _ _
-    (call-read (s .file .now) (length (s .answer .now)) 3 r e (c .before .before .before .before .before .before .if1 .left) _ ok ∙ order-accepted (s .file .now) 0 3 r e ok)
-    (c .before .put-sizes .ensures ∙ ap (λ (o : Order). sizesOf o ++ drop 3 (s .answer .now)) (order-is (s .file .now) 0 0 r e ok))
+    (call-read (s .file .now) (length (s .answer .now)) 3 r e (c .before .before .before .before .before .before .if1 .left) _ ok ∙ order-accepted (s .file .now) r e ok)
+    (c .before .put-sizes .ensures ∙ ap (λ (o : Order). sizesOf o ++ drop 3 (s .answer .now)) (order-is (s .file .now) r e ok))
 
 pub hbr-judge-spec : {M : Type 1} → statement M
 hbr-judge-spec =

@@ -8,9 +8,10 @@ use Rattle.order.specs.Table.{orderOf}
 use Rattle.order_file.specs.File.{orderIn}
 use Rattle.highboyrobin.proofs.Answering.{plan-refused, plan-told, plan-done}
 use Rattle.highboyrobin.proofs.Carried.{carried-few, read-carries, least-carries}
-use Rattle.highboyrobin.proofs.Calling.{call-short, reader-refused, order-is, order-accepted, call-refused, call-read}
+use Rattle.order_file.specs.ReaderLaws.{reader-refused, order-is, order-accepted}
+use Rattle.highboyrobin.proofs.Calling.{call-short, call-refused, call-read}
 use Rattle.planner.specs.RowLaws.{written-few}
-use Rattle.highboyrobin.proofs.PlansTold.{least-begins, least-moved, least-refused, least-at}
+use Rattle.planner.specs.AnswerLaws.{least-begins, least-moved, least-refused, least-at}
 use borrow.Author.Needs.{needs}
 use native.Mathlib.Omega.{arith}
 use Rattle.highboyrobin.proofs.lateness.hbr_least.Statement.{statement}
@@ -36,7 +37,7 @@ enum-known-status c = search needs
 result-of-requires : tie.Need-result-of-requires
 result-of-requires c κs =
     let f = c .before .before .before .before .before .before .before .args .file .now in
-    carried-few _ _ (reader-refused f 0 0 (c .before .before .before .read-order .result) (c .before .before .before .read-order .ensures .0) (c .before .status .given .0 .0) (c .before .status .given .1))
+    carried-few _ _ (reader-refused f (c .before .before .before .read-order .result) (c .before .before .before .read-order .ensures .0) (c .before .status .given .0 .0) (c .before .status .given .1))
     (read-carries f)
 
 returns-2 : tie.Need-returns-2
@@ -65,7 +66,7 @@ result-of-requires-2 c κs =
     let e = c .before .before .before .before .before .before .before .before .before .read-order .ensures .0 in
     let ok = c .before .before .before .before .before .before .before .enum-told .given .1 in
     let l = c .before .before .before .before .before .least-lateness in
-    let t = least-moved (orderOf (r .order)) o (s .rows .now) _ (l .result) (order-is f 0 0 r e ok) (l .ensures .0, l .ensures .1 .1) in
+    let t = least-moved (orderOf (r .order)) o (s .rows .now) _ (l .result) (order-is f r e ok) (l .ensures .0, l .ensures .1 .1) in
     let h = least-refused o (s .rows .now) _ (l .result) t (c .before .least .given .0 .0) (c .before .least .given .1) in
     carried-few _ _ (h .0) (least-carries o (length (s .rows .now)))
 
@@ -81,9 +82,9 @@ put-least-requires c κs =
     let e = c .before .before .before .before .before .before .before .before .before .before .read-order .ensures .0 in
     let ok = c .before .before .before .before .before .before .before .before .enum-told .given .1 in
     let l = c .before .before .before .before .before .before .least-lateness in
-    let t = least-moved (orderOf (r .order)) o (s .rows .now) _ (l .result) (order-is f 0 0 r e ok) (l .ensures .0, l .ensures .1 .1) in
+    let t = least-moved (orderOf (r .order)) o (s .rows .now) _ (l .result) (order-is f r e ok) (l .ensures .0, l .ensures .1 .1) in
     let h = least-at o (s .rows .now) _ (l .result) t (c .before .before .least2 .given .0 .0) (c .before .before .least2 .given .0 .1 .0) (c .before .before .least2 .given .1) in
-    (omega (arith, written-few (order-accepted f 0 0 r e ok) (h .2)), c .before .before .before .before .before .before .before .before .before .before .before .if1 .left)
+    (omega (arith, written-few (order-accepted f r e ok) (h .2)), c .before .before .before .before .before .before .before .before .before .before .before .if1 .left)
 
 same-length : tie.Need-same-length
 same-length c = search needs
@@ -97,7 +98,7 @@ returns-3 c =
     let e = c .before .before .before .before .before .before .before .before .before .before .read-order .ensures .0 in
     let ok = c .before .before .before .before .before .before .before .before .enum-told .given .1 in
     let l = c .before .before .before .before .before .before .least-lateness in
-    let t = least-moved (orderOf (r .order)) o (s .rows .now) _ (l .result) (order-is f 0 0 r e ok) (l .ensures .0, l .ensures .1 .1) in
+    let t = least-moved (orderOf (r .order)) o (s .rows .now) _ (l .result) (order-is f r e ok) (l .ensures .0, l .ensures .1 .1) in
     let h = least-refused o (s .rows .now) _ (l .result) t (c .before .before .least .given .0 .0) (c .before .before .least .given .1) in
     plan-told _ _ _ _ _ _ (c .before .before .least .given .0 .0) (call-read f (length (s .answer .now)) 2 r e (c .before .before .before .before .before .before .before .before .before .before .before .if1 .left) _ ok ∙ h .0)
     _ (c .result-of2 .ensures) _ (h .1)
@@ -117,13 +118,13 @@ returns-4 c =
     let e = c .before .before .before .before .before .before .before .before .before .before .before .before .read-order .ensures .0 in
     let ok = c .before .before .before .before .before .before .before .before .before .before .enum-told .given .1 in
     let l = c .before .before .before .before .before .before .before .before .least-lateness in
-    let t = least-moved (orderOf (r .order)) o (s .rows .now) _ (l .result) (order-is f 0 0 r e ok) (l .ensures .0, l .ensures .1 .1) in
+    let t = least-moved (orderOf (r .order)) o (s .rows .now) _ (l .result) (order-is f r e ok) (l .ensures .0, l .ensures .1 .1) in
     let h = least-at o (s .rows .now) _ (l .result) t (c .before .before .before .before .least2 .given .0 .0) (c .before .before .before .before .least2 .given .0 .1 .0) (c .before .before .before .before .least2 .given .1) in
     plan-done _ _ _ _ _ _ (call-read f (length (s .answer .now)) 2 r e (c .before .before .before .before .before .before .before .before .before .before .before .before .before .if1 .left) _ ok ∙ h .0) _ _
     (record {
       count = c .before .before .before .before .least2 .given .0 .1 .0;
       written = h .2;
-      answered = c .before .put-least .ensures ∙ ap (λ (z : ℤ). z ∷ pos (c .before .before .before .before .least2 .given .0 .1 .0) ∷ drop 2 (s .answer .now)) (read-least _ _ (h .1) (least-in-range o (order-accepted f 0 0 r e ok)));
+      answered = c .before .put-least .ensures ∙ ap (λ (z : ℤ). z ∷ pos (c .before .before .before .before .least2 .given .0 .1 .0) ∷ drop 2 (s .answer .now)) (read-least _ _ (h .1) (least-in-range o (order-accepted f r e ok)));
     })
 
 pub hbr-least-spec : {M : Type 1} → statement M

@@ -6,9 +6,10 @@ use Rattle.order.specs.Table.{orderOf}
 use Rattle.order_file.specs.File.{orderIn}
 use Rattle.highboyrobin.proofs.Answering.{plan-refused, plan-told, plan-done}
 use Rattle.highboyrobin.proofs.Carried.{carried-few, read-carries, plan-carries}
-use Rattle.highboyrobin.proofs.Calling.{call-short, reader-refused, order-is, order-accepted, call-refused, call-read}
+use Rattle.order_file.specs.ReaderLaws.{reader-refused, order-is, order-accepted}
+use Rattle.highboyrobin.proofs.Calling.{call-short, call-refused, call-read}
 use Rattle.planner.specs.RowLaws.{written-few}
-use Rattle.highboyrobin.proofs.PlansTold.{plan-begins, plan-moved, planned-refused, planned-tight, planned-rows}
+use Rattle.planner.specs.AnswerLaws.{plan-begins, plan-moved, planned-refused, planned-tight, planned-rows}
 use borrow.Author.Needs.{needs}
 use native.Mathlib.Omega.{arith}
 use Rattle.highboyrobin.proofs.planning.hbr_plan.Statement.{statement}
@@ -34,7 +35,7 @@ enum-known-status c = search needs
 result-of-requires : tie.Need-result-of-requires
 result-of-requires c κs =
     let f = c .before .before .before .before .before .before .before .args .file .now in
-    carried-few _ _ (reader-refused f 0 0 (c .before .before .before .read-order .result) (c .before .before .before .read-order .ensures .0) (c .before .status .given .0 .0) (c .before .status .given .1))
+    carried-few _ _ (reader-refused f (c .before .before .before .read-order .result) (c .before .before .before .read-order .ensures .0) (c .before .status .given .0 .0) (c .before .status .given .1))
     (read-carries f)
 
 returns-2 : tie.Need-returns-2
@@ -64,7 +65,7 @@ result-of-requires-2 c κs =
     let ok = c .before .before .before .before .before .before .before .enum-told .given .1 in
     let p = c .before .before .before .before .before .plan-at in
     let same = toZ-ofZ w32 (s .bound) (c .before .before .before .before .before .before .before .before .before .before .before .before .before .fits .bound) in
-    let t = plan-moved (orderOf (r .order)) o _ (s .bound) (s .rows .now) _ (p .result .planned) (order-is f 0 0 r e ok) same (p .ensures .0, p .ensures .1 .1) in
+    let t = plan-moved (orderOf (r .order)) o _ (s .bound) (s .rows .now) _ (p .result .planned) (order-is f r e ok) same (p .ensures .0, p .ensures .1 .1) in
     let h = planned-refused o (s .bound) (s .rows .now) _ (p .result .planned) t (c .before .planned .given .0 .0) (c .before .planned .given .1) in
     carried-few _ _ (h .0) (plan-carries o (s .bound) (length (s .rows .now)))
 
@@ -84,9 +85,9 @@ put-count-requires c κs =
     let ok = c .before .before .before .before .before .before .before .before .enum-told .given .1 in
     let p = c .before .before .before .before .before .before .plan-at in
     let same = toZ-ofZ w32 (s .bound) (c .before .before .before .before .before .before .before .before .before .before .before .before .before .before .fits .bound) in
-    let t = plan-moved (orderOf (r .order)) o _ (s .bound) (s .rows .now) _ (p .result .planned) (order-is f 0 0 r e ok) same (p .ensures .0, p .ensures .1 .1) in
+    let t = plan-moved (orderOf (r .order)) o _ (s .bound) (s .rows .now) _ (p .result .planned) (order-is f r e ok) same (p .ensures .0, p .ensures .1 .1) in
     let h = planned-rows o (s .bound) (s .rows .now) _ (p .result .planned) t (c .before .before .planned2 .given .0 .0) (c .before .before .planned2 .given .1) in
-    (omega (arith, written-few (order-accepted f 0 0 r e ok) (h .1)), c .before .before .before .before .before .before .before .before .before .before .before .if1 .left)
+    (omega (arith, written-few (order-accepted f r e ok) (h .1)), c .before .before .before .before .before .before .before .before .before .before .before .if1 .left)
 
 same-length : tie.Need-same-length
 same-length c = search needs
@@ -101,7 +102,7 @@ returns-3 c =
     let ok = c .before .before .before .before .before .before .before .before .enum-told .given .1 in
     let p = c .before .before .before .before .before .before .plan-at in
     let same = toZ-ofZ w32 (s .bound) (c .before .before .before .before .before .before .before .before .before .before .before .before .before .before .fits .bound) in
-    let t = plan-moved (orderOf (r .order)) o _ (s .bound) (s .rows .now) _ (p .result .planned) (order-is f 0 0 r e ok) same (p .ensures .0, p .ensures .1 .1) in
+    let t = plan-moved (orderOf (r .order)) o _ (s .bound) (s .rows .now) _ (p .result .planned) (order-is f r e ok) same (p .ensures .0, p .ensures .1 .1) in
     let h = planned-refused o (s .bound) (s .rows .now) _ (p .result .planned) t (c .before .before .planned .given .0 .0) (c .before .before .planned .given .1) in
     plan-told _ _ _ _ _ _ (c .before .before .planned .given .0 .0) (call-read f (length (s .answer .now)) 1 r e (c .before .before .before .before .before .before .before .before .before .before .before .if1 .left) _ ok ∙ h .0)
     _ (c .result-of2 .ensures) _ (h .1)
@@ -119,7 +120,7 @@ returns-4 c =
     let ok = c .before .before .before .before .before .before .enum-told .given .1 in
     let p = c .before .before .before .before .plan-at in
     let same = toZ-ofZ w32 (s .bound) (c .before .before .before .before .before .before .before .before .before .before .before .before .fits .bound) in
-    let t = plan-moved (orderOf (r .order)) o _ (s .bound) (s .rows .now) _ (p .result .planned) (order-is f 0 0 r e ok) same (p .ensures .0, p .ensures .1 .1) in
+    let t = plan-moved (orderOf (r .order)) o _ (s .bound) (s .rows .now) _ (p .result .planned) (order-is f r e ok) same (p .ensures .0, p .ensures .1 .1) in
     let h = planned-tight o (s .bound) (s .rows .now) _ (p .result .planned) t _ (c .enum-told2 .given .1) in
     plan-refused _ _ _ _ _ _ 10 0 (call-read f (length (s .answer .now)) 1 r e (c .before .before .before .before .before .before .before .before .before .if1 .left) _ ok ∙ h .0) _ (h .1)
 
@@ -139,7 +140,7 @@ returns-5 c =
     let ok = c .before .before .before .before .before .before .before .before .before .before .enum-told .given .1 in
     let p = c .before .before .before .before .before .before .before .before .plan-at in
     let same = toZ-ofZ w32 (s .bound) (c .before .before .before .before .before .before .before .before .before .before .before .before .before .before .before .before .fits .bound) in
-    let t = plan-moved (orderOf (r .order)) o _ (s .bound) (s .rows .now) _ (p .result .planned) (order-is f 0 0 r e ok) same (p .ensures .0, p .ensures .1 .1) in
+    let t = plan-moved (orderOf (r .order)) o _ (s .bound) (s .rows .now) _ (p .result .planned) (order-is f r e ok) same (p .ensures .0, p .ensures .1 .1) in
     let h = planned-rows o (s .bound) (s .rows .now) _ (p .result .planned) t (c .before .before .before .before .planned2 .given .0 .0) (c .before .before .before .before .planned2 .given .1) in
     plan-done _ _ _ _ _ _ (call-read f (length (s .answer .now)) 1 r e (c .before .before .before .before .before .before .before .before .before .before .before .before .before .if1 .left) _ ok ∙ h .0) _ _
     (record {

@@ -15,7 +15,8 @@ use Rattle.highboyrobin.specs.Calls.{reasonNumbers}
 use Rattle.highboyrobin.specs.Inside.{whyNumbers}
 use Rattle.highboyrobin.proofs.Answering.{ended-refused, ended-told, ended-done}
 use Rattle.highboyrobin.proofs.Carried.{carried-few, read-carries}
-use Rattle.highboyrobin.proofs.Calling.{call-short, reader-refused, order-is, order-accepted, call-refused, call-read}
+use Rattle.order_file.specs.ReaderLaws.{reader-refused, order-is, order-accepted}
+use Rattle.highboyrobin.proofs.Calling.{call-short, call-refused, call-read}
 use Rattle.highboyrobin.proofs.ReasonTold.{numbers-are, numbers-count, bound-refused, bound-accepted, reason-small, why-moved}
 use borrow.Author.Needs.{needs}
 use native.Mathlib.Omega.{arith}
@@ -43,7 +44,7 @@ enum-known-status c = search needs
 result-of-requires : tie.Need-result-of-requires
 result-of-requires c κs =
     let f = c .before .before .before .before .before .before .args .file .now in
-    carried-few _ _ (reader-refused f 0 0 (c .before .before .before .read-order .result) (c .before .before .before .read-order .ensures .0) (c .before .status .given .0 .0) (c .before .status .given .1))
+    carried-few _ _ (reader-refused f (c .before .before .before .read-order .result) (c .before .before .before .read-order .ensures .0) (c .before .status .given .0 .0) (c .before .status .given .1))
     (read-carries f)
 
 returns-2 : tie.Need-returns-2
@@ -70,8 +71,8 @@ returns-3 c =
     let r = c .before .before .before .before .before .read-order .result in
     let e = c .before .before .before .before .before .read-order .ensures .0 in
     let ok = c .before .before .before .enum-told .given .1 in
-    let is = order-is f 0 0 r e ok in
-    let a = order-accepted f 0 0 r e ok in
+    let is = order-is f r e ok in
+    let a = order-accepted f r e ok in
     let same = toZ-ofZ w32 (s .bound) (c .before .before .before .before .before .before .before .before .fits .bound) in
     let b = sym (ap boundInRange same) ∙ sym (c .before .before .bound-in-range .ensures) in
     ended-told _ _ _ BoundOutOfRange
@@ -85,8 +86,8 @@ reason-at-requires c κs =
     let r = c .before .before .before .before .before .read-order .result in
     let e = c .before .before .before .before .before .read-order .ensures .0 in
     let ok = c .before .before .before .enum-told .given .1 in
-    let is = order-is f 0 0 r e ok in
-    let a = order-accepted f 0 0 r e ok in
+    let is = order-is f r e ok in
+    let a = order-accepted f r e ok in
     let same = toZ-ofZ w32 (s .bound) (c .before .before .before .before .before .before .before .before .fits .bound) in
     let b = sym (ap boundInRange same) ∙ sym (c .before .before .bound-in-range .ensures) in
     (subst Accepted (sym is) a, ap boundInRange same ∙ (b ∙ not-false _ (c .before .if2 .left)))
@@ -98,8 +99,8 @@ put-reason-requires c κs =
     let r = c .before .before .before .before .before .before .read-order .result in
     let e = c .before .before .before .before .before .before .read-order .ensures .0 in
     let ok = c .before .before .before .before .enum-told .given .1 in
-    let is = order-is f 0 0 r e ok in
-    let a = order-accepted f 0 0 r e ok in
+    let is = order-is f r e ok in
+    let a = order-accepted f r e ok in
     let same = toZ-ofZ w32 (s .bound) (c .before .before .before .before .before .before .before .before .before .fits .bound) in
     let b = sym (ap boundInRange same) ∙ sym (c .before .before .before .bound-in-range .ensures) in
     let h = reason-small (orderIn f) (s .bound) a (c .reason-at .result)
@@ -116,8 +117,8 @@ returns-4 c =
     let r = c .before .before .before .before .before .before .before .before .read-order .result in
     let e = c .before .before .before .before .before .before .before .before .read-order .ensures .0 in
     let ok = c .before .before .before .before .before .before .enum-told .given .1 in
-    let is = order-is f 0 0 r e ok in
-    let a = order-accepted f 0 0 r e ok in
+    let is = order-is f r e ok in
+    let a = order-accepted f r e ok in
     let same = toZ-ofZ w32 (s .bound) (c .before .before .before .before .before .before .before .before .before .before .before .fits .bound) in
     let b = sym (ap boundInRange same) ∙ sym (c .before .before .before .before .before .bound-in-range .ensures) in
     let w = why-moved (orderOf (r .order)) (orderIn f) _ (s .bound) _ is same (c .before .before .reason-at .ensures .1) in

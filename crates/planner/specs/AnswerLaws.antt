@@ -8,19 +8,18 @@ use lib.ListN.{length}
 use Rattle.order.specs.Order.{Order}
 use Rattle.order.specs.Refusals.{limits, Verdict, accepted, refused, judge, answerBy, orderRows, boundRow, tightRow}
 use Rattle.order.specs.Table.{refusalTold}
-use Rattle.order.specs.TableLaws.{refused-told}
+use Rattle.order.specs.TableLaws.{refused-told, refused-by, verdict-refused, verdict-accepted}
 use Rattle.order.specs.declared.Refusal.{Refusal}
 use Rattle.profile.specs.Least.{leastLateness}
 use Rattle.profile.specs.Search.{reasonOf}
 use Rattle.planner.specs.Rows.{bufferRow, isFound, leastRows, earlierRows, planRows}
 use Rattle.planner.specs.Told.{plannedTold, rowsOf, leastTold, leastCount}
 use Rattle.planner.specs.Written.{Written, BufferBy}
 use Rattle.planner.specs.declared.Least.{Least}
 use Rattle.planner.specs.declared.Least.the-variants.{At, Refused as LeastRefused}
 use Rattle.planner.specs.declared.Planned.{Planned}
 use Rattle.planner.specs.declared.Planned.the-variants.{Rows, Tight, Refused}
 use Rattle.reason.specs.declared.Reason.{Reason}
-use Rattle.highboyrobin.proofs.Answering.{refused-by, verdict-refused, verdict-accepted}
 
 -- both tables begin with the order's rows
 pub least-begins : (o : Order) (n : ℕ) → leastRows o n ≡ orderRows limits o ++ (bufferRow o n ∷ [])

@@ -1,0 +1,34 @@
+use borrow.Author.Needs.{needs}
+use native.Mathlib.Omega.{arith}
+use Rattle.lines.proofs.answers.put_job.Statement.{statement}
+use Rattle.lines.proofs.answers.put_job.Tie as tie
+use Rattle.lines.proofs.answers.put_job.Reads as reads
+use Rattle.lines.proofs.answers.put_job.Lts as lts
+use Rattle.lines.proofs.put.put_bytes.Reads as put-bytes-reads
+use Rattle.lines.proofs.put.put_number.Reads as put-number-reads
+
+slice-aggregate-put-bytes : tie.Need-slice-aggregate-put-bytes
+slice-aggregate-put-bytes c = search needs
+put-bytes-requires : tie.Need-put-bytes-requires
+put-bytes-requires c κs = search needs
+put-number-requires : tie.Need-put-number-requires
+put-number-requires c κs = search needs
+slice-aggregate-put-bytes-2 : tie.Need-slice-aggregate-put-bytes-2
+slice-aggregate-put-bytes-2 c = search needs
+put-bytes-requires-2 : tie.Need-put-bytes-requires-2
+put-bytes-requires-2 c κs = search needs
+same-length : tie.Need-same-length
+same-length c = search needs
+returns : tie.Need-returns
+returns c = search needs
+pub put-job-spec : {M : Type 1} → statement M
+put-job-spec =
+    tie.close
+    (tie.spec
+    slice-aggregate-put-bytes
+    put-bytes-requires
+    put-number-requires
+    slice-aggregate-put-bytes-2
+    put-bytes-requires-2
+    same-length
+    returns)

@@ -1,0 +1,34 @@
+use borrow.Author.Needs.{needs}
+use native.Mathlib.Omega.{arith}
+use Rattle.lines.proofs.plans.put_least.Statement.{statement}
+use Rattle.lines.proofs.plans.put_least.Tie as tie
+use Rattle.lines.proofs.plans.put_least.Reads as reads
+use Rattle.lines.proofs.plans.put_least.Lts as lts
+use Rattle.lines.proofs.put.put_bytes.Reads as put-bytes-reads
+use Rattle.lines.proofs.put.put_signed.Reads as put-signed-reads
+
+slice-aggregate-put-bytes : tie.Need-slice-aggregate-put-bytes
+slice-aggregate-put-bytes c = search needs
+put-bytes-requires : tie.Need-put-bytes-requires
+put-bytes-requires c κs = search needs
+put-signed-requires : tie.Need-put-signed-requires
+put-signed-requires c κs = search needs
+slice-aggregate-put-bytes-2 : tie.Need-slice-aggregate-put-bytes-2
+slice-aggregate-put-bytes-2 c = search needs
+put-bytes-requires-2 : tie.Need-put-bytes-requires-2
+put-bytes-requires-2 c κs = search needs
+same-length : tie.Need-same-length
+same-length c = search needs
+returns : tie.Need-returns
+returns c = search needs
+pub put-least-spec : {M : Type 1} → statement M
+put-least-spec =
+    tie.close
+    (tie.spec
+    slice-aggregate-put-bytes
+    put-bytes-requires
+    put-signed-requires
+    slice-aggregate-put-bytes-2
+    put-bytes-requires-2
+    same-length
+    returns)

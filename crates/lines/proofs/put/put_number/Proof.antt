@@ -1,0 +1,28 @@
+use borrow.Author.Needs.{needs}
+use native.Mathlib.Omega.{arith}
+use Rattle.lines.proofs.put.put_number.Statement.{statement}
+use Rattle.lines.proofs.put.put_number.Tie as tie
+use Rattle.lines.proofs.put.put_number.Reads as reads
+use Rattle.lines.proofs.put.put_number.Lts as lts
+use Rattle.lines.proofs.put.put_bytes.Reads as put-bytes-reads
+use Rattle.lines.proofs.put.put_decimal.Reads as put-decimal-reads
+
+slice-aggregate-put-bytes : tie.Need-slice-aggregate-put-bytes
+slice-aggregate-put-bytes c = search needs
+put-bytes-requires : tie.Need-put-bytes-requires
+put-bytes-requires c κs = search needs
+put-decimal-requires : tie.Need-put-decimal-requires
+put-decimal-requires c κs = search needs
+same-length : tie.Need-same-length
+same-length c = search needs
+returns : tie.Need-returns
+returns c = search needs
+pub put-number-spec : {M : Type 1} → statement M
+put-number-spec =
+    tie.close
+    (tie.spec
+    slice-aggregate-put-bytes
+    put-bytes-requires
+    put-decimal-requires
+    same-length
+    returns)

@@ -1,0 +1,6 @@
+pub mod Text
+pub mod TextLaws
+pub mod Lines
+pub mod LineLaws
+pub mod Output
+pub mod Inside

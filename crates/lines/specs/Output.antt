@@ -1,0 +1,61 @@
+-- What the two programs write, whole, for the bytes that they read. Row 9 is judged of the rows that they lend, 12,096 numbers.
+use Prim.Native.Nat.{ℕ}
+use mathlib.Core.Path.{_≡_}
+use mathlib.Core.Bool.{Bool, true, false, cond}
+use mathlib.Core.List.{List, [], _∷_}
+use lib.Dec.{ltb}
+use lib.IntN.{ℤ}
+use lib.ListN.{length, drop}
+use Rattle.order.specs.Order.{Order}
+use Rattle.order.specs.Refusals.{TableRow, Verdict, accepted, refused, judge, fileRow}
+use Rattle.order_file.specs.Bytes.{number4, signed}
+use Rattle.order_file.specs.File.{goodFile, orderIn}
+use Rattle.plan.specs.Plan.{Right}
+use Rattle.profile.specs.Least.{leastLateness}
+use Rattle.profile.specs.Search.{reasonOf}
+use Rattle.wrap.specs.Layout.{layout}
+use Rattle.wrap.specs.Stretches.{FeasibleFor}
+use Rattle.planner.specs.Rows.{leastRows, planRows}
+use Rattle.planner.specs.Told.{reasonCarried}
+use Rattle.lines.specs.Lines.{refusedLine, planLines, boundLine}
+
+abbrev pub rowsLent : ℕ
+rowsLent = 12096
+
+-- a program is refused or not
+abbrev pub isRefused : Verdict → Bool
+isRefused accepted = false
+isRefused (refused refusal carried) = true
+
+-- plan-order judges 12, 1 to 7 and 9
+unfoldable pub planOrderRows : List ℕ → List TableRow
+planOrderRows file = fileRow (goodFile file) ∷ leastRows (orderIn file) rowsLent
+
+-- the lines of a right plan at the least lateness, which is the layout of feasible amounts; which amounts is left free
+pub record PlanText (o : Order) (text : List ℕ) : Type 0 where
+  pub amounts : ℕ → ℕ → ℕ
+  pub feasible : FeasibleFor o (leastLateness o) amounts
+  pub right : Right o (leastLateness o) (layout o (leastLateness o) amounts)
+  pub text-is : text ≡ planLines (leastLateness o) (layout o (leastLateness o) amounts)
+
+-- what plan-order writes
+abbrev pub PlanOrderText : Verdict → Order → List ℕ → Type 0
+PlanOrderText accepted o text = PlanText o text
+PlanOrderText (refused refusal carried) o text = text ≡ refusedLine refusal carried
+
+-- try-bound judges 12, then 1 to 10, of a file and a bound
+unfoldable pub tryBoundRows : List ℕ → ℤ → List TableRow
+tryBoundRows file bound = fileRow (goodFile file) ∷ planRows (orderIn file) bound rowsLent
+
+-- "reads a bound (4 bytes, little-endian, two's complement), then the file .. Fewer than 4 bytes is 12."
+abbrev pub boundIn : List ℕ → ℤ
+boundIn input = signed (number4 input 0)
+
+unfoldable pub tryBoundVerdict : List ℕ → Verdict
+tryBoundVerdict input = cond (ltb (length input) 4) (refused 12 0) (judge (tryBoundRows (drop 4 input) (boundIn input)))
+
+-- what try-bound writes
+unfoldable pub tryBoundText : List ℕ → List ℕ
+tryBoundText input =
+    boundLine (tryBoundVerdict input)
+    (reasonCarried (tryBoundVerdict input) (reasonOf (orderIn (drop 4 input)) (boundIn input)))

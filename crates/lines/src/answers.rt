@@ -1,0 +1,93 @@
+// The line of a refusal and of an answer at a bound. All serve this crate and those above, and have a `requires`.
+use super::put::put_bytes;
+use super::put::put_number;
+use super::put::put_signed;
+use order::Refusal;
+use order::told::carried_of;
+use order::told::number_of;
+use planner::PlanAnswer;
+use planner::Planned;
+use reason::Reason;
+ghost use mathlib.Core.Path.{_≡_};
+ghost use Prim.Native.Nat.{_+_, _≤_, min};
+ghost use lib.ListN.{length, take};
+ghost use Rattle.profile.specs.Reason.{overEnd, stairs};
+ghost use Rattle.reason.specs.Told.{reasonTold};
+ghost use Rattle.lines.specs.Text.{Put};
+ghost use Rattle.lines.specs.Lines.{signedNumbers, tightLine};
+ghost use Rattle.lines.specs.Inside.{refusalLine, plannedLine};
+
+pub fn put_refused(out: &mut [u8], at: usize, refusal: Refusal) -> usize
+    requires { ⌜ at + 30 ≤ length (now out) ⌝ }
+    ensures { λ r. ⌜ Put (now (out .entry)) at (refusalLine refusal) (now (out .exit)) r × (r ≤ at + 30) ⌝ }
+{
+    let a = put_bytes(out, at, b"refused");
+    let b = put_number(out, a, number_of(refusal));
+    let c = put_number(out, b, carried_of(refusal));
+    put_bytes(out, c, b"\n")
+}
+
+fn put_job(out: &mut [u8], at: usize, job: u32) -> usize
+    requires { ⌜ at + 21 ≤ length (now out) ⌝ }
+    ensures { λ r. ⌜ Put (now (out .entry)) at (tightLine (overEnd job)) (now (out .exit)) r × (r ≤ at + 21) ⌝ }
+{
+    let a = put_bytes(out, at, b"tight job");
+    let b = put_number(out, a, job);
+    put_bytes(out, b, b"\n")
+}
+
+fn lesser(a: usize, b: usize) -> usize
+    ensures { λ r. ⌜ r ≡ min a b ⌝ }
+{
+    if a < b {
+        return a;
+    }
+    b
+}
+
+// The first due times, as many as are counted.
+fn put_dues(out: &mut [u8], at: usize, dues: [i32; 16], count: u32) -> usize
+    requires { ⌜ at + 192 ≤ length (now out) ⌝ }
+    ensures { λ r. ⌜ Put (now (out .entry)) at (signedNumbers (take count dues)) (now (out .exit)) r × (r ≤ at + 192) ⌝ }
+{
+    let n = lesser(count as usize, 16);
+    let mut next = at;
+    let mut i: usize = 0;
+    while i < n {
+        next = put_signed(out, next, dues[i]);
+        i += 1;
+    }
+    next
+}
+
+fn put_stairs(out: &mut [u8], at: usize, dues: [i32; 16], count: u32) -> usize
+    requires { ⌜ at + 205 ≤ length (now out) ⌝ }
+    ensures { λ r. ⌜ Put (now (out .entry)) at (tightLine (stairs (take count dues))) (now (out .exit)) r × (r ≤ at + 205) ⌝ }
+{
+    let a = put_bytes(out, at, b"tight stairs");
+    let b = put_dues(out, a, dues, count);
+    put_bytes(out, b, b"\n")
+}
+
+fn put_tight(out: &mut [u8], at: usize, reason: Reason, dues: [i32; 16]) -> usize
+    requires { ⌜ at + 205 ≤ length (now out) ⌝ }
+    ensures { λ r. ⌜ Put (now (out .entry)) at (tightLine (reasonTold reason dues)) (now (out .exit)) r × (r ≤ at + 205) ⌝ }
+{
+    match reason {
+        Reason::Job(job, _) => put_job(out, at, job),
+        Reason::Stairs(count) => put_stairs(out, at, dues, count),
+    }
+}
+
+pub fn put_planned(out: &mut [u8], at: usize, answer: PlanAnswer) -> usize
+    requires { ⌜ at + 205 ≤ length (now out) ⌝ }
+    ensures { λ r. ⌜ Put (now (out .entry)) at (plannedLine (answer .planned) (answer .dues)) (now (out .exit)) r × (r ≤ at + 205) ⌝ }
+{
+    let planned = answer.planned;
+    let dues = answer.dues;
+    match planned {
+        Planned::Rows(_) => put_bytes(out, at, b"meets\n"),
+        Planned::Tight(reason) => put_tight(out, at, reason, dues),
+        Planned::Refused(refusal) => put_refused(out, at, refusal),
+    }
+}
