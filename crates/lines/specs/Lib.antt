@@ -1,5 +1,6 @@
 pub mod Text
 pub mod TextLaws
+pub mod SignedLaws
 pub mod Lines
 pub mod LineLaws
 pub mod Output

@@ -1,11 +1,12 @@
 -- Lines of one row more, of one due time more, and of the rows that stand as numbers in a buffer.
-use Prim.Native.Nat.{ℕ, zero, suc, _+_, _*_, _/_, _<_, _≤_}
+use Prim.Native.Nat.{ℕ, zero, suc, _+_, _*_, _/_, _<_, _≤_, min}
 use mathlib.Core.Path.{_≡_, refl, sym, ap, _∙_}
 use mathlib.Core.List.{List, [], _∷_, _++_, append-assoc, append-nil}
 use native.Mathlib.Omega.{arith}
+use native.Mathlib.Decide.{decLt}
 use lib.IntN.{ℤ, pos}
 use lib.ListN.{length, getD, take, length-append}
-use lib.Seq.{take-suc, getD-append-add}
+use lib.Seq.{take-all, take-suc}
 use Rattle.sums.specs.Lists.{tabulate}
 use Rattle.sums.specs.ListLaws.{tabulate-more, tabulate-cong}
 use Rattle.plan.specs.Plan.{Row}
@@ -43,6 +44,14 @@ pub numbers-more : (zs : List ℤ) (i : ℕ) → i < length zs →
 numbers-more zs i h =
     let e : i + 1 ≡ suc i = omega arith in
     rw e (sym (ap signedNumbers (take-suc zs i (pos 0) h) ∙ numbers-snoc (take i zs) (getD zs i (pos 0))))
+
+-- all of them, where more are counted than there are
+pub numbers-taken : (zs : List ℤ) (i count : ℕ) → i ≡ min count (length zs) → signedNumbers (take i zs) ≡ signedNumbers (take count zs)
+numbers-taken zs i count e =
+    elim (decLt count (length zs)) [
+      | yes h ↦ let k : i ≡ count = omega arith in rw k
+      | no h ↦ rw (take-all i zs (omega arith), take-all count zs (omega arith))
+    ]
 
 -- the rows whose numbers stand first in a buffer
 getD-first : (xs ys : List ℕ) (i : ℕ) → i < length xs → getD (xs ++ ys) i 0 ≡ getD xs i 0

@@ -47,6 +47,9 @@ decimal-length (suc k) n h =
           omega (arith, decimal-longer n (omega arith), decimal-length k (n / 10) (omega arith))
     ]
 
+pub decimal-short : (n : ℕ) → n < 4294967296 → length (decimal n) ≤ 10
+decimal-short n h = decimal-length 9 n (omega arith)
+
 -- one text behind the other
 pub put-both : {s : List ℕ} {at : ℕ} {xs t : List ℕ} {k : ℕ} {ys u : List ℕ} {l : ℕ} → Put s at xs t k → Put t k ys u l →
     Put s at (xs ++ ys) u l

@@ -1,3 +1,7 @@
+use mathlib.Core.Path.{ap}
+use Rattle.lines.specs.Text.{number}
+use Rattle.lines.specs.Lines.{refusedLine}
+use Rattle.lines.specs.TextLaws.{put-both, put-as}
 use borrow.Author.Needs.{needs}
 use native.Mathlib.Omega.{arith}
 use Rattle.lines.proofs.answers.put_refused.Statement.{statement}
@@ -28,7 +32,13 @@ put-bytes-requires-2 c κs = search needs
 same-length : tie.Need-same-length
 same-length c = search needs
 returns : tie.Need-returns
-returns c = search needs
+unfolding refusedLine
+returns c =
+    let p1 = c .before .before .before .before .before .before .before .before .before .before .before .before .before .before .before .before .before .put-bytes .ensures in
+    let p2 = put-as (ap number (c .before .before .before .before .before .before .before .before .before .before .before .before .before .number-of .ensures .0)) (c .before .before .before .before .before .before .before .before .before .before .before .before .put-number .ensures .0) in
+    let p3 = put-as (ap number (c .before .before .before .before .before .before .before .before .carried-of .ensures)) (c .before .before .before .before .before .before .before .put-number2 .ensures .0) in
+    let p4 = c .before .before .put-bytes2 .ensures in
+    (put-both p1 (put-both p2 (put-both p3 p4)), omega arith)
 pub put-refused-spec : {M : Type 1} → statement M
 put-refused-spec =
     tie.close

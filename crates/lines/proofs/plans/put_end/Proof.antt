@@ -1,3 +1,5 @@
+use Rattle.lines.specs.Lines.{endLine}
+use Rattle.lines.specs.TextLaws.{put-both}
 use borrow.Author.Needs.{needs}
 use native.Mathlib.Omega.{arith}
 use Rattle.lines.proofs.plans.put_end.Statement.{statement}
@@ -20,7 +22,12 @@ put-bytes-requires-2 c κs = search needs
 same-length : tie.Need-same-length
 same-length c = search needs
 returns : tie.Need-returns
-returns c = search needs
+unfolding endLine
+returns c =
+    let p1 = c .before .before .before .before .before .before .before .before .before .before .before .put-bytes .ensures in
+    let p2 = c .before .before .before .before .before .before .before .put-number .ensures .0 in
+    let p3 = c .before .before .put-bytes2 .ensures in
+    (put-both p1 (put-both p2 p3), omega arith)
 pub put-end-spec : {M : Type 1} → statement M
 put-end-spec =
     tie.close

@@ -1,3 +1,9 @@
+use mathlib.Core.Path.{ap}
+use mir.Syntax.{w32}
+use mir.ValLaws.{toZ-ofZ}
+use Rattle.lines.specs.Text.{signedNumber}
+use Rattle.lines.specs.Lines.{leastLine}
+use Rattle.lines.specs.TextLaws.{put-both, put-as}
 use borrow.Author.Needs.{needs}
 use native.Mathlib.Omega.{arith}
 use Rattle.lines.proofs.plans.put_least.Statement.{statement}
@@ -20,7 +26,13 @@ put-bytes-requires-2 c κs = search needs
 same-length : tie.Need-same-length
 same-length c = search needs
 returns : tie.Need-returns
-returns c = search needs
+unfolding leastLine
+returns c =
+    let p1 = c .before .before .before .before .before .before .before .before .before .before .before .put-bytes .ensures in
+    let s = c .before .before .before .before .before .before .before .before .before .before .before .before .before .before .before in
+    let p2 = put-as (ap signedNumber (toZ-ofZ w32 (s .args .lateness) (s .fits .lateness))) (c .before .before .before .before .before .before .before .put-signed .ensures .0) in
+    let p3 = c .before .before .put-bytes2 .ensures in
+    (put-both p1 (put-both p2 p3), omega arith)
 pub put-least-spec : {M : Type 1} → statement M
 put-least-spec =
     tie.close

@@ -1,3 +1,5 @@
+use Rattle.lines.specs.Lines.{pieceLine}
+use Rattle.lines.specs.TextLaws.{put-both}
 use borrow.Author.Needs.{needs}
 use native.Mathlib.Omega.{arith}
 use Rattle.lines.proofs.plans.put_row.Statement.{statement}
@@ -26,7 +28,15 @@ put-bytes-requires-2 c κs = search needs
 same-length : tie.Need-same-length
 same-length c = search needs
 returns : tie.Need-returns
-returns c = search needs
+unfolding pieceLine
+returns c =
+    let p1 = c .before .before .before .before .before .before .before .before .before .before .before .before .before .before .before .before .before .before .before .before .before .before .before .put-bytes .ensures in
+    let p2 = c .before .before .before .before .before .before .before .before .before .before .before .before .before .before .before .before .before .before .before .put-number .ensures .0 in
+    let p3 = c .before .before .before .before .before .before .before .before .before .before .before .before .before .before .before .put-number2 .ensures .0 in
+    let p4 = c .before .before .before .before .before .before .before .before .before .before .before .put-number3 .ensures .0 in
+    let p5 = c .before .before .before .before .before .before .before .put-number4 .ensures .0 in
+    let p6 = c .before .before .put-bytes2 .ensures in
+    (put-both p1 (put-both p2 (put-both p3 (put-both p4 (put-both p5 p6)))), omega arith)
 pub put-row-spec : {M : Type 1} → statement M
 put-row-spec =
     tie.close
