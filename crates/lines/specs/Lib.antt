@@ -3,5 +3,5 @@ pub mod TextLaws
 pub mod SignedLaws
 pub mod Lines
 pub mod LineLaws
-pub mod Output
+pub mod Programs
 pub mod Inside

@@ -18,19 +18,7 @@ use Rattle.order.specs.TableLaws.{refused-told}
 use Rattle.order.specs.declared.Acceptance.{Acceptance}
 use Rattle.order.specs.declared.Acceptance.the-variants.{Accepted as Accepts, Refused as Refuses}
 use Rattle.order.specs.declared.Refusal.{Refusal}
-use Rattle.order.specs.declared.Refusal.the-variants.{
-  NoProcessor,
-  TooManyProcessors,
-  NoJob,
-  TooManyJobs,
-  TimeOutOfRange,
-  DueOutOfRange,
-  FitsNoProcessor,
-  BoundOutOfRange,
-  BufferTooShort,
-  TooManyRows,
-  BadFile,
-}
+use Rattle.order.specs.declared.Refusal.the-variants.{BoundOutOfRange, BufferTooShort}
 use Rattle.plan.specs.IsLeast.{IsLeast}
 use Rattle.profile.specs.Least.{leastLateness}
 use Rattle.profile.specs.Reason.{Reason, overEnd, stairs}
@@ -45,6 +33,7 @@ use Rattle.reason.specs.declared.Setting.{Setting}
 use Rattle.reason.specs.declared.Tightness.{Tightness}
 use Rattle.reason.specs.declared.Tightness.the-variants.{Tight as TooTight, Met}
 use Rattle.reason.specs.declared.Why.{Why}
+use Rattle.planner.specs.AnswerLaws.{carried-none}
 use Rattle.planner.specs.Rows.{rowsAsked, bufferRow, isFound, leastRows, earlierRows, planRows}
 use Rattle.planner.specs.Told.{plannedTold, rowsOf, reasonCarried, ReasonTold, leastTold, leastCount, LeastIn}
 use Rattle.planner.specs.Written.{Written, BufferBy}
@@ -54,20 +43,7 @@ use Rattle.planner.specs.declared.PlanAnswer.{PlanAnswer}
 use Rattle.planner.specs.declared.Planned.{Planned}
 use Rattle.planner.specs.declared.Planned.the-variants.{Rows, Tight, Refused}
 
--- no refusal of the code is 10, and each leaves the buffer
-carried-none : (rf : Refusal) (f : Found Reason) → reasonCarried (refusalTold rf) f ≡ nothing
-carried-none NoProcessor f = refl
-carried-none TooManyProcessors f = refl
-carried-none NoJob f = refl
-carried-none TooManyJobs f = refl
-carried-none (TimeOutOfRange j) f = refl
-carried-none (DueOutOfRange j) f = refl
-carried-none (FitsNoProcessor j) f = refl
-carried-none BoundOutOfRange f = refl
-carried-none BufferTooShort f = refl
-carried-none TooManyRows f = refl
-carried-none BadFile f = refl
-
+-- a refusal leaves the buffer
 buffer-kept : (rf : Refusal) (o : Order) (bound : ℤ) (entry : List ℕ) → BufferBy (refusalTold rf) o bound entry entry 0
 buffer-kept rf o bound entry =
     let t = refused-told rf in

@@ -10,16 +10,44 @@ use Rattle.order.specs.Refusals.{limits, Verdict, accepted, refused, judge, ans
 use Rattle.order.specs.Table.{refusalTold}
 use Rattle.order.specs.TableLaws.{refused-told, refused-by, verdict-refused, verdict-accepted}
 use Rattle.order.specs.declared.Refusal.{Refusal}
+use Rattle.order.specs.declared.Refusal.the-variants.{
+  NoProcessor,
+  TooManyProcessors,
+  NoJob,
+  TooManyJobs,
+  TimeOutOfRange,
+  DueOutOfRange,
+  FitsNoProcessor,
+  BoundOutOfRange,
+  BufferTooShort,
+  TooManyRows,
+  BadFile,
+}
 use Rattle.profile.specs.Least.{leastLateness}
-use Rattle.profile.specs.Search.{reasonOf}
+use Rattle.profile.specs.Reason.{Reason as TightReason}
+use Rattle.profile.specs.Search.{Found, nothing, reasonOf}
 use Rattle.planner.specs.Rows.{bufferRow, isFound, leastRows, earlierRows, planRows}
-use Rattle.planner.specs.Told.{plannedTold, rowsOf, leastTold, leastCount}
+use Rattle.planner.specs.Told.{plannedTold, rowsOf, reasonCarried, leastTold, leastCount}
 use Rattle.planner.specs.Written.{Written, BufferBy}
 use Rattle.planner.specs.declared.Least.{Least}
 use Rattle.planner.specs.declared.Least.the-variants.{At, Refused as LeastRefused}
 use Rattle.planner.specs.declared.Planned.{Planned}
 use Rattle.planner.specs.declared.Planned.the-variants.{Rows, Tight, Refused}
 use Rattle.reason.specs.declared.Reason.{Reason}
+
+-- no refusal of the code is 10, so none comes with a reason
+pub carried-none : (rf : Refusal) (f : Found TightReason) → reasonCarried (refusalTold rf) f ≡ nothing
+carried-none NoProcessor f = refl
+carried-none TooManyProcessors f = refl
+carried-none NoJob f = refl
+carried-none TooManyJobs f = refl
+carried-none (TimeOutOfRange j) f = refl
+carried-none (DueOutOfRange j) f = refl
+carried-none (FitsNoProcessor j) f = refl
+carried-none BoundOutOfRange f = refl
+carried-none BufferTooShort f = refl
+carried-none TooManyRows f = refl
+carried-none BadFile f = refl
 
 -- both tables begin with the order's rows
 pub least-begins : (o : Order) (n : ℕ) → leastRows o n ≡ orderRows limits o ++ (bufferRow o n ∷ [])

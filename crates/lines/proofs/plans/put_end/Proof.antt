@@ -11,16 +11,22 @@ use Rattle.lines.proofs.put.put_number.Reads as put-number-reads
 
 slice-aggregate-put-bytes : tie.Need-slice-aggregate-put-bytes
 slice-aggregate-put-bytes c = search needs
+
 put-bytes-requires : tie.Need-put-bytes-requires
 put-bytes-requires c κs = search needs
+
 put-number-requires : tie.Need-put-number-requires
 put-number-requires c κs = search needs
+
 slice-aggregate-put-bytes-2 : tie.Need-slice-aggregate-put-bytes-2
 slice-aggregate-put-bytes-2 c = search needs
+
 put-bytes-requires-2 : tie.Need-put-bytes-requires-2
 put-bytes-requires-2 c κs = search needs
+
 same-length : tie.Need-same-length
 same-length c = search needs
+
 returns : tie.Need-returns
 unfolding endLine
 returns c =
@@ -28,6 +34,7 @@ returns c =
     let p2 = c .before .before .before .before .before .before .before .put-number .ensures .0 in
     let p3 = c .before .before .put-bytes2 .ensures in
     (put-both p1 (put-both p2 p3), omega arith)
+
 pub put-end-spec : {M : Type 1} → statement M
 put-end-spec =
     tie.close

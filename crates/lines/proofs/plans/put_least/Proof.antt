@@ -15,16 +15,22 @@ use Rattle.lines.proofs.put.put_signed.Reads as put-signed-reads
 
 slice-aggregate-put-bytes : tie.Need-slice-aggregate-put-bytes
 slice-aggregate-put-bytes c = search needs
+
 put-bytes-requires : tie.Need-put-bytes-requires
 put-bytes-requires c κs = search needs
+
 put-signed-requires : tie.Need-put-signed-requires
 put-signed-requires c κs = search needs
+
 slice-aggregate-put-bytes-2 : tie.Need-slice-aggregate-put-bytes-2
 slice-aggregate-put-bytes-2 c = search needs
+
 put-bytes-requires-2 : tie.Need-put-bytes-requires-2
 put-bytes-requires-2 c κs = search needs
+
 same-length : tie.Need-same-length
 same-length c = search needs
+
 returns : tie.Need-returns
 unfolding leastLine
 returns c =
@@ -33,6 +39,7 @@ returns c =
     let p2 = put-as (ap signedNumber (toZ-ofZ w32 (s .args .lateness) (s .fits .lateness))) (c .before .before .before .before .before .before .before .put-signed .ensures .0) in
     let p3 = c .before .before .put-bytes2 .ensures in
     (put-both p1 (put-both p2 p3), omega arith)
+
 pub put-least-spec : {M : Type 1} → statement M
 put-least-spec =
     tie.close

@@ -10,21 +10,26 @@ use Rattle.lines.proofs.put.put_decimal.Reads as put-decimal-reads
 
 slice-aggregate-put-bytes : tie.Need-slice-aggregate-put-bytes
 slice-aggregate-put-bytes c = search needs
+
 put-bytes-requires : tie.Need-put-bytes-requires
 put-bytes-requires c κs = search needs
+
 put-decimal-requires : tie.Need-put-decimal-requires
 put-decimal-requires c κs =
     let s = c .before .before .before .before .before .before .before in
     let p = c .before .before .before .put-bytes .ensures in
     omega (arith, p .next-is, p .same-length, decimal-short (s .args .n) (omega (arith, s .fits .n)))
+
 same-length : tie.Need-same-length
 same-length c = search needs
+
 returns : tie.Need-returns
 returns c =
     let s = c .before .before .before .before .before .before .before .before .before .before in
     let p = c .before .before .before .before .before .before .put-bytes .ensures in
     let q = c .before .before .put-decimal .ensures in
     (put-both p q, omega (arith, p .next-is, q .next-is, decimal-short (s .args .n) (omega (arith, s .fits .n))))
+
 pub put-number-spec : {M : Type 1} → statement M
 put-number-spec =
     tie.close

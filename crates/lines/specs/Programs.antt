@@ -17,7 +17,9 @@ use Rattle.wrap.specs.Layout.{layout}
 use Rattle.wrap.specs.Stretches.{FeasibleFor}
 use Rattle.planner.specs.Rows.{leastRows, planRows}
 use Rattle.planner.specs.Told.{reasonCarried}
+use Rattle.lines.specs.Text.{Put}
 use Rattle.lines.specs.Lines.{refusedLine, planLines, boundLine}
+use Rattle.lines.specs.declared.Output.{Output}
 
 abbrev pub rowsLent : ℕ
 rowsLent = 12096
@@ -38,10 +40,16 @@ pub record PlanText (o : Order) (text : List ℕ) : Type 0 where
   pub right : Right o (leastLateness o) (layout o (leastLateness o) amounts)
   pub text-is : text ≡ planLines (leastLateness o) (layout o (leastLateness o) amounts)
 
--- what plan-order writes
 abbrev pub PlanOrderText : Verdict → Order → List ℕ → Type 0
 PlanOrderText accepted o text = PlanText o text
 PlanOrderText (refused refusal carried) o text = text ≡ refusedLine refusal carried
+
+-- what plan-order writes stands at the beginning of its buffer, which is otherwise as it was
+pub record PlanOrderOutput (file buffer after : List ℕ) (r : Output) : Type 0 where
+  pub text : List ℕ
+  pub text-is : PlanOrderText (judge (planOrderRows file)) (orderIn file) text
+  pub put : Put buffer 0 text after (r .length)
+  pub told : r .refused ≡ isRefused (judge (planOrderRows file))
 
 -- try-bound judges 12, then 1 to 10, of a file and a bound
 unfoldable pub tryBoundRows : List ℕ → ℤ → List TableRow
@@ -59,3 +67,7 @@ unfoldable pub tryBoundText : List ℕ → List ℕ
 tryBoundText input =
     boundLine (tryBoundVerdict input)
     (reasonCarried (tryBoundVerdict input) (reasonOf (orderIn (drop 4 input)) (boundIn input)))
+
+abbrev pub TryBoundOutput : List ℕ → List ℕ → List ℕ → Output → Type 0
+TryBoundOutput input buffer after r =
+    Put buffer 0 (tryBoundText input) after (r .length) × (r .refused ≡ isRefused (tryBoundVerdict input))
