@@ -1,5 +1,6 @@
 // Runs cases through the entry points and prints what they answer. The cases and the expected lines are made by tests/plain,
 // which says the form of the stream (stream_form.py).
+mod print; // words, numbers and answers on standard output
 mod stream; // numbers, orders and files of the stream
 
 use libc::STDOUT_FILENO;
@@ -15,16 +16,16 @@ fn read_case() {
     let got = order_file::read::read_order(&file[..n]);
     let status = got.status;
     match status {
-        Acceptance::Refused(refusal) => lines::refused(refusal),
+        Acceptance::Refused(refusal) => print::refused(refusal),
         Acceptance::Accepted => print_order(got.order),
     }
 }
 
 fn print_order(order: order::Order) {
-    lines::text(b"order");
-    lines::number(order.processors);
-    lines::number(order.jobs);
-    lines::text(b"\n");
+    print::text(b"order");
+    print::number(order.processors);
+    print::number(order.jobs);
+    print::text(b"\n");
     print_processors(order);
     print_jobs(order);
 }
@@ -32,9 +33,9 @@ fn print_order(order: order::Order) {
 fn print_processors(order: order::Order) {
     for i in 0..16usize {
         if (i as u32) < order.processors {
-            lines::text(b"processor");
-            lines::number(order.memories[i]);
-            lines::text(b"\n");
+            print::text(b"processor");
+            print::number(order.memories[i]);
+            print::text(b"\n");
         }
     }
 }
@@ -42,11 +43,11 @@ fn print_processors(order: order::Order) {
 fn print_jobs(order: order::Order) {
     for j in 0..48usize {
         if (j as u32) < order.jobs {
-            lines::text(b"job");
-            lines::number(order.times[j]);
-            lines::signed(order.dues[j]);
-            lines::number(order.needs[j]);
-            lines::text(b"\n");
+            print::text(b"job");
+            print::number(order.times[j]);
+            print::signed(order.dues[j]);
+            print::number(order.needs[j]);
+            print::text(b"\n");
         }
     }
 }
@@ -58,9 +59,9 @@ fn check_case() {
     let mut rows = [0u32; 12104];
     let n = stream::numbers(&mut rows);
     match plan::check::check_plan(order, bound, &rows[..n]) {
-        Checked::Yes => lines::text(b"yes\n"),
-        Checked::No => lines::text(b"no\n"),
-        Checked::Refused(refusal) => lines::refused(refusal),
+        Checked::Yes => print::text(b"yes\n"),
+        Checked::No => print::text(b"no\n"),
+        Checked::Refused(refusal) => print::refused(refusal),
     }
 }
 
@@ -78,21 +79,21 @@ fn write_case() {
             written = n;
             print_file(out, n);
         }
-        OrderWritten::Refused(refusal) => lines::refused(refusal),
+        OrderWritten::Refused(refusal) => print::refused(refusal),
     }
     print_changes(out, written);
 }
 
 fn print_file(out: [u8; 700], n: usize) {
-    lines::text(b"file");
-    lines::number((n % 4294967296) as u32);
-    lines::text(b" ");
+    print::text(b"file");
+    print::number((n % 4294967296) as u32);
+    print::text(b" ");
     for i in 0..700usize {
         if i < n {
             io::print_hex(STDOUT_FILENO, out[i] as u64, 2);
         }
     }
-    lines::text(b"\n");
+    print::text(b"\n");
 }
 
 // A line for each byte that is changed beyond what was written: there is none.
@@ -100,7 +101,7 @@ fn print_changes(out: [u8; 700], written: usize) {
     for i in 0..700usize {
         if written <= i {
             if out[i] != 170 {
-                lines::text(b"changed\n");
+                print::text(b"changed\n");
             }
         }
     }
@@ -115,11 +116,11 @@ fn least_case() {
     }
     let mut rows = [0u32; 12104];
     match planner::lateness::least_lateness(order, &mut rows[..room]) {
-        Least::Refused(refusal) => lines::refused(refusal),
+        Least::Refused(refusal) => print::refused(refusal),
         Least::At(lateness, _) => {
-            lines::text(b"least");
-            lines::signed(lateness);
-            lines::text(b"\n");
+            print::text(b"least");
+            print::signed(lateness);
+            print::text(b"\n");
         }
     }
 }
@@ -133,7 +134,7 @@ fn plan_case() {
         return;
     }
     let mut rows = [0u32; 12104];
-    lines::planned(planner::bound::plan_at(order, bound, &mut rows[..room]));
+    print::planned(planner::bound::plan_at(order, bound, &mut rows[..room]));
 }
 
 fn main() {

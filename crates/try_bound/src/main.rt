@@ -1,27 +1,31 @@
-// try-bound: a bound (4 bytes) and an order file on standard input; whether a plan meets the bound, or why none does, or the refusal.
-use libc::STDIN_FILENO;
-use order::Acceptance;
-use order::Order;
-use order::Refusal;
+// try-bound: a bound (4 bytes) and an order file on standard input; whether a plan meets the bound, or why none does, or the
+// refusal, on standard output.
+use console::Input;
+use console::read_input;
+use console::tell_answer;
+use console::tell_failure;
+use console::write_output;
+use lines::programs::tried_output;
 
-fn print_planned(order: Order, bound: i32) {
-    let mut rows = [0u32; 12096];
-    lines::planned(planner::bound::plan_at(order, bound, &mut rows));
+// What these bytes are answered with.
+fn answer(given: &[u8]) {
+    let mut out = [0u8; 205];
+    let output = tried_output(given, &mut out);
+    let length = output.length;
+    if !write_output(&out[..length]) {
+        tell_failure(b"try-bound: writing standard output");
+        return;
+    }
+    tell_answer(output.refused);
 }
 
 // One byte more than a bound and the longest file is read, so that a longer one is refused.
 fn main() {
-    let mut input = [0u8; 657];
-    let n = io::read_full(STDIN_FILENO, &mut input);
-    if n < 4 {
-        lines::refused(Refusal::BadFile);
+    let mut given = [0u8; 657];
+    let input = read_input(&mut given);
+    let Input::Bytes(n) = input else {
+        tell_failure(b"try-bound: reading standard input");
         return;
-    }
-    let bound = order_file::bytes::to_signed(order_file::bytes::read4(&input, 0));
-    let got = order_file::read::read_order(&input[4..n]);
-    let status = got.status;
-    match status {
-        Acceptance::Refused(refusal) => lines::refused(refusal),
-        Acceptance::Accepted => print_planned(got.order, bound),
-    }
+    };
+    answer(&given[..n]);
 }

@@ -8,8 +8,8 @@ use Rattle.cases.proofs.check_case.Lts as lts
 use Rattle.cases.proofs.stream.number.Reads as number-reads
 use Rattle.cases.proofs.stream.numbers.Reads as numbers-reads
 use Rattle.cases.proofs.stream.order.Reads as order-reads
-use Rattle.lines.proofs.refused.Reads as refused-reads
-use Rattle.lines.proofs.text.Reads as text-reads
+use Rattle.cases.proofs.print.refused.Reads as refused-reads
+use Rattle.cases.proofs.print.text.Reads as text-reads
 use Rattle.order_file.proofs.bytes.to_signed.Reads as to-signed-reads
 use Rattle.plan.proofs.check.check_plan.Reads as check-plan-reads
 

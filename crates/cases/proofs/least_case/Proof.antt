@@ -7,9 +7,9 @@ use Rattle.cases.proofs.least_case.Reads as reads
 use Rattle.cases.proofs.least_case.Lts as lts
 use Rattle.cases.proofs.stream.number.Reads as number-reads
 use Rattle.cases.proofs.stream.order.Reads as order-reads
-use Rattle.lines.proofs.refused.Reads as refused-reads
-use Rattle.lines.proofs.signed.Reads as signed-reads
-use Rattle.lines.proofs.text.Reads as text-reads
+use Rattle.cases.proofs.print.refused.Reads as refused-reads
+use Rattle.cases.proofs.print.signed.Reads as signed-reads
+use Rattle.cases.proofs.print.text.Reads as text-reads
 use Rattle.planner.proofs.lateness.least_lateness.Reads as least-lateness-reads
 
 order-requires : tie.Need-order-requires

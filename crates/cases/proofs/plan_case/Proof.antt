@@ -7,7 +7,7 @@ use Rattle.cases.proofs.plan_case.Reads as reads
 use Rattle.cases.proofs.plan_case.Lts as lts
 use Rattle.cases.proofs.stream.number.Reads as number-reads
 use Rattle.cases.proofs.stream.order.Reads as order-reads
-use Rattle.lines.proofs.planned.Reads as planned-reads
+use Rattle.cases.proofs.print.planned.Reads as planned-reads
 use Rattle.order_file.proofs.bytes.to_signed.Reads as to-signed-reads
 use Rattle.planner.proofs.bound.plan_at.Reads as plan-at-reads
 

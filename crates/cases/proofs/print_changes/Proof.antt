@@ -7,7 +7,7 @@ use Rattle.cases.proofs.print_changes.Statement.{statement}
 use Rattle.cases.proofs.print_changes.Tie as tie
 use Rattle.cases.proofs.print_changes.Reads as reads
 use Rattle.cases.proofs.print_changes.Lts as lts
-use Rattle.lines.proofs.text.Reads as text-reads
+use Rattle.cases.proofs.print.text.Reads as text-reads
 
 abbrev Inv-loop : tie.InvT-loop
 Inv-loop written out i₀ t5 i = i ≤ 700

@@ -8,8 +8,8 @@ use Rattle.cases.proofs.print_file.Tie as tie
 use Rattle.cases.proofs.print_file.Reads as reads
 use Rattle.cases.proofs.print_file.Lts as lts
 use Rattle.io.proofs.print_hex.Reads as print-hex-reads
-use Rattle.lines.proofs.number.Reads as number-reads
-use Rattle.lines.proofs.text.Reads as text-reads
+use Rattle.cases.proofs.print.number.Reads as number-reads
+use Rattle.cases.proofs.print.text.Reads as text-reads
 
 abbrev Inv-loop : tie.InvT-loop
 Inv-loop n out i₀ t7 i = i ≤ 700

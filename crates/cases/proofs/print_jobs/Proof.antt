@@ -7,9 +7,9 @@ use Rattle.cases.proofs.print_jobs.Statement.{statement}
 use Rattle.cases.proofs.print_jobs.Tie as tie
 use Rattle.cases.proofs.print_jobs.Reads as reads
 use Rattle.cases.proofs.print_jobs.Lts as lts
-use Rattle.lines.proofs.number.Reads as number-reads
-use Rattle.lines.proofs.signed.Reads as signed-reads
-use Rattle.lines.proofs.text.Reads as text-reads
+use Rattle.cases.proofs.print.number.Reads as number-reads
+use Rattle.cases.proofs.print.signed.Reads as signed-reads
+use Rattle.cases.proofs.print.text.Reads as text-reads
 
 abbrev Inv-loop : tie.InvT-loop
 Inv-loop order j₀ t4 t5 j = j ≤ 48

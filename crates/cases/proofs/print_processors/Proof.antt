@@ -7,8 +7,8 @@ use Rattle.cases.proofs.print_processors.Statement.{statement}
 use Rattle.cases.proofs.print_processors.Tie as tie
 use Rattle.cases.proofs.print_processors.Reads as reads
 use Rattle.cases.proofs.print_processors.Lts as lts
-use Rattle.lines.proofs.number.Reads as number-reads
-use Rattle.lines.proofs.text.Reads as text-reads
+use Rattle.cases.proofs.print.number.Reads as number-reads
+use Rattle.cases.proofs.print.text.Reads as text-reads
 
 abbrev Inv-loop : tie.InvT-loop
 Inv-loop order i₀ t4 t5 i = i ≤ 16

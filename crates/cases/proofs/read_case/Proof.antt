@@ -7,7 +7,7 @@ use Rattle.cases.proofs.read_case.Reads as reads
 use Rattle.cases.proofs.read_case.Lts as lts
 use Rattle.cases.proofs.print_order.Reads as print-order-reads
 use Rattle.cases.proofs.stream.bytes.Reads as bytes-reads
-use Rattle.lines.proofs.refused.Reads as refused-reads
+use Rattle.cases.proofs.print.refused.Reads as refused-reads
 use Rattle.order_file.proofs.read.read_order.Reads as read-order-reads
 
 slice-aggregate-bytes : tie.Need-slice-aggregate-bytes

@@ -9,7 +9,7 @@ use Rattle.cases.proofs.print_changes.Reads as print-changes-reads
 use Rattle.cases.proofs.print_file.Reads as print-file-reads
 use Rattle.cases.proofs.stream.number.Reads as number-reads
 use Rattle.cases.proofs.stream.order.Reads as order-reads
-use Rattle.lines.proofs.refused.Reads as refused-reads
+use Rattle.cases.proofs.print.refused.Reads as refused-reads
 use Rattle.order_file.proofs.write.write_order.Reads as write-order-reads
 
 order-requires : tie.Need-order-requires

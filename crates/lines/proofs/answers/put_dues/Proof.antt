@@ -1,25 +1,16 @@
-use mathlib.Core.Path.{ap, _∙_}
-use lib.IntN.{pos}
+use Prim.Native.Nat.{_+_, _-_, _*_, _≤_}
+use mathlib.Core.Path.{ap, sym}
+use native.Mathlib.Omega.{arith}
+use borrow.Author.Needs.{needs}
+use lib.ListN.{take}
 use mir.Syntax.{w32}
 use mir.ValLaws.{toZ-ofZ}
-use lib.Seq.{take-all}
-use Rattle.lines.specs.Text.{signedNumber}
-use Rattle.lines.specs.LineLaws.{numbers-taken}
-use Prim.Native.Nat.{_+_, _-_, _*_, _≤_}
-use mathlib.Core.Path.{_≡_, sym}
-use lib.ListN.{length, take}
-use Rattle.lines.specs.Text.{Put}
+use Rattle.lines.specs.Text.{signedNumber, Put}
+use Rattle.lines.specs.LineLaws.{numbers-taken, numbers-none, numbers-more}
 use Rattle.lines.specs.Lines.{signedNumbers}
-use Rattle.lines.specs.LineLaws.{numbers-none, numbers-more}
 use Rattle.lines.specs.TextLaws.{put-none, put-as, put-both}
-use borrow.Author.Needs.{needs}
-use native.Mathlib.Omega.{arith}
 use Rattle.lines.proofs.answers.put_dues.Statement.{statement}
 use Rattle.lines.proofs.answers.put_dues.Tie as tie
-use Rattle.lines.proofs.answers.put_dues.Reads as reads
-use Rattle.lines.proofs.answers.put_dues.Lts as lts
-use Rattle.lines.proofs.answers.lesser.Reads as lesser-reads
-use Rattle.lines.proofs.put.put_signed.Reads as put-signed-reads
 
 abbrev Inv-loop : tie.InvT-loop
 Inv-loop out₀ at count dues n next₀ i₀ out next i =

@@ -1,17 +1,12 @@
 use mathlib.Core.Path.{sym, ap}
+use native.Mathlib.Omega.{arith}
+use borrow.Author.Needs.{needs}
 use Rattle.planner.specs.declared.Planned.{Planned}
 use Rattle.lines.specs.Lines.{meetsLine}
 use Rattle.lines.specs.Inside.{plannedLine}
 use Rattle.lines.specs.TextLaws.{put-as}
-use borrow.Author.Needs.{needs}
-use native.Mathlib.Omega.{arith}
 use Rattle.lines.proofs.answers.put_planned.Statement.{statement}
 use Rattle.lines.proofs.answers.put_planned.Tie as tie
-use Rattle.lines.proofs.answers.put_planned.Reads as reads
-use Rattle.lines.proofs.answers.put_planned.Lts as lts
-use Rattle.lines.proofs.answers.put_refused.Reads as put-refused-reads
-use Rattle.lines.proofs.answers.put_tight.Reads as put-tight-reads
-use Rattle.lines.proofs.put.put_bytes.Reads as put-bytes-reads
 
 enum-told : tie.Need-enum-told
 enum-told c = search needs

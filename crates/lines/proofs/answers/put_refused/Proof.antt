@@ -1,17 +1,11 @@
 use mathlib.Core.Path.{ap}
+use native.Mathlib.Omega.{arith}
+use borrow.Author.Needs.{needs}
 use Rattle.lines.specs.Text.{number}
 use Rattle.lines.specs.Lines.{refusedLine}
 use Rattle.lines.specs.TextLaws.{put-both, put-as}
-use borrow.Author.Needs.{needs}
-use native.Mathlib.Omega.{arith}
 use Rattle.lines.proofs.answers.put_refused.Statement.{statement}
 use Rattle.lines.proofs.answers.put_refused.Tie as tie
-use Rattle.lines.proofs.answers.put_refused.Reads as reads
-use Rattle.lines.proofs.answers.put_refused.Lts as lts
-use Rattle.lines.proofs.put.put_bytes.Reads as put-bytes-reads
-use Rattle.lines.proofs.put.put_number.Reads as put-number-reads
-use Rattle.order.proofs.told.carried_of.Reads as carried-of-reads
-use Rattle.order.proofs.told.number_of.Reads as number-of-reads
 
 slice-aggregate-put-bytes : tie.Need-slice-aggregate-put-bytes
 slice-aggregate-put-bytes c = search needs

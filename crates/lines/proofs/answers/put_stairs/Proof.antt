@@ -1,13 +1,9 @@
+use native.Mathlib.Omega.{arith}
+use borrow.Author.Needs.{needs}
 use Rattle.lines.specs.Lines.{tightLine}
 use Rattle.lines.specs.TextLaws.{put-both}
-use borrow.Author.Needs.{needs}
-use native.Mathlib.Omega.{arith}
 use Rattle.lines.proofs.answers.put_stairs.Statement.{statement}
 use Rattle.lines.proofs.answers.put_stairs.Tie as tie
-use Rattle.lines.proofs.answers.put_stairs.Reads as reads
-use Rattle.lines.proofs.answers.put_stairs.Lts as lts
-use Rattle.lines.proofs.answers.put_dues.Reads as put-dues-reads
-use Rattle.lines.proofs.put.put_bytes.Reads as put-bytes-reads
 
 slice-aggregate-put-bytes : tie.Need-slice-aggregate-put-bytes
 slice-aggregate-put-bytes c = search needs

@@ -1,16 +1,12 @@
 use mathlib.Core.Path.{sym, ap}
+use native.Mathlib.Omega.{arith}
+use borrow.Author.Needs.{needs}
 use Rattle.reason.specs.Told.{reasonTold}
 use Rattle.reason.specs.declared.Reason.{Reason}
 use Rattle.lines.specs.Lines.{tightLine}
 use Rattle.lines.specs.TextLaws.{put-as}
-use borrow.Author.Needs.{needs}
-use native.Mathlib.Omega.{arith}
 use Rattle.lines.proofs.answers.put_tight.Statement.{statement}
 use Rattle.lines.proofs.answers.put_tight.Tie as tie
-use Rattle.lines.proofs.answers.put_tight.Reads as reads
-use Rattle.lines.proofs.answers.put_tight.Lts as lts
-use Rattle.lines.proofs.answers.put_job.Reads as put-job-reads
-use Rattle.lines.proofs.answers.put_stairs.Reads as put-stairs-reads
 
 enum-known-reason : tie.Need-enum-known-reason
 enum-known-reason c = search needs

@@ -1,17 +1,13 @@
 use mathlib.Core.Path.{ap}
+use native.Mathlib.Omega.{arith}
+use borrow.Author.Needs.{needs}
 use mir.Syntax.{w32}
 use mir.ValLaws.{toZ-ofZ}
 use Rattle.lines.specs.Text.{signedNumber}
 use Rattle.lines.specs.Lines.{leastLine}
 use Rattle.lines.specs.TextLaws.{put-both, put-as}
-use borrow.Author.Needs.{needs}
-use native.Mathlib.Omega.{arith}
 use Rattle.lines.proofs.plans.put_least.Statement.{statement}
 use Rattle.lines.proofs.plans.put_least.Tie as tie
-use Rattle.lines.proofs.plans.put_least.Reads as reads
-use Rattle.lines.proofs.plans.put_least.Lts as lts
-use Rattle.lines.proofs.put.put_bytes.Reads as put-bytes-reads
-use Rattle.lines.proofs.put.put_signed.Reads as put-signed-reads
 
 slice-aggregate-put-bytes : tie.Need-slice-aggregate-put-bytes
 slice-aggregate-put-bytes c = search needs

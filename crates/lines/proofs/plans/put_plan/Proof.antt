@@ -1,19 +1,14 @@
 use mathlib.Core.Path.{sym, ap}
+use native.Mathlib.Omega.{arith}
+use borrow.Author.Needs.{needs}
 use mir.Syntax.{w32}
 use mir.ValLaws.{toZ-ofZ}
 use Rattle.sums.specs.ListLaws.{length-tabulate}
 use Rattle.plan.specs.Check.{rowAt}
 use Rattle.lines.specs.Lines.{leastLine, endLine, planLines}
 use Rattle.lines.specs.TextLaws.{put-both, put-as}
-use borrow.Author.Needs.{needs}
-use native.Mathlib.Omega.{arith}
 use Rattle.lines.proofs.plans.put_plan.Statement.{statement}
 use Rattle.lines.proofs.plans.put_plan.Tie as tie
-use Rattle.lines.proofs.plans.put_plan.Reads as reads
-use Rattle.lines.proofs.plans.put_plan.Lts as lts
-use Rattle.lines.proofs.plans.put_end.Reads as put-end-reads
-use Rattle.lines.proofs.plans.put_least.Reads as put-least-reads
-use Rattle.lines.proofs.plans.put_rows.Reads as put-rows-reads
 
 put-least-requires : tie.Need-put-least-requires
 put-least-requires c κs = search needs

@@ -1,13 +1,9 @@
+use native.Mathlib.Omega.{arith}
+use borrow.Author.Needs.{needs}
 use Rattle.lines.specs.Lines.{pieceLine}
 use Rattle.lines.specs.TextLaws.{put-both}
-use borrow.Author.Needs.{needs}
-use native.Mathlib.Omega.{arith}
 use Rattle.lines.proofs.plans.put_row.Statement.{statement}
 use Rattle.lines.proofs.plans.put_row.Tie as tie
-use Rattle.lines.proofs.plans.put_row.Reads as reads
-use Rattle.lines.proofs.plans.put_row.Lts as lts
-use Rattle.lines.proofs.put.put_bytes.Reads as put-bytes-reads
-use Rattle.lines.proofs.put.put_number.Reads as put-number-reads
 
 slice-aggregate-put-bytes : tie.Need-slice-aggregate-put-bytes
 slice-aggregate-put-bytes c = search needs

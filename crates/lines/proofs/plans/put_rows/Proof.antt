@@ -1,19 +1,15 @@
 use Prim.Native.Nat.{_+_, _-_, _*_, _≤_}
-use lib.ListN.{length}
+use mathlib.Core.Path.{_≡_, sym}
+use native.Mathlib.Omega.{arith}
+use borrow.Author.Needs.{needs}
 use Rattle.sums.specs.Lists.{tabulate}
 use Rattle.plan.specs.Check.{rowAt}
 use Rattle.lines.specs.Text.{Put}
 use Rattle.lines.specs.Lines.{pieceLines}
 use Rattle.lines.specs.LineLaws.{pieces-none, pieces-more}
 use Rattle.lines.specs.TextLaws.{put-none, put-as, put-both}
-use mathlib.Core.Path.{_≡_, sym}
-use borrow.Author.Needs.{needs}
-use native.Mathlib.Omega.{arith}
 use Rattle.lines.proofs.plans.put_rows.Statement.{statement}
 use Rattle.lines.proofs.plans.put_rows.Tie as tie
-use Rattle.lines.proofs.plans.put_rows.Reads as reads
-use Rattle.lines.proofs.plans.put_rows.Lts as lts
-use Rattle.lines.proofs.plans.put_row_at.Reads as put-row-at-reads
 
 abbrev Inv-loop : tie.InvT-loop
 Inv-loop out₀ at rows count next₀ i₀ out next i =

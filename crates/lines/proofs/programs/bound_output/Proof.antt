@@ -1,18 +1,12 @@
 use mathlib.Core.Path.{refl, _∙_}
+use borrow.Author.Needs.{needs}
 use mir.Syntax.{w32}
 use mir.ValLaws.{toZ-ofZ}
 use Rattle.order.specs.Table.{orderOf}
 use Rattle.lines.specs.TextLaws.{put-as}
 use Rattle.lines.proofs.Told.{blank, blank-size, planned-line, planned-refused-is, bound-moved}
-use borrow.Author.Needs.{needs}
-use native.Mathlib.Omega.{arith}
 use Rattle.lines.proofs.programs.bound_output.Statement.{statement}
 use Rattle.lines.proofs.programs.bound_output.Tie as tie
-use Rattle.lines.proofs.programs.bound_output.Reads as reads
-use Rattle.lines.proofs.programs.bound_output.Lts as lts
-use Rattle.lines.proofs.answers.put_planned.Reads as put-planned-reads
-use Rattle.lines.proofs.programs.is_refused.Reads as is-refused-reads
-use Rattle.planner.proofs.bound.plan_at.Reads as plan-at-reads
 
 slice-aggregate-plan-at : tie.Need-slice-aggregate-plan-at
 slice-aggregate-plan-at c = search needs

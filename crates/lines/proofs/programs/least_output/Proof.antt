@@ -1,18 +1,13 @@
+use native.Mathlib.Omega.{arith}
+use borrow.Author.Needs.{needs}
 use Rattle.profile.specs.Least.{leastLateness}
 use Rattle.profile.specs.LeastRange.{least-in-range}
 use Rattle.planner.specs.LeastRead.{read-least}
 use Rattle.order.specs.Table.{orderOf}
 use Rattle.planner.specs.RowLaws.{written-few}
 use Rattle.lines.proofs.Told.{blank, blank-size, refused-text, refused-true, accepted-false, written-room, least-told, least-written, plan-text, plan-order-text}
-use borrow.Author.Needs.{needs}
-use native.Mathlib.Omega.{arith}
 use Rattle.lines.proofs.programs.least_output.Statement.{statement}
 use Rattle.lines.proofs.programs.least_output.Tie as tie
-use Rattle.lines.proofs.programs.least_output.Reads as reads
-use Rattle.lines.proofs.programs.least_output.Lts as lts
-use Rattle.lines.proofs.answers.put_refused.Reads as put-refused-reads
-use Rattle.lines.proofs.plans.put_plan.Reads as put-plan-reads
-use Rattle.planner.proofs.lateness.least_lateness.Reads as least-lateness-reads
 
 slice-aggregate-least-lateness : tie.Need-slice-aggregate-least-lateness
 slice-aggregate-least-lateness c = search needs

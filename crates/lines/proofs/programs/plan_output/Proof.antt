@@ -1,4 +1,6 @@
 use mathlib.Core.Path.{sym, subst}
+use native.Mathlib.Omega.{arith}
+use borrow.Author.Needs.{needs}
 use Rattle.order.specs.Refusals.{Accepted}
 use Rattle.order_file.specs.File.{orderIn}
 use Rattle.order_file.specs.ReaderLaws.{order-is, order-accepted, file-refused, file-read}
@@ -6,15 +8,8 @@ use Rattle.planner.specs.AnswerLaws.{least-begins}
 use Rattle.planner.specs.Rows.{leastRows}
 use Rattle.lines.specs.Programs.{planOrderRows}
 use Rattle.lines.proofs.Told.{refused-text, refused-true, least-moved}
-use borrow.Author.Needs.{needs}
-use native.Mathlib.Omega.{arith}
 use Rattle.lines.proofs.programs.plan_output.Statement.{statement}
 use Rattle.lines.proofs.programs.plan_output.Tie as tie
-use Rattle.lines.proofs.programs.plan_output.Reads as reads
-use Rattle.lines.proofs.programs.plan_output.Lts as lts
-use Rattle.lines.proofs.answers.put_refused.Reads as put-refused-reads
-use Rattle.lines.proofs.programs.least_output.Reads as least-output-reads
-use Rattle.order_file.proofs.read.read_order.Reads as read-order-reads
 
 read-order-requires : tie.Need-read-order-requires
 read-order-requires c κs = search needs

@@ -1,7 +1,7 @@
-use mathlib.Core.Path.{_≡_, sym, ap, _∙_}
-use lib.ListN.{length, drop, take}
+use native.Mathlib.Omega.{arith}
+use borrow.Author.Needs.{needs}
+use lib.ListN.{drop}
 use Rattle.order.specs.declared.Refusal.the-variants.{BadFile}
-use Rattle.order_file.specs.Bytes.{signed}
 use Rattle.order_file.specs.File.{orderIn}
 use Rattle.order_file.specs.ReaderLaws.{order-is, file-refused, file-read}
 use Rattle.planner.specs.AnswerLaws.{plan-begins}
@@ -9,17 +9,8 @@ use Rattle.planner.specs.Rows.{planRows}
 use Rattle.lines.specs.Programs.{tryBoundRows, boundIn}
 use Rattle.lines.specs.TextLaws.{put-as}
 use Rattle.lines.proofs.Told.{refused-true, read-part, bound-read, tried-short, tried-refused, tried-moved}
-use borrow.Author.Needs.{needs}
-use native.Mathlib.Omega.{arith}
 use Rattle.lines.proofs.programs.tried_output.Statement.{statement}
 use Rattle.lines.proofs.programs.tried_output.Tie as tie
-use Rattle.lines.proofs.programs.tried_output.Reads as reads
-use Rattle.lines.proofs.programs.tried_output.Lts as lts
-use Rattle.lines.proofs.answers.put_refused.Reads as put-refused-reads
-use Rattle.lines.proofs.programs.bound_output.Reads as bound-output-reads
-use Rattle.order_file.proofs.bytes.read4.Reads as read4-reads
-use Rattle.order_file.proofs.bytes.to_signed.Reads as to-signed-reads
-use Rattle.order_file.proofs.read.read_order.Reads as read-order-reads
 
 put-refused-requires : tie.Need-put-refused-requires
 put-refused-requires c κs = search needs

@@ -7,8 +7,6 @@ use Rattle.lines.specs.Text.{Put}
 use Rattle.lines.specs.TextLaws.{put-none, put-at, put-as, put-more}
 use Rattle.lines.proofs.put.put_bytes.Statement.{statement}
 use Rattle.lines.proofs.put.put_bytes.Tie as tie
-use Rattle.lines.proofs.put.put_bytes.Reads as reads
-use Rattle.lines.proofs.put.put_bytes.Lts as lts
 
 abbrev Inv-loop : tie.InvT-loop
 Inv-loop out₀ at bytes i₀ out i = (i ≤ length bytes) × Put out₀ at (take i bytes) out (at + i)

@@ -1,10 +1,8 @@
 use native.Mathlib.Omega.{arith}
-use Rattle.lines.specs.TextLaws.{put-one}
 use borrow.Author.Needs.{needs}
+use Rattle.lines.specs.TextLaws.{put-one}
 use Rattle.lines.proofs.put.put_digit.Statement.{statement}
 use Rattle.lines.proofs.put.put_digit.Tie as tie
-use Rattle.lines.proofs.put.put_digit.Reads as reads
-use Rattle.lines.proofs.put.put_digit.Lts as lts
 
 cast-out : tie.Need-cast-out
 cast-out c = search needs

@@ -1,12 +1,8 @@
-use Rattle.lines.specs.TextLaws.{decimal-short, put-both}
-use borrow.Author.Needs.{needs}
 use native.Mathlib.Omega.{arith}
+use borrow.Author.Needs.{needs}
+use Rattle.lines.specs.TextLaws.{decimal-short, put-both}
 use Rattle.lines.proofs.put.put_number.Statement.{statement}
 use Rattle.lines.proofs.put.put_number.Tie as tie
-use Rattle.lines.proofs.put.put_number.Reads as reads
-use Rattle.lines.proofs.put.put_number.Lts as lts
-use Rattle.lines.proofs.put.put_bytes.Reads as put-bytes-reads
-use Rattle.lines.proofs.put.put_decimal.Reads as put-decimal-reads
 
 slice-aggregate-put-bytes : tie.Need-slice-aggregate-put-bytes
 slice-aggregate-put-bytes c = search needs

@@ -1,20 +1,14 @@
 use Prim.Native.Nat.{_+_, _-_}
-use mathlib.Core.Path.{_≡_, ap, _∙_}
+use mathlib.Core.Path.{ap, _∙_}
+use native.Mathlib.Omega.{arith}
+use borrow.Author.Needs.{needs}
 use mir.Syntax.{w32}
 use mir.ValLaws.{toZ-ofZ}
 use Rattle.order_file.specs.Bytes.{pattern}
 use Rattle.lines.specs.TextLaws.{decimal-short, put-both, put-as}
 use Rattle.lines.specs.SignedLaws.{signed-positive, signed-negative}
-use borrow.Author.Needs.{needs}
-use native.Mathlib.Omega.{arith}
 use Rattle.lines.proofs.put.put_signed.Statement.{statement}
 use Rattle.lines.proofs.put.put_signed.Tie as tie
-use Rattle.lines.proofs.put.put_signed.Reads as reads
-use Rattle.lines.proofs.put.put_signed.Lts as lts
-use Rattle.lines.proofs.put.put_bytes.Reads as put-bytes-reads
-use Rattle.lines.proofs.put.put_decimal.Reads as put-decimal-reads
-use Rattle.lines.proofs.put.put_number.Reads as put-number-reads
-use Rattle.order_file.proofs.bytes.to_pattern.Reads as to-pattern-reads
 
 to-pattern-requires : tie.Need-to-pattern-requires
 to-pattern-requires c κs = search needs
