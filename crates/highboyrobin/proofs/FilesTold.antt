@@ -14,7 +14,7 @@ use Rattle.order.specs.Refusals.{limits, Verdict, accepted, refused, judge, ans
 use Rattle.order.specs.RefusalLaws.{judge-accepted, counts-in-limits}
 use Rattle.order.specs.Table.{refusalTold}
 use Rattle.order.specs.declared.Refusal.{Refusal}
-use Rattle.order_file.specs.File.{fileLength, writeRows, writtenBy}
+use Rattle.order_file.specs.File.{fileLength, writeRows, writtenBy, ReadBackBy}
 use Rattle.order_file.specs.Told.{writtenTold}
 use Rattle.order_file.specs.declared.OrderWritten.{OrderWritten}
 use Rattle.order_file.specs.declared.OrderWritten.the-variants.{Bytes, Refused}
@@ -22,15 +22,16 @@ use Rattle.highboyrobin.specs.Results.{resultOf, answeredBy}
 use Rattle.highboyrobin.specs.Calls.{orderFrom, writeCall}
 use Rattle.order.specs.TableLaws.{refused-told, verdict-refused, verdict-accepted}
 
--- result, file and answer, by the verdict
+-- result, file, that it is read back, and answer, by the verdict
 module _ (v : Verdict) (o : Order) (file : List ℕ) (entry : List ℤ) where
   abbrev pub WriteEnded : ℕ → List ℕ → List ℤ → Type 0
   WriteEnded result file′ exit =
-      (result ≡ resultOf v) × ((file′ ≡ writtenBy v o file) × (exit ≡ answeredBy v (pos (fileLength o) ∷ []) entry))
+      (result ≡ resultOf v)
+      × ((file′ ≡ writtenBy v o file) × (ReadBackBy v o file′ × (exit ≡ answeredBy v (pos (fileLength o) ∷ []) entry)))
 
   pub write-refused : (number job : ℕ) → v ≡ refused number job → (file′ : List ℕ) → file′ ≡ file →
       WriteEnded (number + 256 * job) file′ entry
-  write-refused number job e file′ k = rw e (refl, (k, refl))
+  write-refused number job e file′ k = rw e (refl, (k, (tt, refl)))
 
   pub write-told : (why : Refusal) → v ≡ refusalTold why → (result : ℕ) → result ≡ resultOf (refusalTold why) →
       (file′ : List ℕ) → file′ ≡ file → WriteEnded result file′ entry
@@ -38,9 +39,9 @@ module _ (v : Verdict) (o : Order) (file : List ℕ) (entry : List ℤ) where
       let t = refused-told why in
       subst (λ (n : ℕ). WriteEnded n file′ entry) (sym (r ∙ ap resultOf (t .2))) (write-refused (t .0) (t .1) (e ∙ t .2) file′ k)
 
-  pub write-done : v ≡ accepted → (file′ : List ℕ) → file′ ≡ writtenBy v o file → (exit : List ℤ) →
-      exit ≡ pos (fileLength o) ∷ drop 1 entry → WriteEnded 0 file′ exit
-  write-done e file′ f exit x = (rw e refl, (f, x ∙ rw e refl))
+  pub write-done : (u : Verdict) → v ≡ u → u ≡ accepted → (file′ : List ℕ) → file′ ≡ writtenBy u o file →
+      ReadBackBy u o file′ → (exit : List ℤ) → exit ≡ pos (fileLength o) ∷ drop 1 entry → WriteEnded 0 file′ exit
+  write-done u d e file′ f b exit x = rw d (rw e refl, (f, (b, x ∙ rw e refl)))
 
 -- the rows before the writer's
 module _ (memories jobs : List ℕ) (lent answer : ℕ) where
@@ -85,7 +86,7 @@ module _ (memories jobs : List ℕ) (lent answer : ℕ) where
 abbrev pub WriteTold : Order → List ℕ → List ℕ → OrderWritten → Type 0
 WriteTold o file file′ w =
     (writtenTold w ≡ answerBy (judge (writeRows o (length file))) (fileLength o))
-    × (file′ ≡ writtenBy (judge (writeRows o (length file))) o file)
+    × ((file′ ≡ writtenBy (judge (writeRows o (length file))) o file) × ReadBackBy (judge (writeRows o (length file))) o file′)
 
 pub write-moved : (o o′ : Order) (file file′ : List ℕ) (w : OrderWritten) → o ≡ o′ → WriteTold o file file′ w → WriteTold o′ file file′ w
 write-moved o o′ file file′ w e t = subst (λ (x : Order). WriteTold x file file′ w) e t
@@ -99,13 +100,14 @@ module _ (o : Order) (file file′ : List ℕ) (w : OrderWritten) (t : WriteTold
       let u = subst (WriteTold o file file′) e t in
       let x = verdict-refused told why 0 (fileLength o) (u .0) in
       let r = refused-told why in
-      (x, u .1 ∙ ap (λ (v : Verdict). writtenBy v o file) (x ∙ r .2))
+      (x, u .1 .0 ∙ ap (λ (v : Verdict). writtenBy v o file) (x ∙ r .2))
 
-  pub writer-wrote : (n : ℕ) → w ≡ Bytes n → (told ≡ accepted) × (n ≡ fileLength o) × (file′ ≡ writtenBy told o file)
+  pub writer-wrote : (n : ℕ) → w ≡ Bytes n →
+      (told ≡ accepted) × (n ≡ fileLength o) × (file′ ≡ writtenBy told o file) × ReadBackBy told o file′
   writer-wrote n e =
       let u = subst (WriteTold o file file′) e t in
       let x = verdict-accepted told n (fileLength o) (u .0) in
-      (x .0, x .1, u .1)
+      (x .0, x .1, u .1 .0, u .1 .1)
 
 -- a file that is written is short: its order is accepted
 pub file-few : (o : Order) (n : ℕ) → judge (writeRows o n) ≡ accepted → fileLength o ≤ 652

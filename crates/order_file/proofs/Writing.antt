@@ -1,10 +1,13 @@
 -- How the writer puts its answer together: acceptance decides alone where it refuses, else the room in the buffer does.
 use Prim.Native.Nat.{ℕ, _+_, _*_, _≤_, _<_}
-use mathlib.Core.Path.{_≡_, refl, sym, ap, _∙_}
-use mathlib.Core.List.{List, [], _∷_, _++_, append-assoc}
+use mathlib.Core.Path.{_≡_, refl, sym, ap, subst, _∙_}
+use mathlib.Core.List.{List, [], _∷_, _++_, map, append-assoc}
 use native.Mathlib.Omega.{arith}
 use borrow.Author.Tests.{lt-ltb, le-ltb}
 use lib.ListN.{length, getD, take, drop}
+use mir.Syntax.{w32}
+use mir.Val.{vint, ofList, WTs}
+use Rattle.sums.specs.Lists.{All}
 use Rattle.sums.specs.ListLaws.{length-tabulate}
 use Rattle.order.specs.Order.{Order, processorCount, jobCount}
 use Rattle.order.specs.Refusals.{
@@ -28,13 +31,20 @@ use Rattle.order.specs.declared.Order.{Order as OrderTable}
 use Rattle.order.specs.declared.Refusal.{Refusal}
 use Rattle.order.specs.declared.Acceptance.{Acceptance}
 use Rattle.order.specs.declared.Acceptance.the-variants.{Accepted, Refused}
-use Rattle.order_file.specs.File.{processorBytes, jobBytes, trailerBytes, fileOf, fileLength, writeRows, writtenBy}
+use Rattle.order_file.specs.File.{processorBytes, jobBytes, trailerBytes, fileOf, fileLength, writeRows, writtenBy, ReadBackBy}
 use Rattle.order_file.specs.FileLaws.{length-processorBytes, length-jobBytes}
+use Rattle.order_file.specs.RoundTrip.{Bounded, read-back}
 use Rattle.order_file.proofs.Stores.{Front, front-more}
 
--- what the writer answers and leaves in the buffer, by the verdict
+-- what the writer answers and leaves in the buffer, by the verdict, and that it is read back
 abbrev pub WrittenBy : Verdict → Order → List ℕ → Answer ℕ → List ℕ → Type 0
-WrittenBy v o buffer told after = (told ≡ answerBy v (fileLength o)) × (after ≡ writtenBy v o buffer)
+WrittenBy v o buffer told after =
+    (told ≡ answerBy v (fileLength o)) × ((after ≡ writtenBy v o buffer) × ReadBackBy v o after)
+
+-- the elements of an array of u32
+pub array-small : (xs : List ℕ) → WTs (ofList (map (vint w32) (map (λ x. x) xs))) → All (λ x. x < 4294967296) xs
+array-small [] h = tt
+array-small (x ∷ xs) h = (h .0 .fits, array-small xs (h .1))
 
 module _ (t : OrderTable) where
   processors-are : processorCount (orderOf t) ≡ t .processors
@@ -66,7 +76,7 @@ module _ (t : OrderTable) (a : Acceptance) (e : acceptanceTold a ≡ judge (orde
         let told = refused-told r in
         let v : judge (orderRows limits (orderOf t)) ≡ refused (told .0) (told .1) = sym e ∙ ap acceptanceTold is ∙ told .2 in
         let w = judge-refused-append (orderRows limits (orderOf t)) room (told .0) (told .1) v in
-        rw (told .2, w) (refl, refl)
+        rw (told .2, w) (refl, (refl, tt))
 
     module _ (is : a ≡ Accepted) where
       room-decides : judge (writeRows (orderOf t) (length buffer)) ≡ judge room
@@ -78,14 +88,15 @@ module _ (t : OrderTable) (a : Acceptance) (e : acceptanceTold a ≡ judge (orde
       unfolding judge
       too-short h =
           rw (room-decides, lt-ltb (length buffer) (fileLength (orderOf t)) (omega (arith, processors-are t, jobs-are t)))
-          (refl, refl)
+          (refl, (refl, tt))
 
       -- the three parts, stored one after the other, are the file
       module _ (o₁ o₂ o₃ : List ℕ) (enough : 4 * t .processors + 12 * t .jobs + 12 ≤ length buffer)
           (e₁ : o₁ ≡ processorBytes (orderOf t .memories) ++ drop (4 * t .processors) buffer)
           (e₂ : o₂ ≡ take (4 * t .processors) o₁ ++ (jobBytes (orderOf t .jobs) ++ drop (4 * t .processors + 12 * t .jobs) o₁))
           (e₃ : o₃ ≡ take (4 * t .processors + 12 * t .jobs) o₂
-          ++ (trailerBytes (t .processors) (t .jobs) ++ drop (4 * t .processors + 12 * t .jobs + 12) o₂)) where
+          ++ (trailerBytes (t .processors) (t .jobs) ++ drop (4 * t .processors + 12 * t .jobs + 12) o₂))
+          (small : Bounded (orderOf t)) where
         processors-stored : Front buffer (4 * t .processors) (processorBytes (orderOf t .memories)) o₁
         processors-stored =
             record {
@@ -113,8 +124,17 @@ module _ (t : OrderTable) (a : Acceptance) (e : acceptanceTold a ≡ judge (orde
             ∙ ap (λ (l : List ℕ). l ++ drop (4 * t .processors + 12 * t .jobs + 12) buffer)
             (append-assoc processors jobs (trailerBytes (t .processors) (t .jobs))))
 
-        pub file-written : WrittenBy verdict (orderOf t) buffer (answer (4 * t .processors + 12 * t .jobs + 12)) o₃
+        accepts : verdict ≡ accepted
         unfolding judge
-        file-written =
-            rw (room-decides, le-ltb (length buffer) (fileLength (orderOf t)) (omega (arith, processors-are t, jobs-are t)))
-            (ap answer (omega (arith, processors-are t, jobs-are t)), all-stored)
+        accepts =
+            room-decides
+            ∙ rw (le-ltb (length buffer) (fileLength (orderOf t)) (omega (arith, processors-are t, jobs-are t)))
+
+        written : o₃ ≡ writtenBy verdict (orderOf t) buffer
+        written = rw accepts all-stored
+
+        pub file-written : WrittenBy verdict (orderOf t) buffer (answer (4 * t .processors + 12 * t .jobs + 12)) o₃
+        file-written = (
+          rw accepts (ap answer (omega (arith, processors-are t, jobs-are t))),
+          (written, subst (ReadBackBy verdict (orderOf t)) (sym written) (read-back (orderOf t) buffer small)),
+        )

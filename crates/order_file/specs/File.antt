@@ -1,9 +1,10 @@
 -- Document 01's order file: two lists in either order, and a trailer of 12 bytes that points back to them.
 use Prim.Native.Nat.{ℕ, _+_, _-_, _*_}
+use mathlib.Core.Path.{_≡_}
 use mathlib.Core.Bool.{Bool, _&&_, _||_}
 use mathlib.Core.List.{List, [], _∷_, _++_}
 use lib.Dec.{leb, eqb}
-use lib.ListN.{length, drop}
+use lib.ListN.{length, take, drop}
 use Rattle.sums.specs.Lists.{tabulate}
 use Rattle.order.specs.Order.{Job, Order, processorCount, jobCount}
 use Rattle.order.specs.Refusals.{
@@ -14,6 +15,7 @@ use Rattle.order.specs.Refusals.{
   Verdict,
   accepted,
   refused,
+  judge,
   orderRows,
   roomRow,
   fileRow,
@@ -100,3 +102,13 @@ writeRows o lent = orderRows limits o ++ (roomRow lent (fileLength o) ∷ [])
 abbrev pub writtenBy : Verdict → Order → List ℕ → List ℕ
 writtenBy accepted o buffer = fileOf o ++ drop (fileLength o) buffer
 writtenBy (refused number carried) o buffer = buffer
+
+-- a buffer whose first n bytes are read back as this order
+pub record ReadsBack (o : Order) (n : ℕ) (buffer : List ℕ) : Type 0 where
+  pub taken : judge (readRows (take n buffer)) ≡ accepted
+  pub same : orderIn (take n buffer) ≡ o
+
+-- by what the writer's table answers: the file in the buffer is read back as the order; nothing is said where it refuses
+abbrev pub ReadBackBy : Verdict → Order → List ℕ → Type 0
+ReadBackBy accepted o buffer = ReadsBack o (fileLength o) buffer
+ReadBackBy (refused number carried) o buffer = Unit {0}

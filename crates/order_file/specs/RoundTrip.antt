@@ -1,8 +1,8 @@
 -- An order that is written and read again is the same order; and what a file has to be for the reader to take it.
-use Prim.Native.Nat.{ℕ, _+_, _*_, _≤_, _<_}
+use Prim.Native.Nat.{ℕ, zero, suc, _+_, _*_, _≤_, _<_}
 use mathlib.Core.Path.{_≡_, refl, sym, ap, _∙_}
 use mathlib.Core.Bool.{Bool, true, false, _&&_, _||_}
-use mathlib.Core.List.{List, _++_, append-assoc}
+use mathlib.Core.List.{List, [], _∷_, _++_, append-assoc}
 use mathlib.Core.Logic.{_↔_, _⊎_, inl, inr}
 use native.Mathlib.Omega.{arith}
 use borrow.Author.Tests.{leb-true, le-leb, eqb-true, eq-eqb}
@@ -14,9 +14,11 @@ use lib.Signed.{mag, _≤ℤ_}
 use Rattle.sums.specs.Lists.{All, tabulate}
 use Rattle.sums.specs.ListLaws.{All-map, All-both, tabulate-cong, tabulate-getD}
 use Rattle.order.specs.Order.{Job, Order, noJob, processorCount, jobCount}
-use Rattle.order.specs.Refusals.{accepted, judge, Accepted}
-use Rattle.order.specs.RefusalLaws.{Acceptable, accepted-iff, both-true}
+use Rattle.order.specs.Refusals.{limits, TableRow, Verdict, accepted, refused, judge, orderRows, Accepted}
+use Rattle.order.specs.RefusalLaws.{Acceptable, accepted-iff, both-true, judge-refused-append}
 use Rattle.order.specs.StructLaws.{same-order}
+use Rattle.order.specs.Table.{orderOf, jobAt}
+use Rattle.order.specs.declared.Order.{Order as OrderTable}
 use Rattle.order_file.specs.Bytes.{number4, number2}
 use Rattle.order_file.specs.ByteLaws.{four-bytes, two-bytes, number4-past, number2-past}
 use Rattle.order_file.specs.File.{
@@ -35,6 +37,9 @@ use Rattle.order_file.specs.File.{
   trailerBytes,
   fileOf,
   fileLength,
+  writeRows,
+  writtenBy,
+  ReadBackBy,
 }
 use Rattle.order_file.specs.FileLaws.{
   length-processorBytes,
@@ -134,14 +139,32 @@ fileOf-length o =
     ∙ ap (λ (n : ℕ). n + 12) (lists-length o)
 
 -- the writer's buffer begins with the file
-pub written-file : (o : Order) (buffer : List ℕ) → fileLength o ≤ length buffer →
-    take (fileLength o) (fileOf o ++ drop (fileLength o) buffer) ≡ fileOf o
-written-file o buffer h = take-at (fileOf o) (drop (fileLength o) buffer) (fileLength o) (fileOf-length o)
+pub written-file : (o : Order) (buffer : List ℕ) → take (fileLength o) (fileOf o ++ drop (fileLength o) buffer) ≡ fileOf o
+written-file o buffer = take-at (fileOf o) (drop (fileLength o) buffer) (fileLength o) (fileOf-length o)
 
 -- document 01's ranges of memory and need: 0 to 4,294,967,295
 pub record Bounded (o : Order) : Type 0 where
   pub memories : All (λ m. m < 4294967296) (o .memories)
   pub needs : All (λ (job : Job). job .need < 4294967296) (o .jobs)
+
+-- a number of a list of such numbers, or the 0 behind its end
+small-at : (xs : List ℕ) (i : ℕ) → All (λ x. x < 4294967296) xs → getD xs i 0 < 4294967296
+small-at [] i h = omega arith
+small-at (x ∷ xs) zero h = h .0
+small-at (x ∷ xs) (suc i) h = small-at xs i (h .1)
+
+all-tabulated : {A : Type 0} (P : A → Type 0) (n : ℕ) (f : ℕ → A) → ((i : ℕ) → P (f i)) → All P (tabulate n f)
+all-tabulated P zero f h = tt
+all-tabulated P (suc n) f h = (h 0, all-tabulated P n (λ i. f (suc i)) (λ i. h (suc i)))
+
+-- a struct whose memories and needs are of 32 bits has an order in these ranges
+pub struct-bounded : (t : OrderTable) → All (λ m. m < 4294967296) (t .memories) → All (λ n. n < 4294967296) (t .needs) →
+    Bounded (orderOf t)
+struct-bounded t m n =
+    record {
+      memories = all-tabulated _ (t .processors) _ (λ i. small-at (t .memories) i m);
+      needs = all-tabulated _ (t .jobs) (jobAt t) (λ j. small-at (t .needs) j n);
+    }
 
 -- a due time in range is of 32 bits
 small-due : (z : ℤ) → negsuc 999999 ≤ℤ z → z ≤ℤ pos 1000000 → mag z < 2147483648
@@ -241,3 +264,24 @@ module _ (o : Order) (a : Accepted o) (b : Bounded o) where
 -- reading a written order yields the same order
 pub read-written : (o : Order) → Accepted o → Bounded o → (judge (readRows (fileOf o)) ≡ accepted) × (orderIn (fileOf o) ≡ o)
 read-written o a b = (file-accepted o a b, order-read o a b)
+
+-- where a table accepts, so do its first rows
+accepted-first : (rows later : List TableRow) → judge (rows ++ later) ≡ accepted → judge rows ≡ accepted
+accepted-first rows later e = go (judge rows) refl
+  where
+    go : (v : Verdict) → judge rows ≡ v → v ≡ accepted
+    go accepted is = refl
+    go (refused number carried) is = sym (judge-refused-append rows later number carried is) ∙ e
+
+-- what the writer leaves in a lent buffer is read back as the same order
+pub read-back : (o : Order) (buffer : List ℕ) → Bounded o →
+    ReadBackBy (judge (writeRows o (length buffer))) o (writtenBy (judge (writeRows o (length buffer))) o buffer)
+unfolding writeRows
+read-back o buffer b = go (judge (writeRows o (length buffer))) refl
+  where
+    go : (v : Verdict) → judge (writeRows o (length buffer)) ≡ v → ReadBackBy v o (writtenBy v o buffer)
+    go accepted is =
+        let r = read-written o (accepted-first (orderRows limits o) _ is) b in
+        let f = written-file o buffer in
+        record { taken = rw f (r .0); same = rw f (r .1) }
+    go (refused number carried) is = tt

@@ -13,7 +13,7 @@ ghost use lib.ListN.{length, take, drop};
 ghost use Rattle.order.specs.Refusals.{judge, answerBy};
 ghost use Rattle.order.specs.Table.{orderOf, jobAt};
 ghost use Rattle.order_file.specs.File.{processorBytes, bytesOfJob, jobBytes, trailerBytes};
-ghost use Rattle.order_file.specs.File.{fileLength, writeRows, writtenBy};
+ghost use Rattle.order_file.specs.File.{fileLength, writeRows, writtenBy, ReadBackBy};
 ghost use Rattle.order_file.specs.Told.{writtenTold};
 
 // The processor list is stored from byte 0 on.
@@ -79,6 +79,7 @@ pub fn write_order(order: Order, out: &mut [u8]) -> OrderWritten
         ≡ answerBy (judge (writeRows (orderOf order) (length (now (out .entry))))) (fileLength (orderOf order)) ⌝ }
     ensures { λ r. ⌜ now (out .exit)
         ≡ writtenBy (judge (writeRows (orderOf order) (length (now (out .entry))))) (orderOf order) (now (out .entry)) ⌝ }
+    ensures { λ r. ⌜ ReadBackBy (judge (writeRows (orderOf order) (length (now (out .entry))))) (orderOf order) (now (out .exit)) ⌝ }
 {
     if let Acceptance::Refused(refusal) = order::accept::accept(order) {
         return OrderWritten::Refused(refusal);

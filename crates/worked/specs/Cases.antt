@@ -1,16 +1,15 @@
--- Document 01's cases with a ●: one table, and one theorem that every case holds of the definitions.
+-- Document 01's cases with a ●, and more: one table, and one theorem that every case holds of the definitions.
 use Prim.Native.Nat.{ℕ}
 use mathlib.Core.Path.{_≡_, refl, sym, ap, _∙_, subst}
 use mathlib.Core.Bool.{Bool, true, false, true≢false}
-use mathlib.Core.List.{List, [], _∷_}
+use mathlib.Core.List.{List, [], _∷_, map}
 use lib.IntN.{ℤ, pos, negsuc}
 use Rattle.sums.specs.Sum.{sum}
 use Rattle.sums.specs.Lists.{All}
-use Rattle.sums.specs.ListLaws.{All-map}
 use Rattle.order.specs.Order.{Order, endOf}
 use Rattle.order.specs.Sorted.{insert, distinct, dueTimes}
 use Rattle.order.specs.Class.{classes, lastThatSuffices, classFor, classOf, processorsIn, processorsTo}
-use Rattle.order.specs.Refusals.{judge, firstAfter, fitsSome, Accepted}
+use Rattle.order.specs.Refusals.{limits, Verdict, accepted, judge, firstAfter, fitsSome, orderRows, Accepted}
 use Rattle.plan.specs.Plan.{Row, Right}
 use Rattle.plan.specs.IsLeast.{IsLeast}
 use Rattle.plan.specs.Check.{numbersOf, rowsOf, every, everyTwo, isRight}
@@ -18,11 +17,11 @@ use Rattle.plan.specs.CheckLaws.{isRight-iff}
 use Rattle.plan.specs.NumberLaws.{rows-of-numbers}
 use Rattle.profile.specs.Profile.{owed, classOwes, owedFrom, onHandFrom}
 use Rattle.profile.specs.Reason.{Reason, overEnd, stairs, IsReason, owedOf, onHandOf}
-use Rattle.profile.specs.Search.{found, choices, ranked, firstSuch, firstOverfull, reasonOf}
+use Rattle.profile.specs.Search.{Found, found, choices, ranked, firstSuch, firstOverfull, reasonOf}
 use Rattle.profile.specs.ReasonLaws.{reason-found}
 use Rattle.profile.specs.Least.{weightAt, weightFrom, largest, heaviest, most, leastReach, leastLateness}
 use Rattle.feasible.specs.Least.{is-least}
-use Rattle.worked.specs.Orders.{A, B, C, D, needZero, overdue}
+use Rattle.worked.specs.Orders.{A, B, C, D, needZero, overdue, twoOverfull}
 
 -- a case: a least lateness; a reason at a bound with its minutes owed and on hand; a plan and whether it is right
 pub data Case : Type 0 where
@@ -39,10 +38,14 @@ Holds (reasonIs o bound reason owes hand) =
 Holds (rightIs o bound rows) = Right o bound rows
 Holds (wrongIs o bound rows) = ¬ Right o bound rows
 
--- a row of job 1 on processor 1
-abbrev piece : ℕ → ℕ → Row
-piece from to = record { job = 1; processor = 1; from = from; to = to }
+-- a row: job, processor, from, to; and a row of job 1 on processor 1
+abbrev row : ℕ → ℕ → ℕ → ℕ → Row
+row job processor from to = record { job = job; processor = processor; from = from; to = to }
 
+abbrev piece : ℕ → ℕ → Row
+piece from to = row 1 1 from to
+
+-- document 01's cases with a ●; then a reason, and plans that break one rule each beside one that breaks none
 abbrev pub cases : List Case
 cases =
     leastIs A (pos 1)
@@ -56,15 +59,45 @@ cases =
     ∷ leastIs overdue (pos 6)
     ∷ rightIs C (pos 0) (piece 0 1 ∷ piece 1 3 ∷ [])
     ∷ wrongIs C (pos 0) (piece 0 2 ∷ piece 1 2 ∷ [])
+    -- beyond document 01's: of two overfull staircases, the one that ranks first
+    ∷ reasonIs twoOverfull (pos 0) (stairs (pos 4 ∷ pos 2 ∷ [])) 8 (pos 6)
+    -- an empty row, and one that goes backwards, beside a right plan
+    ∷ wrongIs C (pos 0) (piece 0 3 ∷ piece 3 3 ∷ [])
+    ∷ wrongIs C (pos 0) (piece 0 3 ∷ piece 5 4 ∷ [])
+    -- a minute too many, and a minute late
+    ∷ wrongIs C (pos 0) (piece 0 4 ∷ [])
+    ∷ wrongIs C (pos 0) (piece 8 11 ∷ [])
+    -- a row of job 2 or job 0 of one job, and on processor 2 or processor 0 of one processor
+    ∷ wrongIs C (pos 4) (piece 0 3 ∷ row 2 1 3 4 ∷ [])
+    ∷ wrongIs C (pos 4) (piece 0 3 ∷ row 0 1 3 4 ∷ [])
+    ∷ wrongIs needZero (pos 0) (row 1 2 0 1 ∷ [])
+    ∷ wrongIs needZero (pos 0) (row 1 0 0 1 ∷ [])
+    -- rows that touch; a job on a processor that is too small; two rows of a processor, and of a job, at once
+    ∷ rightIs A (pos 1) (row 1 1 0 3 ∷ row 2 2 0 3 ∷ row 3 1 3 4 ∷ row 3 2 4 5 ∷ [])
+    ∷ wrongIs A (pos 1) (row 1 2 0 3 ∷ row 2 1 0 3 ∷ row 3 1 3 4 ∷ row 3 2 4 5 ∷ [])
+    ∷ wrongIs A (pos 1) (row 1 1 0 3 ∷ row 2 2 0 3 ∷ row 3 1 2 3 ∷ row 3 2 4 5 ∷ [])
+    ∷ wrongIs A (pos 1) (row 1 1 0 3 ∷ row 2 2 0 3 ∷ row 3 1 3 4 ∷ row 3 2 3 4 ∷ [])
     ∷ []
 
--- what is computed of a case
-abbrev Computes : Case → Type 0
-Computes (leastIs o least) = Accepted o × (leastLateness o ≡ least)
-Computes (reasonIs o bound reason owes hand) =
-    (reasonOf o bound ≡ found reason) × (owedOf o bound reason ≡ owes) × (onHandOf o bound reason ≡ hand)
-Computes (rightIs o bound rows) = isRight o bound (numbersOf rows) ≡ true
-Computes (wrongIs o bound rows) = isRight o bound (numbersOf rows) ≡ false
+-- what a case is about: whether the order is accepted and its least lateness; the reason and its minutes; yes or no
+data Value : Type 0 where
+  leastOf : Verdict → ℤ → Value
+  reasonAt : Found Reason → ℕ → ℤ → Value
+  checked : Bool → Value
+
+-- its value as computed, and as the case states it
+abbrev computed : Case → Value
+computed (leastIs o least) = leastOf (judge (orderRows limits o)) (leastLateness o)
+computed (reasonIs o bound reason owes hand) =
+    reasonAt (reasonOf o bound) (owedOf o bound reason) (onHandOf o bound reason)
+computed (rightIs o bound rows) = checked (isRight o bound (numbersOf rows))
+computed (wrongIs o bound rows) = checked (isRight o bound (numbersOf rows))
+
+abbrev stated : Case → Value
+stated (leastIs o least) = leastOf accepted least
+stated (reasonIs o bound reason owes hand) = reasonAt (found reason) owes hand
+stated (rightIs o bound rows) = checked true
+stated (wrongIs o bound rows) = checked false
 
 right-rows : (o : Order) (bound : ℤ) (rows : List Row) → isRight o bound (numbersOf rows) ≡ true → Right o bound rows
 right-rows o bound rows e =
@@ -76,40 +109,33 @@ right-rows o bound rows e =
 rows-right : (o : Order) (bound : ℤ) (rows : List Row) → Right o bound rows → isRight o bound (numbersOf rows) ≡ true
 rows-right o bound rows r = isRight-iff o bound (numbersOf rows) .1 (record { rows = rows; are = refl; right = r })
 
--- what is computed of a case makes it hold
-case-holds : (c : Case) → Computes c → Holds c
-case-holds (leastIs o least) h = subst (IsLeast o) (h .1) (is-least o (h .0))
-case-holds (reasonIs o bound reason owes hand) h = (reason-found o bound reason .0 (h .0), h .1, h .2)
-case-holds (rightIs o bound rows) h = right-rows o bound rows h
-case-holds (wrongIs o bound rows) h = λ r. true≢false (sym (rows-right o bound rows r) ∙ h)
+-- a case whose value is computed as stated holds
+case-holds : (c : Case) → computed c ≡ stated c → Holds c
+case-holds (leastIs o least) e =
+    let a : Accepted o = cc in
+    let l : leastLateness o ≡ least = cc in
+    subst (IsLeast o) l (is-least o a)
+case-holds (reasonIs o bound reason owes hand) e =
+    let r : reasonOf o bound ≡ found reason = cc in
+    (reason-found o bound reason .0 r, cc, cc)
+case-holds (rightIs o bound rows) e = right-rows o bound rows (cc)
+case-holds (wrongIs o bound rows) e =
+    let no-plan : isRight o bound (numbersOf rows) ≡ false = cc in
+    λ r. true≢false (sym (rows-right o bound rows r) ∙ no-plan)
 
-computed : All Computes cases
+all-hold : (cs : List Case) → map computed cs ≡ map stated cs → All Holds cs
+all-hold [] e = tt
+all-hold (c ∷ cs) e =
+    let first : computed c ≡ stated c = cc in
+    let rest : map computed cs ≡ map stated cs = cc in
+    (case-holds c first, all-hold cs rest)
+
+all-computed : map computed cases ≡ map stated cases
 unfolding sum endOf insert distinct dueTimes classes lastThatSuffices classFor classOf processorsIn processorsTo judge firstAfter
     fitsSome numbersOf every everyTwo isRight owed classOwes owedFrom onHandFrom choices ranked firstSuch firstOverfull reasonOf
     weightAt weightFrom largest heaviest most leastReach leastLateness
-computed = (
-  (refl, refl),
-  (
-    (refl, refl, refl),
-    (
-      (refl, refl),
-      (
-        (refl, refl, refl),
-        (
-          (refl, refl),
-          (
-            (refl, refl, refl),
-            (
-              (refl, refl),
-              ((refl, refl), ((refl, refl), (refl, (refl, tt)))),
-            ),
-          ),
-        ),
-      ),
-    ),
-  ),
-)
+all-computed = refl
 
 -- every case holds
 pub every-case : All Holds cases
-every-case = All-map Computes Holds cases case-holds computed
+every-case = all-hold cases all-computed

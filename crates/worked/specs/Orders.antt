@@ -28,3 +28,9 @@ needZero = order (4 ∷ []) (job 1 (pos 1) 0 ∷ [])
 
 abbrev pub overdue : Order
 overdue = order (1 ∷ []) (job 1 (negsuc 4) 1 ∷ [])
+
+-- B and a job more: the staircases 4, 2 and 4, 4 are both overfull at 0
+abbrev pub twoOverfull : Order
+twoOverfull =
+    order (8 ∷ 4 ∷ [])
+    (job 2 (pos 4) 8 ∷ job 2 (pos 4) 8 ∷ job 2 (pos 2) 4 ∷ job 2 (pos 2) 4 ∷ job 1 (pos 4) 4 ∷ [])

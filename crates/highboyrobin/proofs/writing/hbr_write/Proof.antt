@@ -1,12 +1,10 @@
 use Prim.Native.Nat.{ℕ}
-use mathlib.Core.Path.{refl, sym, ap, _∙_}
+use mathlib.Core.Path.{refl, ap, _∙_}
 use mathlib.Core.List.{_∷_}
 use lib.IntN.{pos}
 use lib.ListN.{length, drop}
-use Rattle.order.specs.Refusals.{Verdict}
 use Rattle.order.specs.Table.{orderOf}
 use Rattle.order.specs.declared.Refusal.the-variants.{NoProcessor, TooManyProcessors, TooManyJobs}
-use Rattle.order_file.specs.File.{writtenBy}
 use Rattle.highboyrobin.specs.Calls.{orderFrom}
 use Rattle.highboyrobin.proofs.Carried.{carried-few, write-carries}
 use Rattle.highboyrobin.proofs.FilesTold.{
@@ -174,7 +172,7 @@ returns-7 c =
     let t = write-moved (orderOf (c .before .before .before .before .before .before .before .before .before .before .order-from .result)) o (s .file .now) _ (w .result) (c .before .before .before .before .before .before .before .before .before .before .order-from .ensures) (w .ensures) in
     let h = writer-wrote o (s .file .now) _ (w .result) t (c .before .before .before .before .written2 .given .0 .0) (c .before .before .before .before .written2 .given .1) in
     let d = writer-decides m j n a (c .before .before .before .before .before .before .before .before .before .before .before .before .before .before .if1 .left) (c .before .before .before .before .before .before .before .before .before .before .before .before .before .if2 .left) in
-    write-done _ _ _ _ (d ∙ h .0) _ (h .2 ∙ ap (λ (v : Verdict). writtenBy v o (s .file .now)) (sym d)) _
+    write-done _ _ _ _ _ d (h .0) _ (h .2) (h .3) _
     (c .before .put-count .ensures ∙ ap (λ (k : ℕ). pos k ∷ drop 1 (s .answer .now)) (h .1))
 
 pub hbr-write-spec : {M : Type 1} → statement M

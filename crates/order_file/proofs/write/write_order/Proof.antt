@@ -1,5 +1,6 @@
 -- `write_order`: acceptance decides, then the room in the buffer; the three parts stored one after the other are the file.
-use Rattle.order_file.proofs.Writing.{refused-written, counts-few, too-short, file-written}
+use Rattle.order_file.specs.RoundTrip.{struct-bounded}
+use Rattle.order_file.proofs.Writing.{array-small, refused-written, counts-few, too-short, file-written}
 use borrow.Author.Needs.{needs}
 use Rattle.order_file.proofs.write.write_order.Statement.{statement}
 use Rattle.order_file.proofs.write.write_order.Tie as tie
@@ -72,11 +73,14 @@ returns-3 : tie.Need-returns-3
 returns-3 c =
     let jobs = c .before .before .before .before .before .before in
     let processors = jobs .before .before .before .before in
-    let told = processors .before .before .before .before .before in
+    let known = processors .before .before .before .before in
+    let told = known .before in
     let start = told .before .before .before .before in
     file-written (start .args .order) _ (told .before .before .accept .ensures) (start .args .out .now)
     (told .enum-told .given .1) _ _ _ (processors .before .before .if1 .left)
     (processors .put-processors .ensures) (jobs .put-jobs .ensures) (c .before .before .put-trailer .ensures)
+    (struct-bounded (start .args .order) (array-small (start .args .order .memories) (known .struct-known .given .1 .0))
+    (array-small (start .args .order .needs) (known .struct-known .given .1 .1 .1 .1 .1 .0)))
 
 pub write-order-spec : {M : Type 1} → statement M
 write-order-spec =
