@@ -154,6 +154,14 @@ const SHAPES: [Shape; 7] = [
     },
 ];
 
+/// A number below 1,000,000 as the table has it.
+fn grouped(number: usize) -> String {
+    match number / 1000 {
+        0 => number.to_string(),
+        thousands => format!("{thousands},{:03}", number % 1000),
+    }
+}
+
 /// A row of the table: sizes where they are all the same, mean and most of each step.
 fn tell(name: &str, files: &[Vec<u8>]) {
     let found: Vec<(Steps, [usize; 3])> = files.iter().map(|file| steps(file)).collect();
@@ -166,9 +174,9 @@ fn tell(name: &str, files: &[Vec<u8>]) {
     };
     let count = |of: fn(&Steps) -> usize| {
         let counts: Vec<usize> = found.iter().map(|found| of(&found.0)).collect();
-        let mean = counts.iter().sum::<usize>() as f64 / counts.len() as f64;
+        let mean = (counts.iter().sum::<usize>() + counts.len() / 2) / counts.len();
         let most = counts.iter().max().copied().unwrap_or(0);
-        format!("{mean:.0}, {most}")
+        format!("{} / {}", grouped(mean), grouped(most))
     };
     println!(
         "| {name} | {} | {} | {} | {} | {} | {} |",
@@ -182,7 +190,9 @@ fn tell(name: &str, files: &[Vec<u8>]) {
 }
 
 fn main() {
-    println!("| orders | jobs | due times | processors | pushes | looks | rises |");
+    let counted = ["pushes", "looks", "rises"].map(|name| format!("{name} mean / most"));
+    let counted = counted.join(" | ");
+    println!("| orders | jobs | due times | processors | {counted} |");
     println!("|---|---|---|---|---|---|---|");
     let mut random = Random::new(SEED);
     for shape in &SHAPES {
