@@ -62,7 +62,8 @@ extern "C" {
 #define hbr_job(result) ((result) / 256u)
 
 /* Judges an order file. Refusals, in the order in which they are told: 255, 12, 1 to 7.
- * answer[0] processors, answer[1] jobs, answer[2] the rows that hbr_least and hbr_plan ask to be lent, 1 to 3024. */
+ * answer[0] processors, answer[1] jobs, answer[2] the rows that hbr_least and hbr_plan ask to be lent, 1 to 3024: lend them
+ * 4 * answer[2] numbers. */
 #define HBR_JUDGE_ANSWER 3
 uint32_t hbr_judge(const uint8_t *file, size_t file_length, int32_t *answer, size_t answer_length);
 
