@@ -6,15 +6,14 @@ use crate::plain;
 use crate::random::Random;
 
 pub struct Case {
-    /// its place in `FAMILIES`
-    pub family: usize,
+    pub family: &'static str,
     pub file: Vec<u8>,
     pub least: i32,
     /// later by the longest job's time
     pub looser: i32,
     pub plan: Vec<u32>,
-    /// the same plan cut into as many rows as a check may have, shuffled; of the first order of a
-    /// family only, else empty
+    /// a plan of as many rows as a check may have, shuffled; of the first order of a family only,
+    /// else empty
     pub long_plan: Vec<u32>,
 }
 
@@ -24,10 +23,10 @@ pub const ROWS_MOST: usize = 3024;
 pub fn draw(seed: u64) -> Vec<Case> {
     let mut random = Random::new(seed);
     let mut cases = Vec::new();
-    for (place, family) in FAMILIES.iter().enumerate() {
+    for family in &FAMILIES {
         for number in 0..ORDERS_EACH {
             let order = (family.draw)(&mut random);
-            let mut case = case_of(&order, place);
+            let mut case = case_of(&order, family.name);
             if number == 0 {
                 let mut rows = cut(&case.plan);
                 random.shuffle(&mut rows);
@@ -39,7 +38,8 @@ pub fn draw(seed: u64) -> Vec<Case> {
     cases
 }
 
-fn case_of(order: &Order, family: usize) -> Case {
+/// An order's case, without a long plan.
+pub fn case_of(order: &Order, family: &'static str) -> Case {
     let file = order.file();
     let mut rows = vec![0; 4 * ROWS_MOST];
     let mut answer = [0; 2];

@@ -3,7 +3,6 @@
 //! the same word for word.
 
 use crate::cases::Case;
-use crate::families::FAMILIES;
 use crate::independent::{self, Reason};
 use crate::subjects::{run, Buffers, Task, LIBRARY, PLAIN, TASKS};
 
@@ -15,8 +14,7 @@ struct At<'a>(usize, &'a Case);
 impl Drop for At<'_> {
     fn drop(&mut self) {
         if std::thread::panicking() {
-            let family = FAMILIES[self.1.family].name;
-            eprintln!("at order {}, of the family '{family}'", self.0 + 1);
+            eprintln!("at order {}, of the family '{}'", self.0 + 1, self.1.family);
         }
     }
 }

@@ -16,6 +16,7 @@ mod orders;
 mod plain;
 mod random;
 mod report;
+mod slow;
 mod subjects;
 mod worst;
 
@@ -28,11 +29,16 @@ const SEED: u64 = 2;
 
 fn main() {
     let cases = cases::draw(SEED);
-    for (place, case) in cases.iter().enumerate() {
+    let slow = slow::draw(SEED);
+    for (place, case) in cases.iter().chain(&slow).enumerate() {
         compare::compare(place, case);
     }
     println!("{}", origin());
-    println!("{} orders of 48 jobs, all answers equal.", cases.len());
+    println!(
+        "{} orders of 48 jobs and {} that are slow to check, all answers equal.",
+        cases.len(),
+        slow.len()
+    );
     println!("{}", clock::manner());
     println!();
     report::head("function");
@@ -44,13 +50,16 @@ fn main() {
             least = times;
         }
     }
+    let slow: Vec<&Case> = slow.iter().collect();
+    let times = clock::time(Task::CheckLong, &slow);
+    report::row("check of 3,024 shuffled rows of one minute", &times);
     println!();
     report::head("least lateness with a plan, by family");
-    for (place, family) in FAMILIES.iter().enumerate() {
+    for family in &FAMILIES {
         let of_family = cases
             .iter()
             .zip(&least)
-            .filter(|(case, _)| case.family == place);
+            .filter(|(case, _)| case.family == family.name);
         let times: Vec<Times> = of_family.map(|(_, times)| *times).collect();
         report::row(family.name, &times);
     }

@@ -124,7 +124,7 @@ fn make_plan(order: &Order, setting: &Setting, bound: i32, rows: &mut [u32]) -> 
     setting.put_ends(setting::reach_of(bound), &mut ends);
     let ends = &ends[..setting.due_count];
     let mut amounts = Amounts::start(order, setting, bound, ends);
-    let filled = amounts.fill();
+    let filled = amounts.fill(&mut ());
     debug_assert!(filled);
     wrap::lay(order, ends, &amounts, rows)
 }

@@ -18,7 +18,13 @@
  * 0. A REFUSED CALL WRITES NOTHING, neither to rows or file nor to the answer. A call that succeeds leaves what lies beyond its
  * rows, its file or its answer as it was.
  *
- * Calls may run at once on several threads if what they write is apart. docs/LINKING.md says how much stack a call needs.
+ * Threads. A call keeps nothing, so calls may run at once on several threads, and a call may be interrupted by another: in a
+ * signal or interrupt handler, or by a thread switch. As long as a call runs, no buffer that it writes may be read or written by
+ * another call or by anybody else. Buffers that calls only read may be shared.
+ *
+ * Machine. Calls follow the System V AMD64 ABI: the stack is aligned to 16 bytes at each call. The code uses the SSE registers
+ * but not x87, MMX or AVX, keeps nothing below the stack pointer (no red zone), and is position independent. docs/LINKING.md has
+ * the details, and how much stack a call needs.
  */
 #ifndef HIGHBOYROBIN_H
 #define HIGHBOYROBIN_H
@@ -55,26 +61,29 @@ extern "C" {
 #define hbr_number(result) ((result) % 256u)
 #define hbr_job(result) ((result) / 256u)
 
-/* Judges an order file. Refusals: 12, 1 to 7.
- * answer[0] processors, answer[1] jobs, answer[2] the rows that hbr_least and hbr_plan ask to be lent, 1 to 3024. */
+/* Judges an order file. Refusals, in the order in which they are told: 255, 12, 1 to 7.
+ * answer[0] processors, answer[1] jobs, answer[2] the rows that hbr_least and hbr_plan ask to be lent, 1 to 3024: lend them
+ * 4 * answer[2] numbers. */
 #define HBR_JUDGE_ANSWER 3
 uint32_t hbr_judge(const uint8_t *file, size_t file_length, int32_t *answer, size_t answer_length);
 
 /* The least lateness: the smallest whole number by which, added to every due time, all jobs can be done by their due times. It
- * may be negative: then all can be early. A plan that meets it is written from rows[0] on. Refusals: 12, 1 to 7, 9.
+ * may be negative: then all can be early. A plan that meets it is written from rows[0] on. rows_length counts numbers, not rows: it
+ * is 4 * rows. Refusals, in the order in which they are told: 255, 12, 1 to 7, 9.
  * answer[0] the least lateness, answer[1] the number of rows written. */
 #define HBR_LEAST_ANSWER 2
 uint32_t hbr_least(const uint8_t *file, size_t file_length, uint32_t *rows, size_t rows_length, int32_t *answer,
                    size_t answer_length);
 
-/* A plan in which every job is done by its due time plus the bound, written from rows[0] on. Refusals: 12, 1 to 10; 10 carries no
- * job, also where hbr_reason then names one.
+/* A plan in which every job is done by its due time plus the bound, written from rows[0] on. rows_length counts numbers, not rows:
+ * it is 4 * rows. Refusals, in the order in which they are told: 255, 12, 1 to 10; 10 carries no job, also where hbr_reason then
+ * names one.
  * answer[0] the number of rows written. */
 #define HBR_PLAN_ANSWER 1
 uint32_t hbr_plan(const uint8_t *file, size_t file_length, int32_t bound, uint32_t *rows, size_t rows_length, int32_t *answer,
                   size_t answer_length);
 
-/* Why no plan can meet the bound. Refusals: 12, 1 to 8.
+/* Why no plan can meet the bound. Refusals, in the order in which they are told: 255, 12, 1 to 8.
  * answer[0] HBR_NONE where there is a plan, else HBR_JOB or HBR_STAIRS.
  * HBR_JOB: answer[1] the first job whose time exceeds its due time plus the bound, answer[2] its time.
  * HBR_STAIRS: answer[1] a count k of classes, answer[3] to answer[k + 2] a due time for each. Class 1 is the processors of the
@@ -88,15 +97,17 @@ uint32_t hbr_plan(const uint8_t *file, size_t file_length, int32_t bound, uint32
 uint32_t hbr_reason(const uint8_t *file, size_t file_length, int32_t bound, int32_t *answer, size_t answer_length);
 
 /* Whether rows, made by anybody and in any order, are a right plan that meets the bound: each job gets its full time, on
- * processors whose memory suffices, by its due time plus the bound, and no job and no processor is used twice at a time. Numbers
- * left over after the last whole row make the plan wrong. Refusals: 12, 1 to 8, 11.
+ * processors whose memory suffices, by its due time plus the bound, and no job and no processor is used twice at a time.
+ * rows_length counts numbers, not rows: it is 4 * rows. Numbers left over after the last whole row make the plan wrong, and count
+ * as a row for 11. Refusals, in the order in which they are told: 255, 12, 1 to 8, 11.
  * answer[0] 1 for yes, 0 for no. */
 #define HBR_CHECK_ANSWER 1
 uint32_t hbr_check(const uint8_t *file, size_t file_length, int32_t bound, const uint32_t *rows, size_t rows_length,
                    int32_t *answer, size_t answer_length);
 
 /* Writes the order file of an order: memories, one number to a processor; jobs, three to a job: time, due time (a negative one
- * converted to uint32_t), need. Refusals: HBR_PART_JOB, 1 to 7, 9; HBR_MOST_BYTES bytes are always enough.
+ * converted to uint32_t), need. jobs_length counts numbers, not jobs: it is 3 * jobs. HBR_MOST_BYTES bytes are always enough for
+ * the file. Refusals, in the order in which they are told: 255, 254, 1 to 7, 9.
  * answer[0] the length of the file. */
 #define HBR_WRITE_ANSWER 1
 uint32_t hbr_write(const uint32_t *memories, size_t memories_length, const uint32_t *jobs, size_t jobs_length, uint8_t *file,

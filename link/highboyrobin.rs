@@ -90,6 +90,42 @@ pub struct Refused {
     pub job: u32,
 }
 
+impl Refused {
+    /// The refusal in words, as the table of `docs/LINKING.md` has them.
+    fn words(&self) -> &'static str {
+        match self.number {
+            1 => "the order has no processor",
+            2 => "the order has over 16 processors",
+            3 => "the order has no job",
+            4 => "the order has over 48 jobs",
+            5 => "a job's time is not 1 to 100,000",
+            6 => "a due time is not -1,000,000 to 1,000,000",
+            7 => "a job fits no processor",
+            8 => "the bound is not -10,000,000 to 10,000,000",
+            9 => "the lent buffer is too short",
+            10 => "no plan whatever meets the bound",
+            11 => "over 3,024 rows to check",
+            12 => "the file is under 12 or over 652 bytes, or its lists and its trailer disagree",
+            254 => "the numbers of the jobs are not three to a job",
+            255 => "the answer is too short",
+            _ => "no refusal has this number",
+        }
+    }
+}
+
+/// Number, job where it is about one, and words: `refusal 7 of job 2: a job fits no processor`.
+impl core::fmt::Display for Refused {
+    fn fmt(&self, out: &mut core::fmt::Formatter<'_>) -> core::fmt::Result {
+        let (number, job, words) = (self.number, self.job, self.words());
+        match job {
+            0 => write!(out, "refusal {number}: {words}"),
+            _ => write!(out, "refusal {number} of job {job}: {words}"),
+        }
+    }
+}
+
+impl core::error::Error for Refused {}
+
 /// The sizes of an order; `rows` is how many rows `least` and `plan` ask to be lent.
 #[derive(Clone, Copy, Debug, PartialEq, Eq)]
 pub struct Sizes {

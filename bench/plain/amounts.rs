@@ -22,6 +22,16 @@ pub struct Amounts {
     height: [usize; MOST_JOBS + 1],
 }
 
+/// Is told of every step on the way. Nobody listens where it is `()`, and then it costs nothing.
+pub trait Watch {
+    /// a job may have more of a stretch, and somebody to displace is looked for there
+    fn look(&mut self) {}
+    fn push(&mut self) {}
+    fn rise(&mut self) {}
+}
+
+impl Watch for () {}
+
 /// A step of a job: to displace a job in a stretch, or to rise.
 enum Move {
     Push { stretch: usize, other: usize },
@@ -87,7 +97,7 @@ impl Amounts {
     }
 
     /// True where nothing is left of any job, false where there is no way.
-    pub fn fill(&mut self) -> bool {
+    pub fn fill(&mut self, watch: &mut impl Watch) -> bool {
         while let Some(j) = self.left[..self.n].iter().position(|&left| 0 < left) {
             let height = self.height[j];
             if self.n < height {
@@ -96,21 +106,23 @@ impl Amounts {
             if 1 < height && !self.height[..self.n].contains(&(height - 1)) {
                 return false;
             }
-            self.discharge(j);
+            self.discharge(j, watch);
         }
         true
     }
 
     /// Job j displaces until nothing of it is left, or it rises.
-    fn discharge(&mut self, j: usize) {
+    fn discharge(&mut self, j: usize, watch: &mut impl Watch) {
         let mut below = self.q;
         while 0 < self.left[j] {
-            match self.find(j, below) {
+            match self.find(j, below, watch) {
                 Move::Push { stretch, other } => {
+                    watch.push();
                     self.push(j, stretch, other);
                     below = stretch + 1;
                 }
                 Move::Rise => {
+                    watch.rise();
                     self.height[j] += 1;
                     return;
                 }
@@ -119,10 +131,11 @@ impl Amounts {
     }
 
     /// A step of job j in the stretches below one, from the last to the first.
-    fn find(&self, j: usize, below: usize) -> Move {
+    fn find(&self, j: usize, below: usize, watch: &mut impl Watch) -> Move {
         for stretch in (0..below).rev() {
             let at = j * self.q + stretch;
             if self.held[at] < self.cap[at] {
+                watch.look();
                 let tight = self.tight_class(stretch, self.class[j]);
                 if let Some(other) = self.aim(stretch, tight, self.height[j]) {
                     return Move::Push { stretch, other };

@@ -1,4 +1,5 @@
-// Every function of the safe Rust wrapper, on document 01's orders A and C: answers, refusals and what is left as it was.
+// Every function of the safe Rust wrapper, on document 01's orders A and C: answers, refusals and what is left as it was. A
+// refusal's words are those of the table in docs/LINKING.md.
 #[allow(dead_code)]
 #[path = "../../link/highboyrobin.rs"]
 mod highboyrobin;
@@ -93,9 +94,52 @@ fn order_a() {
     assert_eq!((classes, &dues[..3]), (2, &[3, 3, 0][..]));
 }
 
+// number and words of each row of the table of refusals
+fn table() -> Vec<(u32, &'static str)> {
+    let page = include_str!("../../docs/LINKING.md");
+    let section = page
+        .split("\n## ")
+        .find(|section| section.starts_with("Refusals\n"));
+    let rows = section.expect("a section of refusals").lines();
+    let cells = rows.map(|row| row.split(" | ").collect::<Vec<_>>());
+    cells
+        .filter_map(|cells| {
+            let number = cells[0].strip_prefix("| ")?.parse().ok()?;
+            Some((number, cells[1]))
+        })
+        .collect()
+}
+
+fn words() {
+    let table = table();
+    let numbers: Vec<u32> = table.iter().map(|row| row.0).collect();
+    assert_eq!(numbers, [1, 2, 3, 4, 5, 6, 7, 8, 9, 10, 11, 12, 254, 255]);
+    for (number, words) in table {
+        let plain: Box<dyn std::error::Error> = refused(number, 0).into();
+        assert_eq!(plain.to_string(), format!("refusal {number}: {words}"));
+        let of_job = refused(number, 48).to_string();
+        assert_eq!(of_job, format!("refusal {number} of job 48: {words}"));
+    }
+    let empty = Job {
+        time: 0,
+        due: 5,
+        need: 1,
+    };
+    let told = write(&[4], &[empty], &mut [0; MOST_BYTES]).unwrap_err();
+    assert_eq!(
+        told.to_string(),
+        "refusal 5 of job 1: a job's time is not 1 to 100,000"
+    );
+    assert_eq!(
+        refused(13, 0).to_string(),
+        "refusal 13: no refusal has this number"
+    );
+}
+
 fn main() {
     order_c();
     refusals();
     order_a();
+    words();
     println!("wrapper: every function answers as it should");
 }

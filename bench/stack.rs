@@ -1,0 +1,196 @@
+//! The stack that each call takes, in bytes: every call runs on a stack of its own, and the lowest byte that it changed is looked
+//! up. All drawn orders of the benchmark; calls that succeed and calls that are refused, at several bounds.
+
+#[allow(dead_code)]
+mod cases;
+#[allow(dead_code)]
+mod families;
+#[allow(dead_code)]
+#[path = "../link/highboyrobin.rs"]
+mod highboyrobin;
+mod orders;
+#[allow(dead_code)]
+mod plain;
+mod random;
+mod worst;
+
+use cases::{Case, ROWS_MOST};
+use highboyrobin::{raw, MOST_BYTES};
+use std::arch::asm;
+
+const SEED: u64 = 2;
+
+struct Function {
+    name: &'static str,
+    address: *const (),
+}
+
+const WRITE: Function = function("hbr_write", raw::hbr_write as *const ());
+const JUDGE: Function = function("hbr_judge", raw::hbr_judge as *const ());
+const CHECK: Function = function("hbr_check", raw::hbr_check as *const ());
+const REASON: Function = function("hbr_reason", raw::hbr_reason as *const ());
+const PLAN: Function = function("hbr_plan", raw::hbr_plan as *const ());
+const LEAST: Function = function("hbr_least", raw::hbr_least as *const ());
+const FUNCTIONS: [Function; 6] = [WRITE, JUDGE, CHECK, REASON, PLAN, LEAST];
+
+const fn function(name: &'static str, address: *const ()) -> Function {
+    Function { name, address }
+}
+
+/// A function with its arguments as the calling convention has them, the first six in registers and the others on the stack, and
+/// the result that it must give.
+struct Call {
+    function: Function,
+    arguments: Vec<u64>,
+    result: u32,
+}
+
+const IN_REGISTERS: usize = 6;
+
+const STACK_BYTES: usize = 1 << 17;
+
+#[repr(align(16))]
+struct Stack([u8; STACK_BYTES]);
+
+/// A byte written differs from one of the two.
+const FILLINGS: [u8; 2] = [0x55, 0xAA];
+
+impl Call {
+    /// The bytes from the top of the stack down to the lowest that the call changed: its arguments there, return addresses and
+    /// frames.
+    fn depth(&self, stack: &mut Stack) -> usize {
+        let [one, other] = FILLINGS.map(|filling| self.depth_over(stack, filling));
+        one.max(other)
+    }
+
+    fn depth_over(&self, stack: &mut Stack, filling: u8) -> usize {
+        stack.0.fill(filling);
+        let on_stack = self.arguments.get(IN_REGISTERS..).unwrap_or(&[]);
+        let start = STACK_BYTES - (8 * on_stack.len()).next_multiple_of(16);
+        for (place, argument) in stack.0[start..].chunks_exact_mut(8).zip(on_stack) {
+            place.copy_from_slice(&argument.to_ne_bytes());
+        }
+        // SAFETY: the arguments are the function's, and what it is lent is alive.
+        let result = unsafe { self.run(stack.0.as_mut_ptr().add(start)) };
+        assert_eq!(result, self.result, "{}", self.function.name);
+        let kept = stack.0.iter().take_while(|&&byte| byte == filling).count();
+        assert!(0 < kept, "the stack is too short");
+        STACK_BYTES - kept
+    }
+
+    /// Runs the call on the stack below a place.
+    unsafe fn run(&self, top: *mut u8) -> u32 {
+        let mut first = self.arguments.clone();
+        first.resize(IN_REGISTERS.max(first.len()), 0);
+        let result: u32;
+        asm!(
+            "mov r12, rsp",
+            "mov rsp, r13",
+            "call r14",
+            "mov rsp, r12",
+            out("r12") _,
+            in("r13") top,
+            in("r14") self.function.address,
+            in("rdi") first[0],
+            in("rsi") first[1],
+            in("rdx") first[2],
+            in("rcx") first[3],
+            in("r8") first[4],
+            in("r9") first[5],
+            lateout("eax") result,
+            clobber_abi("C"),
+        );
+        result
+    }
+}
+
+/// What the calls write to.
+struct Lent {
+    file: Vec<u8>,
+    rows: Vec<u32>,
+    answer: [i32; 19],
+}
+
+fn read<T>(list: &[T]) -> Vec<u64> {
+    vec![list.as_ptr() as u64, list.len() as u64]
+}
+
+fn lend<T>(list: &mut [T]) -> Vec<u64> {
+    vec![list.as_mut_ptr() as u64, list.len() as u64]
+}
+
+fn number(n: i32) -> Vec<u64> {
+    vec![n as u64]
+}
+
+fn calls(case: &Case, lists: &[u32], lent: &mut Lent) -> Vec<Call> {
+    let mut calls = Vec::new();
+    let mut add = |function: Function, arguments: &[Vec<u64>], result: u32| {
+        calls.push(Call {
+            function,
+            arguments: arguments.concat(),
+            result,
+        });
+    };
+    let answer = lend(&mut lent.answer);
+    let file = read(&case.file);
+    let (memories, jobs) = lists.split_at(lists.len() - 3 * 48);
+    for (jobs, room, result) in [(jobs, MOST_BYTES, 0), (jobs, 11, 9), (&jobs[1..], 11, 254)] {
+        let written = lend(&mut lent.file[..room]);
+        let arguments = [read(memories), read(jobs), written, answer.clone()];
+        add(WRITE, &arguments, result);
+    }
+    add(JUDGE, &[file.clone(), answer.clone()], 0);
+    add(JUDGE, &[read(&case.file[1..]), answer.clone()], 12);
+    for rows in [&case.plan, &case.long_plan, &case.plan[4..]] {
+        let bound = number(case.least);
+        let arguments = [file.clone(), bound, read(rows), answer.clone()];
+        add(CHECK, &arguments, 0);
+    }
+    let bounds = [case.least, case.looser, 10_000_000];
+    let tight = [case.least - 1, -10_000_000];
+    let bounds = bounds.map(|bound| (bound, 0, 0));
+    let tight = tight.map(|bound| (bound, 0, 10));
+    let outside = [(10_000_001, 8, 8)];
+    for (bound, of_reason, of_plan) in [&bounds[..], &tight, &outside].concat() {
+        let bound = number(bound);
+        let rows = lend(&mut lent.rows);
+        let arguments = [file.clone(), bound.clone(), answer.clone()];
+        add(REASON, &arguments, of_reason);
+        let arguments = [file.clone(), bound, rows, answer.clone()];
+        add(PLAN, &arguments, of_plan);
+    }
+    for (room, result) in [(4 * ROWS_MOST, 0), (3, 9)] {
+        let rows = lend(&mut lent.rows[..room]);
+        add(LEAST, &[file.clone(), rows, answer.clone()], result);
+    }
+    calls
+}
+
+/// The numbers of both lists of an order file.
+fn lists(file: &[u8]) -> Vec<u32> {
+    let lists = file[..file.len() - 12].chunks_exact(4);
+    lists
+        .map(|bytes| u32::from_le_bytes([bytes[0], bytes[1], bytes[2], bytes[3]]))
+        .collect()
+}
+
+fn main() {
+    let mut stack = Box::new(Stack([0; STACK_BYTES]));
+    let mut lent = Lent {
+        file: vec![0; MOST_BYTES],
+        rows: vec![0; 4 * ROWS_MOST],
+        answer: [0; 19],
+    };
+    let mut depths = Vec::new();
+    for case in cases::draw(SEED) {
+        for call in calls(&case, &lists(&case.file), &mut lent) {
+            depths.push((call.function.name, call.depth(&mut stack)));
+        }
+    }
+    for function in FUNCTIONS {
+        let own = depths.iter().filter(|(name, _)| *name == function.name);
+        let most = own.clone().map(|&(_, depth)| depth).max().unwrap_or(0);
+        println!("{} {most} {}", function.name, own.count());
+    }
+}
