@@ -97,17 +97,21 @@ await() {
 }
 
 # Runs the program and ends with the status that it tells on descriptor 3. Its standard input is this one's, or the bytes of
-# $1, written as printf takes them. Nothing of this shell's own stands between the program and standard output.
+# $1, written as printf takes them. Its standard output and standard error are this one's, with nothing between; what the shell
+# itself says of a program that a signal ends is dropped.
+# shellcheck disable=SC2059
 run() {
-  # where standard output is closed, a descriptor that can't be written to stands for it
+  # where one is closed, a descriptor that can't be written to stands for it
   if (: 4>&1) 2>/dev/null; then exec 4>&1; else exec 4</dev/null; fi
-  if [ $# -eq 0 ]; then
-    told=$("$built" status 3>&1 >&4 4>&-)
-  else
-    # shellcheck disable=SC2059
-    told=$(printf "$1" | "$built" status 3>&1 >&4 4>&-)
-  fi
+  if (: 5>&2); then exec 5>&2; else exec 5</dev/null; fi
+  told=$(
+    exec 2>/dev/null
+    if [ $# -eq 0 ]; then start; else printf "$1" | start; fi
+    exit $?
+  )
   ended=$?
   case $ended:$told in 0:[012]) exit "$told" ;; esac
   fail "the program ended without an answer (status $ended)"
 }
+
+start() { (exec "$built" status 3>&1 >&4 2>&5 4>&- 5>&-); }
