@@ -45,13 +45,14 @@ crates_needed() {
     }' "$here/crates.txt"
 }
 
-# Writes what rt says to the log, tells of each crate that is proved, and ends with rt's status.
+# Writes what rt says to the log, tells of each crate that it proves, and ends with rt's status.
 follow() {
   done=0 ended=2 last=
   while IFS= read -r line; do
     printf '%s\n' "$line" >>"$log"
     case $line in
     "ended "*) ended=${line#ended } ;;
+    "rt: "*" proved (unchanged "*) done=$((done + 1)) ;;
     "rt: "*" proved ("*)
       done=$((done + 1)) crate=${line#rt: }
       last="$name: ${crate%% *} proved, $done of $total crates"
@@ -69,13 +70,13 @@ build() {
   command -v rt >/dev/null 2>&1 || fail "the program is $why, and rt (the Rattle kit) is not on the PATH"
   log=$here/target/$name.log began=$here/target/$name.began cause="could not be built"
   if ! (mkdir -p "$here/target" && : >"$log" && : >"$began") 2>/dev/null; then
-    log=$(mktemp "${TMPDIR:-/tmp}/$name.XXXXXX") || fail "the program is $why, and neither target/ nor ${TMPDIR:-/tmp} can be written to"
     cause="is $why, and target/ can't be written to"
+    log=$(mktemp "${TMPDIR:-/tmp}/$name.XXXXXX" 2>/dev/null) || fail "the program $cause, nor ${TMPDIR:-/tmp}"
   fi
   # rt trusts its stamp, and makes no program anew that somebody removed
   [ -e "$built" ] || rm -f "$here/target/stamp/$program"
   total=$(crates_needed)
-  say "the program is $why: $total crates to prove, some minutes if none is proved yet"
+  say "the program is $why: up to $total crates to prove, about 4 minutes for all"
   { (cd "$here" && rt check "$program") </dev/null 2>&1; printf '\nended %s\n' "$?"; } | follow ||
     fail "the program $cause: see $log"
   # the program is as old as the sources that it was built from
