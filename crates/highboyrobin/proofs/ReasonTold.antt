@@ -27,11 +27,6 @@ numbers-are o nothing = refl
 numbers-are o (found (overEnd j)) = refl
 numbers-are o (found (stairs dues)) = refl
 
-pub numbers-count : (o : Order) (r : Found Reason) → length (reasonNumbers o r) ≡ 19
-numbers-count o nothing = refl
-numbers-count o (found (overEnd j)) = refl
-numbers-count o (found (stairs dues)) = refl
-
 pub kind-small : (t : Tightness) → kindOf t < 2147483648
 kind-small Met = omega arith
 kind-small (Tight (Job j t)) = omega arith

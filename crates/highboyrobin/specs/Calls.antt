@@ -7,16 +7,16 @@ use lib.IntN.{ℤ, pos}
 use lib.ListN.{length, getD, drop}
 use Rattle.sums.specs.Lists.{tabulate}
 use Rattle.order.specs.Order.{Order, processorCount, jobCount, jobOf}
-use Rattle.order.specs.Refusals.{limits, TableRow, Verdict, accepted, refused, orderRows, boundRow}
+use Rattle.order.specs.Refusals.{limits, TableRow, Verdict, accepted, refused, judge, orderRows, boundRow}
 use Rattle.order_file.specs.Bytes.{signed}
 use Rattle.order_file.specs.File.{orderIn, writeRows}
-use Rattle.plan.specs.Check.{checkRows}
+use Rattle.plan.specs.Check.{isRight, checkRows}
 use Rattle.profile.specs.Reason.{Reason, overEnd, stairs}
-use Rattle.profile.specs.Search.{Found, nothing, found}
+use Rattle.profile.specs.Search.{Found, nothing, found, reasonOf}
 use Rattle.reason.specs.Told.{sixteen}
 use Rattle.planner.specs.Rows.{rowsAsked, leastRows, planRows}
 use Rattle.planner.specs.Written.{Written}
-use Rattle.highboyrobin.specs.Results.{fileCall, answerRow, partJobRow}
+use Rattle.highboyrobin.specs.Results.{fileCall, answerRow, answeredBy, partJobRow}
 
 -- hbr_judge: the processors, the jobs, and the rows to be lent
 abbrev pub judgeCall : List ℕ → ℕ → List TableRow
@@ -54,12 +54,20 @@ reasonNumbers o nothing = pos 0 ∷ pos 0 ∷ pos 0 ∷ sixteen []
 reasonNumbers o (found (overEnd j)) = pos 1 ∷ pos j ∷ pos (jobOf o j .time) ∷ sixteen []
 reasonNumbers o (found (stairs dues)) = pos 2 ∷ pos (length dues) ∷ pos 0 ∷ sixteen dues
 
+abbrev pub reasonAnswer : List ℕ → ℤ → List ℤ → List ℤ
+reasonAnswer file bound answer =
+    answeredBy (judge (reasonCall file bound (length answer))) (reasonNumbers (orderIn file) (reasonOf (orderIn file) bound)) answer
+
 -- hbr_check: 1 for yes, 0 for no
 abbrev pub checkCall : List ℕ → ℤ → ℕ → ℕ → List TableRow
 checkCall file bound numbers lent = fileCall lent 1 file (checkRows (orderIn file) bound numbers)
 
 abbrev pub yesOrNo : Bool → List ℤ
 yesOrNo right = pos (cond right 1 0) ∷ []
+
+abbrev pub checkAnswer : List ℕ → ℤ → List ℕ → List ℤ → List ℤ
+checkAnswer file bound rows answer =
+    answeredBy (judge (checkCall file bound (length rows) (length answer))) (yesOrNo (isRight (orderIn file) bound rows)) answer
 
 -- hbr_write: the order of two lists of numbers, three to a job: time, due time as two's complement, need
 unfoldable pub orderFrom : List ℕ → List ℕ → Order

@@ -9,18 +9,14 @@ use plan::check::check_plan;
 ghost use mathlib.Core.Path.{_≡_};
 ghost use lib.ListN.{length};
 ghost use Rattle.order.specs.Refusals.{judge};
-ghost use Rattle.order_file.specs.File.{orderIn};
-ghost use Rattle.plan.specs.Check.{isRight};
-ghost use Rattle.highboyrobin.specs.Results.{resultOf, answeredBy};
-ghost use Rattle.highboyrobin.specs.Calls.{checkCall, yesOrNo};
+ghost use Rattle.highboyrobin.specs.Results.{resultOf};
+ghost use Rattle.highboyrobin.specs.Calls.{checkCall, checkAnswer};
 
 #[no_mangle]
 pub extern "C" fn hbr_check(file: &[u8], bound: i32, rows: &[u32], answer: &mut [i32]) -> u32
     ensures { λ r. ⌜ r ≡ resultOf (judge (checkCall (now (file .entry)) bound (length (now (rows .entry)))
         (length (now (answer .entry))))) ⌝ }
-    ensures { λ r. ⌜ now (answer .exit)
-        ≡ answeredBy (judge (checkCall (now (file .entry)) bound (length (now (rows .entry))) (length (now (answer .entry)))))
-        (yesOrNo (isRight (orderIn (now (file .entry))) bound (now (rows .entry)))) (now (answer .entry)) ⌝ }
+    ensures { λ r. ⌜ now (answer .exit) ≡ checkAnswer (now (file .entry)) bound (now (rows .entry)) (now (answer .entry)) ⌝ }
 {
     if answer.len() < 1 {
         return SHORT_ANSWER;

@@ -10,16 +10,13 @@ use reason::tell::reason_at;
 ghost use mathlib.Core.Path.{_≡_};
 ghost use lib.ListN.{length};
 ghost use Rattle.order.specs.Refusals.{judge};
-ghost use Rattle.order_file.specs.File.{orderIn};
-ghost use Rattle.profile.specs.Search.{reasonOf};
-ghost use Rattle.highboyrobin.specs.Results.{resultOf, answeredBy};
-ghost use Rattle.highboyrobin.specs.Calls.{reasonCall, reasonNumbers};
+ghost use Rattle.highboyrobin.specs.Results.{resultOf};
+ghost use Rattle.highboyrobin.specs.Calls.{reasonCall, reasonAnswer};
 
 #[no_mangle]
 pub extern "C" fn hbr_reason(file: &[u8], bound: i32, answer: &mut [i32]) -> u32
     ensures { λ r. ⌜ r ≡ resultOf (judge (reasonCall (now (file .entry)) bound (length (now (answer .entry))))) ⌝ }
-    ensures { λ r. ⌜ now (answer .exit) ≡ answeredBy (judge (reasonCall (now (file .entry)) bound (length (now (answer .entry)))))
-        (reasonNumbers (orderIn (now (file .entry))) (reasonOf (orderIn (now (file .entry))) bound)) (now (answer .entry)) ⌝ }
+    ensures { λ r. ⌜ now (answer .exit) ≡ reasonAnswer (now (file .entry)) bound (now (answer .entry)) ⌝ }
 {
     if answer.len() < 19 {
         return SHORT_ANSWER;

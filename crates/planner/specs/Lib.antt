@@ -6,3 +6,4 @@ pub mod LeastRead
 pub mod Demand
 pub mod DemandMet
 pub mod AnswerLaws
+pub mod NoPlan

@@ -17,7 +17,8 @@ use Rattle.highboyrobin.proofs.Answering.{ended-refused, ended-told, en
 use Rattle.highboyrobin.proofs.Carried.{carried-few, read-carries}
 use Rattle.order_file.specs.ReaderLaws.{reader-refused, order-is, order-accepted}
 use Rattle.highboyrobin.proofs.Calling.{call-short, call-refused, call-read}
-use Rattle.highboyrobin.proofs.ReasonTold.{numbers-are, numbers-count, bound-refused, bound-accepted, reason-small, why-moved}
+use Rattle.highboyrobin.proofs.ReasonTold.{numbers-are, bound-refused, bound-accepted, reason-small, why-moved}
+use Rattle.highboyrobin.specs.CallLaws.{numbers-count}
 use borrow.Author.Needs.{needs}
 use native.Mathlib.Omega.{arith}
 use Rattle.highboyrobin.proofs.reasoning.hbr_reason.Statement.{statement}

@@ -1,0 +1,39 @@
+-- What a reason says of every plan; and there is none exactly where some right plan meets the bound.
+use Prim.Native.Nat.{ℕ, _≤_}
+use mathlib.Core.Path.{_≡_, refl}
+use mathlib.Core.List.{List}
+use mathlib.Core.Logic.{_↔_}
+use native.Mathlib.Omega.{arith}
+use lib.IntN.{ℤ, pos}
+use lib.Signed.{_<ℤ_}
+use Rattle.order.specs.Order.{Order}
+use Rattle.order.specs.Refusals.{Accepted}
+use Rattle.plan.specs.Plan.{Row, RightInParts, Meets}
+use Rattle.profile.specs.Reason.{Reason, IsReason, owedOf, onHandOf}
+use Rattle.profile.specs.ReasonLaws.{reason-found, reason-none, reason-exceeds}
+use Rattle.profile.specs.Search.{Found, nothing, found, reasonOf}
+use Rattle.feasible.specs.Sound.{no-reason-where-met}
+use Rattle.feasible.specs.Complete.{complete}
+
+-- it is document 01's, the minutes owed exceed those on hand, and nobody's plan is right, in whatever equal parts of a minute
+pub record NoPlan (o : Order) (bound : ℤ) (reason : Reason) : Type 0 where
+  pub is-reason : IsReason o bound reason
+  pub exceeds : onHandOf o bound reason <ℤ pos (owedOf o bound reason)
+  pub none-in-parts : (p : ℕ) → 1 ≤ p → (rows : List Row) → ¬ RightInParts p o bound rows
+
+module _ (o : Order) (ok : Accepted o) (bound : ℤ) where
+  pub reason-no-plan : (reason : Reason) → reasonOf o bound ≡ found reason → NoPlan o bound reason
+  reason-no-plan reason e =
+      let is = reason-found o bound reason .0 e in
+      record {
+        is-reason = is;
+        exceeds = reason-exceeds o bound reason is;
+        none-in-parts = λ p parts rows right. no-reason-where-met o ok bound p parts rows right reason is;
+      }
+
+  pub none-where-met : (reasonOf o bound ≡ nothing) ↔ ((rows : List Row) × Meets o bound rows)
+  none-where-met = (λ e. complete o ok bound (reason-none o bound .0 e), λ plan. met (reasonOf o bound) refl (plan .0) (plan .1))
+    where
+      met : (f : Found Reason) → reasonOf o bound ≡ f → (rows : List Row) → Meets o bound rows → f ≡ nothing
+      met nothing e rows right = refl
+      met (found r) e rows right = absurd (reason-no-plan r e .none-in-parts 1 (omega arith) rows right)
