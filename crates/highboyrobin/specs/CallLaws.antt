@@ -42,7 +42,7 @@ use Rattle.profile.specs.Search.{Found, nothing, found, reasonOf}
 use Rattle.planner.specs.NoPlan.{NoPlan, reason-no-plan, none-where-met}
 use Rattle.planner.specs.Rows.{rowsAsked, bufferRow, isFound, leastRows, earlierRows, planRows}
 use Rattle.planner.specs.Demand.{Demand3}
-use Rattle.planner.specs.DemandMet.{demand-3}
+use Rattle.planner.specs.DemandMet.{tight-refused, demand-3}
 use Rattle.highboyrobin.specs.Results.{answerRow, fileCall}
 use Rattle.highboyrobin.specs.Calls.{leastCall, planCall, reasonCall, reasonNumbers, reasonAnswer, checkCall, checkAnswer}
 
@@ -75,11 +75,6 @@ never k c (r ∷ rs) h e = go (r .finding) e (never k c rs (h .1))
     go (holds x) e later = let same : r .number ≡ k = cc in omega (arith, same, eqb-false (r .number) k (h .0))
 
 -- what row 10 alone says, and what a count of 1 or 0 stands for
-tight-refused : (f : Found Reason) → judge (tightRow (isFound f) ∷ []) ≡ refused 10 0 → (r : Reason) × (f ≡ found r)
-unfolding judge
-tight-refused nothing e = let z : _≡_ {A = ℕ} 0 1 = cc in absurd (omega arith)
-tight-refused (found r) e = (r, refl)
-
 tight-found : (f : Found Reason) → ¬ (f ≡ nothing) → judge (tightRow (isFound f) ∷ []) ≡ refused 10 0
 unfolding judge
 tight-found nothing h = absurd (h refl)

@@ -29,7 +29,7 @@ one-number (negsuc m) (pos n) h k = absurd (k .le)
 one-number (negsuc m) (negsuc n) h k = ap negsuc (omega (arith, leb→le n m (h .le), leb→le m n (k .le)))
 
 -- row 10 alone
-tight-refused : (f : Found Reason) → judge (tightRow (isFound f) ∷ []) ≡ refused 10 0 → (r : Reason) × (f ≡ found r)
+pub tight-refused : (f : Found Reason) → judge (tightRow (isFound f) ∷ []) ≡ refused 10 0 → (r : Reason) × (f ≡ found r)
 unfolding judge
 tight-refused nothing e = let z : _≡_ {A = ℕ} 0 1 = cc in absurd (omega arith)
 tight-refused (found r) e = (r, refl)
