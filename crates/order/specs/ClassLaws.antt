@@ -125,6 +125,10 @@ module _ (o : Order) where
                 absurd (omega (arith, class-suffices m (suc k) b .0 h, classes-fall o k (suc k) (omega arith) b))
           ]
 
+  pub memory-of-its-class : (m : ℕ) → In m (o .memories) → memoryOfClass o (classFor o m) ≡ m
+  unfolding memoryOfClass
+  memory-of-its-class m i = let c = class-of-memory m i in ap (λ (k : ℕ). nth (classes o) k 0) (c .2) ∙ c .3
+
   pub class-of-processor : (m : ℕ) → In m (o .memories) → (1 ≤ classFor o m) × (classFor o m ≤ length (classes o))
   class-of-processor m i = (omega (arith, class-of-memory m i .2), class-at-most m)
 

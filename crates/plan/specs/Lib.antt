@@ -7,3 +7,4 @@ pub mod EveryLaws
 pub mod RuleLaws
 pub mod NumberLaws
 pub mod CheckLaws
+pub mod PartsLaws
