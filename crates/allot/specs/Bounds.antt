@@ -20,7 +20,7 @@ use Rattle.order.specs.Refusals.{Accepted, boundInRange}
 use Rattle.order.specs.RefusalLaws.{accepted-iff, both-true, leZ-true}
 use Rattle.wrap.specs.Stretches.{stretchCount, mark}
 use Rattle.wrap.specs.DuePlaces.{mark-met}
-use Rattle.feasible.specs.Whole.{cut-≤}
+use Rattle.order.specs.Ends.{cut-≤}
 
 -- no more distinct members than members
 module _ {A : Type 0} (below : A → A → Bool) where

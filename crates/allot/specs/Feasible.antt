@@ -87,7 +87,7 @@ module _ (o : Order) (accepted : Accepted o) (bound : ℤ) where
     no-cut c =
         let p : Profile (jobsFor o bound) (length (classes o)) =
         cut-profile (jobsFor o bound) fine (length (classes o)) (jobs-in-time o bound accepted (none .0)) (jobs-met o bound)
-        (cut-same o bound t F fine c) in
+        (cut-same o bound t F c) in
         let stairs = profile-overfull o bound (none .0) (jobsFor o bound) matches (omega arith) p in
         none .1 (stairs .0) (stairs .1)
 
@@ -95,5 +95,5 @@ module _ (o : Order) (accepted : Accepted o) (bound : ℤ) where
     pub stands-feasible : (w : List ℕ) (r : Bool) → Answer (flowIn t) (suc (t .classes)) (grid (t .stretches) w) r →
         FeasibleFor o bound (amountIn (t .stretches) w)
     stands-feasible w true f =
-        amounts-by-number o bound (t .stretches) w (feasible-same o bound t F fine (grid (t .stretches) w) f)
+        amounts-by-number o bound (t .stretches) w (feasible-same o bound t F (grid (t .stretches) w) f)
     stands-feasible w false c = absurd (no-cut c)

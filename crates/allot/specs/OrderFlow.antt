@@ -1,42 +1,32 @@
--- An instance that stands for an order has the order's marks, caps and rooms; so feasible amounts of its flow are feasible
+-- An instance that stands for an order holds the numbers of the order's frame; so feasible amounts of its flow are feasible
 -- for the order, and a cut that violates in its flow violates in the order's.
-use Prim.Native.Nat.{ℕ, zero, suc, _*_, _≤_, _<_, min}
-use mathlib.Core.Path.{_≡_, sym, ap, _∙_}
-use mathlib.Core.Bool.{Bool}
+use Prim.Native.Nat.{ℕ, zero, suc, _*_, _≤_, _<_}
+use mathlib.Core.Path.{_≡_, refl, sym}
 use mathlib.Core.List.{List}
-use native.Mathlib.Nat.{mul-le-mul-right}
-use native.Mathlib.Decide.{decLt}
 use native.Mathlib.Omega.{arith}
-use borrow.Author.Tests.{le-leb, lt-leb}
+use borrow.Author.Tests.{le-leb}
 use lib.IntN.{ℤ}
 use lib.ListN.{length, getD}
 use Rattle.sums.specs.Sum.{sum, sum-cong}
-use Rattle.sums.specs.Gate.{gate, gate-in, gate-out, sum-mono}
-use Rattle.sums.specs.Lists.{only, nth}
+use Rattle.sums.specs.Lists.{nth}
 use Rattle.amounts.specs.Flow.{Feasible, Cut}
-use Rattle.amounts.specs.Same.{same-violating, same-feasible}
 use Rattle.amounts.specs.Exchange.{flowOf}
-use Rattle.amounts.specs.Profile.{Fine, stretchesOf}
+use Rattle.amounts.specs.Profile.{stretchesOf}
 use Rattle.engine.specs.View.{grid}
 use Rattle.order.specs.Order.{Order, jobCount, Numbers, jobOf}
-use Rattle.order.specs.Class.{classes, classOf, processorsIn}
+use Rattle.order.specs.Class.{classes, processorsIn, processorsTo}
 use Rattle.order.specs.Deadline.{deadlineOf}
 use Rattle.wrap.specs.Stretches.{stretchCount, mark, stretchLength, heldUpTo, FeasibleFor}
-use Rattle.wrap.specs.Marks.{mark-zero, mark-mono}
-use Rattle.wrap.specs.DuePlaces.{dueIndex, dueIndex-mark}
-use Rattle.wrap.specs.Flows.{jobsFor, byNumber, flow-feasible, jobs-high}
+use Rattle.wrap.specs.Marks.{mark-zero}
+use Rattle.wrap.specs.Flows.{jobsFor, byNumber}
+use Rattle.wrap.specs.Frame.{lies, capIn as frameCap, openTo}
+use Rattle.wrap.specs.FrameBase.{baseFrame, open-counts, feasible-out}
+use Rattle.feasible.specs.PlanAmounts.{base-cut}
 use Rattle.allot.specs.declared.Instance.{Instance}
 use Rattle.allot.specs.Instances.{lengthIn, capIn, roomIn, flowIn, StandsFor, amountIn}
-use Rattle.allot.specs.AtTop.{feasible-at-top}
+use Rattle.allot.specs.Holds.{Holds, holds-feasible, holds-cut}
 
 module _ (o : Order) (bound : ℤ) where
-  -- what a job may have of a stretch, and what the classes up to k may have of it
-  abbrev cap : ℕ → ℕ → ℕ
-  cap j s = gate s (dueIndex o j) (stretchLength o bound s)
-
-  abbrev room : ℕ → ℕ → ℕ
-  room s k = sum k (λ i. processorsIn o (suc i)) * stretchLength o bound s
-
   module _ (t : Instance) (F : StandsFor o bound t) where
     pub mark-same : (s : ℕ) → s ≤ stretchCount o → nth (t .marks) s 0 ≡ mark o bound s
     mark-same zero b = sym (mark-zero o bound)
@@ -49,66 +39,35 @@ module _ (o : Order) (bound : ℤ) where
         sum k (λ i. getD (t .counts) i 0) ≡ sum k (λ i. processorsIn o (suc i))
     counts-same k b = sum-cong k _ _ (λ i l. F .counts-are i (omega arith))
 
-    room-same : (s k : ℕ) → s < stretchCount o → k ≤ length (classes o) → roomIn t s k ≡ room s k
-    room-same s k b l = cc (counts-same k l, length-same s b)
+    caps-are : (j s : ℕ) → j < jobCount o → s < stretchCount o → capIn t j s ≡ frameCap (baseFrame o bound) (suc j) s
+    unfolding lies
+    caps-are j s l b =
+        rw (F .marks-are s b, F .deadlines-are j l, mark-same s (omega arith), le-leb 0 (mark o bound s) (omega arith)) refl
 
-    room-no-more : (s k : ℕ) → s < stretchCount o → roomIn t s (min k (length (classes o))) ≤ room s k
-    room-no-more s k b =
-        omega (
-          arith,
-          room-same s (min k (length (classes o))) b (omega arith),
-          mul-le-mul-right (stretchLength o bound s)
-              (sum-mono (min k (length (classes o))) k (λ i. processorsIn o (suc i)) (omega arith)),
-        )
+    rooms-are : (s k : ℕ) → s < stretchCount o → k ≤ length (classes o) →
+        roomIn t s k ≡ openTo o (baseFrame o bound) s k * stretchLength o bound s
+    unfolding processorsTo
+    rooms-are s k b l = cc (counts-same k l, length-same s b, open-counts o bound s b k)
 
-    module _ (fine : Fine (jobsFor o bound)) where
-      -- a stretch ends by a job's deadline exactly if it lies before the place of the job's due time
-      cap-same : (j s : ℕ) → j < jobCount o → s < stretchCount o → capIn t j s ≡ cap j s
-      cap-same j s l b =
-          let i = dueIndex-mark o bound j l in
-          let m = F .marks-are s b in
-          let d = F .deadlines-are j l in
-          elim (decLt s (dueIndex o j)) [
-            | yes h ↦
-                ap (λ (x : Bool). only x (lengthIn (t .marks) s))
-                (le-leb (getD (t .marks) s 0) (getD (t .deadlines) j 0)
-                (omega (arith, i .2, mark-mono o bound (suc s) (dueIndex o j) h (i .1))))
-                ∙ length-same s b
-                ∙ sym (gate-in s (dueIndex o j) (stretchLength o bound s) h)
-            | no h ↦
-                ap (λ (x : Bool). only x (lengthIn (t .marks) s))
-                (lt-leb (getD (t .marks) s 0) (getD (t .deadlines) j 0)
-                (omega (arith, i .2, mark-mono o bound (dueIndex o j) s (omega arith) (omega arith), fine .rises s b)))
-                ∙ sym (gate-out s (dueIndex o j) (stretchLength o bound s) (omega arith))
-          ]
+    pub holds : Holds o (baseFrame o bound) (flowIn t) (t .classes)
+    holds =
+        record {
+          jobs-are = F .jobs-are;
+          stretches-are = F .stretches-are;
+          classes-are = F .classes-are;
+          times-are = F .times-are;
+          job-classes-are = F .job-classes-are;
+          caps-are = caps-are;
+          rooms-are = rooms-are;
+        }
 
-      class-high : (j : ℕ) → j < jobCount o → getD (t .«job_classes») j 0 ≤ length (classes o)
-      class-high j l = omega (arith, F .job-classes-are j l, jobs-high o j)
+    pub feasible-same : (a : ℕ → ℕ → ℕ) → Feasible (flowIn t) 1 a → FeasibleFor o bound (byNumber a)
+    feasible-same a f =
+        feasible-out o bound _ (holds-feasible o (baseFrame o bound) (flowIn t) (t .classes) holds a f)
 
-      pub feasible-same : (a : ℕ → ℕ → ℕ) → Feasible (flowIn t) 1 a → FeasibleFor o bound (byNumber a)
-      feasible-same a f =
-          flow-feasible o bound
-          (same-feasible (jobCount o) (stretchCount o) (λ j. getD (t .times) j 0) (λ j. jobOf o (suc j) .time)
-          (λ j. getD (t .«job_classes») j 0) (λ j. classOf o (jobOf o (suc j))) (capIn t) cap
-          (λ s k. roomIn t s (min k (length (classes o)))) room (F .times-are) (F .job-classes-are) cap-same room-no-more
-          1 a
-          (feasible-at-top (jobCount o) (stretchCount o) (λ j. getD (t .times) j 0) (λ j. getD (t .«job_classes») j 0)
-          (capIn t) (roomIn t) (length (classes o)) class-high 1 a (rw (F .jobs-are, F .stretches-are) at f)))
-
-      pub cut-same : Cut (flowIn t) (suc (t .classes)) →
-          Cut (flowOf (stretchesOf (jobsFor o bound))) (suc (length (classes o)))
-      cut-same c =
-          let low : (s : ℕ) → c .κ s < suc (length (classes o)) = λ s. omega (arith, c .below s, F .classes-are) in
-          record {
-            κ = c .κ;
-            below = low;
-            violating =
-                same-violating (jobCount o) (stretchCount o) (λ j. getD (t .times) j 0) (λ j. jobOf o (suc j) .time)
-                (λ j. getD (t .«job_classes») j 0) (λ j. classOf o (jobOf o (suc j))) (capIn t) cap (roomIn t) room
-                (F .times-are) (F .job-classes-are) cap-same (suc (length (classes o)))
-                (λ s k b l. room-same s k b (omega arith)) (c .κ) (λ s _. low s)
-                (rw (F .jobs-are, F .stretches-are) at (c .violating));
-          }
+    pub cut-same : Cut (flowIn t) (suc (t .classes)) →
+        Cut (flowOf (stretchesOf (jobsFor o bound))) (suc (length (classes o)))
+    cut-same c = base-cut o bound (holds-cut o (baseFrame o bound) (flowIn t) (t .classes) holds c)
 
   -- flat amounts by job number: the number 0 names no job
   pub amounts-by-number : (q : ℕ) (w : List ℕ) → FeasibleFor o bound (byNumber (grid q w)) →

@@ -200,29 +200,3 @@ module _ (a : Jobs) (F : Fine a) where
 
     pub feasible-no-profile : {p : ℕ} {w : ℕ → ℕ → ℕ} → Feasible (flowOf (stretchesOf a)) p w → ¬ Profile a S
     feasible-no-profile f t = cut-not-feasible (profile-cut t) f
-
--- The stretches may be the first q single minutes: mark p is p, and a job's index is its deadline. So what leaves no
--- profile needs no sorting.
-abbrev pub minutes : Jobs → ℕ → Jobs
-minutes a q =
-    record {
-      q = q;
-      n = a .n;
-      time = a .time;
-      class = a .class;
-      deadline = a .deadline;
-      count = a .count;
-      mark = λ p. p;
-      index = a .deadline;
-    }
-
-pub minutes-fine : (a : Jobs) (q : ℕ) → 0 < q → ((j : ℕ) → j < a .n → 0 < a .class j) →
-    ((j : ℕ) → j < a .n → (0 < a .deadline j) × (a .deadline j ≤ q)) → Fine (minutes a q)
-minutes-fine a q h c e =
-    record {
-      start = refl;
-      rises = omega arith;
-      some = h;
-      classed = c;
-      indexed = λ j b. (e j b .0, e j b .1, refl);
-    }

@@ -1,7 +1,6 @@
 -- The completeness half of Lai and Sahni's theorem: where there is no reason against a whole number, some right plan meets it.
 -- No profile is overfull, so no cut violates, so feasible amounts exist, and their layout is a right plan.
-use Prim.Native.Nat.{ℕ, suc, _≤_, _<_}
-use mathlib.Core.Path.{refl}
+use Prim.Native.Nat.{ℕ}
 use mathlib.Core.List.{List}
 use native.Mathlib.Omega.{arith}
 use lib.IntN.{ℤ}
@@ -16,18 +15,8 @@ use Rattle.wrap.specs.Stretches.{FeasibleFor}
 use Rattle.wrap.specs.Layout.{layout}
 use Rattle.wrap.specs.LayoutRight.{layout-right}
 use Rattle.wrap.specs.Flows.{jobsFor, byNumber, flow-feasible, jobs-met, jobs-in-time, jobs-fine, jobs-high}
-use Rattle.feasible.specs.Matches.{Matches}
+use Rattle.feasible.specs.Matches.{jobs-match}
 use Rattle.feasible.specs.Overfull.{profile-overfull}
-
-pub jobs-match : (o : Order) (bound : ℤ) → Matches o bound (jobsFor o bound)
-jobs-match o bound =
-    record {
-      jobs = refl;
-      times = λ j l. refl;
-      of-class = λ j l. refl;
-      deadlines = λ j l. refl;
-      counts = λ i l. refl;
-    }
 
 -- where there is no reason, feasible amounts exist
 pub amounts-exist : (o : Order) → Accepted o → (bound : ℤ) → NoReason o bound → (a : ℕ → ℕ → ℕ) × FeasibleFor o bound a

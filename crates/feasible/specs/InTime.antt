@@ -16,7 +16,7 @@ use Rattle.order.specs.Refusals.{Accepted}
 use Rattle.order.specs.RefusalLaws.{accepted-iff}
 use Rattle.plan.specs.Plan.{Row, lengthsOf, RightInParts}
 use Rattle.profile.specs.Reason.{InTime}
-use Rattle.feasible.specs.Whole.{≤-of-cut, ≤-mul-cut}
+use Rattle.order.specs.Ends.{≤-of-cut, ≤-mul-cut}
 use Rattle.feasible.specs.Packing.{clip, Forward, packing-key}
 
 module _ {p : ℕ} {o : Order} {bound : ℤ} {rows : List Row} (right : RightInParts p o bound rows) where

@@ -1,7 +1,7 @@
-pub mod Whole
 pub mod Packing
 pub mod InTime
 pub mod Matches
+pub mod FramePlan
 pub mod PlanAmounts
 pub mod Minutes
 pub mod Overfull

@@ -21,7 +21,7 @@ use Rattle.order.specs.Deadline.{cut, deadlineOf}
 use Rattle.profile.specs.Profile.{owed, classOwes, owedFrom, onHandFrom, minutesOwed, minutesOnHand}
 use Rattle.profile.specs.Reason.{InTime}
 use Rattle.order.specs.Whole.{pos-minus, cut-minus}
-use Rattle.feasible.specs.Whole.{pos-<, <-pos, above-pos}
+use Rattle.order.specs.Ends.{pos-<, <-pos, above-pos}
 
 -- no job's time exceeds its end
 abbrev pub AllInTime : Order → ℤ → Type 0

@@ -18,7 +18,7 @@ use Rattle.order.specs.Class.{classes, processorsIn}
 use Rattle.order.specs.Deadline.{cut, deadlineOf}
 use Rattle.profile.specs.Profile.{Overfull}
 use Rattle.amounts.specs.Profile.{Jobs, Profile}
-use Rattle.feasible.specs.Whole.{≤-pos, cut-≤}
+use Rattle.order.specs.Ends.{≤-pos, cut-≤}
 use Rattle.feasible.specs.Matches.{Matches}
 use Rattle.feasible.specs.Minutes.{AllInTime, EndsAre, classOwesAt, end-is, exceeds-is}
 

@@ -128,18 +128,19 @@ min-min t b c bc = omega arith
 joined : (f t a b c : ℕ) → a ≤ b → b ≤ c → (min t b - max f a) + (min t c - max f b) ≡ min t c - max f a
 joined f t a b c ab bc = rw (min-min t b c bc) (joined-of f (min t c) a b ab)
 
-rising-le : (cut : ℕ → ℕ) → ((s : ℕ) → cut s ≤ cut (suc s)) → (q : ℕ) → cut 0 ≤ cut q
-rising-le cut up zero = omega arith
-rising-le cut up (suc q) = omega (arith, rising-le cut up q, up q)
+rising-le : (cut : ℕ → ℕ) (q : ℕ) → ((s : ℕ) → s < q → cut s ≤ cut (suc s)) → cut 0 ≤ cut q
+rising-le cut zero up = omega arith
+rising-le cut (suc q) up = omega (arith, rising-le cut q (λ s l. up s (omega arith)), up q (omega arith))
 
 -- clips to stretches that follow one another add up to the clip to the whole
-pub telescope : (cut : ℕ → ℕ) → ((s : ℕ) → cut s ≤ cut (suc s)) → (q : ℕ) (r : Row) →
+pub telescope : (cut : ℕ → ℕ) (q : ℕ) → ((s : ℕ) → s < q → cut s ≤ cut (suc s)) → (r : Row) →
     sum q (λ s. clip (cut s) (cut (suc s)) r) ≡ clip (cut 0) (cut q) r
 unfolding sum
-telescope cut up zero r = omega arith
-telescope cut up (suc q) r =
+telescope cut zero up r = omega arith
+telescope cut (suc q) up r =
     omega (
       arith,
-      telescope cut up q r,
-      joined (r .from) (r .to) (cut 0) (cut q) (cut (suc q)) (rising-le cut up q) (up q),
+      telescope cut q (λ s l. up s (omega arith)) r,
+      joined (r .from) (r .to) (cut 0) (cut q) (cut (suc q)) (rising-le cut q (λ s l. up s (omega arith)))
+          (up q (omega arith)),
     )

@@ -1,8 +1,7 @@
 -- The soundness half of Lai and Sahni's theorem, over document 01's own definitions: where any plan is right, in any number
 -- of parts to the minute, there is no reason against the bound.
-use Prim.Native.Nat.{ℕ, suc, _≤_}
+use Prim.Native.Nat.{ℕ, _≤_}
 use mathlib.Core.List.{List}
-use native.Mathlib.Omega.{arith}
 use lib.IntN.{ℤ}
 use lib.ListN.{length}
 use lib.Signed.{clashℤ}
@@ -12,9 +11,10 @@ use Rattle.order.specs.Refusals.{Accepted}
 use Rattle.plan.specs.Plan.{Row, RightInParts}
 use Rattle.profile.specs.Profile.{Overfull}
 use Rattle.profile.specs.Reason.{Reason, overEnd, stairs, InTime, IsReason}
-use Rattle.amounts.specs.Profile.{Fine, minutes-fine, feasible-no-profile}
-use Rattle.feasible.specs.InTime.{time-some, time-in-deadline, plan-in-time}
-use Rattle.feasible.specs.Matches.{inMinutes, minutes-match, enough, deadline-enough, job-classed}
+use Rattle.amounts.specs.Profile.{feasible-no-profile}
+use Rattle.wrap.specs.Flows.{jobsFor, jobs-fine}
+use Rattle.feasible.specs.InTime.{plan-in-time}
+use Rattle.feasible.specs.Matches.{jobs-match}
 use Rattle.feasible.specs.PlanAmounts.{plan-amounts}
 use Rattle.feasible.specs.Overfull.{overfull-profile}
 
@@ -22,32 +22,14 @@ use Rattle.feasible.specs.Overfull.{overfull-profile}
 -- over its end and no overfull staircase.
 pub sound : (o : Order) → Accepted o → (bound : ℤ) (p : ℕ) → 1 ≤ p → (rows : List Row) → RightInParts p o bound rows →
     ((j : ℕ) → Numbers (jobCount o) j → InTime bound (jobOf o j)) × ((dues : List ℤ) → ¬ Overfull o bound dues)
-sound o accepted bound p parts rows right = (
-  in-time,
-  λ dues full.
-      feasible-no-profile (inMinutes o bound q) fine (length (classes o))
-      (plan-amounts parts right q (deadline-enough o bound))
-      (overfull-profile o bound in-time (inMinutes o bound q) (minutes-match o bound q) dues full),
-)
-  where
-    q : ℕ
-    q = enough o bound
-
-    in-time : (j : ℕ) → Numbers (jobCount o) j → InTime bound (jobOf o j)
-    in-time = plan-in-time accepted parts right
-
-    fine : Fine (inMinutes o bound q)
-    fine =
-        minutes-fine (inMinutes o bound q) q (omega arith)
-        (λ j l. job-classed o accepted (suc j) (omega arith, l) .0)
-        (λ j l. (
-          omega (
-            arith,
-            time-some o accepted (suc j) (omega arith, l),
-            time-in-deadline right parts (suc j) (omega arith, l),
-          ),
-          deadline-enough o bound j l,
-        ))
+sound o accepted bound p parts rows right =
+    let in-time = plan-in-time accepted parts right in (
+      in-time,
+      λ dues full.
+          feasible-no-profile (jobsFor o bound) (jobs-fine o bound accepted in-time) (length (classes o))
+          (plan-amounts o bound parts right)
+          (overfull-profile o bound in-time (jobsFor o bound) (jobs-match o bound) dues full),
+    )
 
 -- Where some plan in parts is right, nothing is a reason.
 pub no-reason-where-met : (o : Order) → Accepted o → (bound : ℤ) (p : ℕ) → 1 ≤ p → (rows : List Row) →

@@ -3,6 +3,7 @@ pub mod Whole
 pub mod Sorted
 pub mod Class
 pub mod Deadline
+pub mod Ends
 pub mod Refusals
 pub mod Table
 pub mod RefusalLaws

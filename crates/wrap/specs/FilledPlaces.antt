@@ -1,7 +1,7 @@
 -- The rows of filling and the places of their processors: rows stand by place, then by `from`; and a row's processor is
 -- among the first that its job may use, where the shares up to each job's have room on these.
 use Prim.Native.Nat.{ℕ, zero, suc, _+_, _-_, _*_, _≤_, _<_}
-use mathlib.Core.Path.{_≡_, refl, sym, ap, _∙_, subst}
+use mathlib.Core.Path.{_≡_, refl, ap, _∙_, subst}
 use mathlib.Core.List.{List, [], _∷_}
 use mathlib.Core.Logic.{_⊎_, _≢_, inl, inr}
 use native.Mathlib.Omega.{arith}
@@ -9,10 +9,11 @@ use native.Mathlib.Nat.{le-of-suc-le-suc, lt-of-mul-lt-mul-right}
 use borrow.Author.Tests.{eq-eqb, ne-eqb}
 use lib.ListN.{length, getD}
 use Rattle.sums.specs.Lists.{All, Pairwise}
-use Rattle.sums.specs.ListLaws.{All-map, All-at, All-from}
+use Rattle.sums.specs.ListLaws.{All-map, All-both, All-at, All-from}
 use Rattle.plan.specs.Plan.{Row}
 use Rattle.wrap.specs.Layout.{Share}
 use Rattle.wrap.specs.Filled.{Filled, no-processor, no-share, ends-before, ends-there, goes-on}
+use Rattle.wrap.specs.FilledRows.{filled-processors}
 use Rattle.wrap.specs.RowOrder.{placeIn}
 
 -- the processors stand at the places u, u + 1, ..; `named i` is the one at place i
@@ -56,11 +57,6 @@ placeIn-members xs d =
     let e = placeIn-at xs d i l in
     (omega arith, ap (λ (i : ℕ). getD xs i 0) e))
 
--- a row behind the minute `at` of the processor at place u, or on a later processor
-abbrev Behind : (place named : ℕ → ℕ) → ℕ → ℕ → Row → Type 0
-Behind place named u at r =
-    ((place (r .processor) ≡ u) × (r .processor ≡ named u) × (at ≤ r .from)) ⊎ (u < place (r .processor))
-
 -- by place, then by `from`
 abbrev pub Stands : (ℕ → ℕ) → Row → Row → Type 0
 Stands place r s = (place (r .processor) < place (s .processor)) ⊎ ((r .processor ≡ s .processor) × (r .to ≤ s .from))
@@ -72,58 +68,7 @@ Roomy span room S [] = Unit {0}
 Roomy span room S (x ∷ xs) =
     (0 < x .minutes) × (S + x .minutes ≤ room (x .job) * span) × Roomy span room (S + x .minutes) xs
 
-module _ (place named : ℕ → ℕ) where
-  later : (u at : ℕ) (rows : List Row) → All (Behind place named (suc u) at) rows →
-      All (λ (r : Row). u < place (r .processor)) rows
-  later u at rows h = All-map _ _ rows one h
-    where
-      one : (r : Row) → Behind place named (suc u) at r → u < place (r .processor)
-      one r (inl w) = omega arith
-      one r (inr w) = omega arith
-
 module _ {start end : ℕ} (place named : ℕ → ℕ) where
-  filled-behind : {ps : List ℕ} {at : ℕ} {xs : List Share} {rows : List Row} → Filled start end ps at xs rows →
-      (u : ℕ) → Placed place named u ps → All (Behind place named u at) rows
-  filled-behind no-processor u h = tt
-  filled-behind no-share u h = tt
-  filled-behind (ends-before {at} {x} {rows} l t) u h =
-      (inl (h .0, h .1, omega arith), All-map _ _ rows weaker (filled-behind t u h))
-    where
-      weaker : (r : Row) → Behind place named u (at + x .minutes) r → Behind place named u at r
-      weaker r (inl w) = inl (w .0, w .1, omega (arith, w .2))
-      weaker r (inr w) = inr w
-  filled-behind (ends-there {rows} l t) u h = (
-    inl (h .0, h .1, omega arith),
-    All-map _ _ rows (λ (r : Row) w. inr w) (later place named u start rows (filled-behind t (suc u) (h .2))),
-  )
-  filled-behind (goes-on {rows} l t) u h = (
-    inl (h .0, h .1, omega arith),
-    All-map _ _ rows (λ (r : Row) w. inr w) (later place named u start rows (filled-behind t (suc u) (h .2))),
-  )
-
-  -- rows stand by place, then by `from`
-  pub filled-stands : {ps : List ℕ} {at : ℕ} {xs : List Share} {rows : List Row} → Filled start end ps at xs rows →
-      (u : ℕ) → Placed place named u ps → Pairwise (Stands place) rows
-  filled-stands no-processor u h = tt
-  filled-stands no-share u h = tt
-  filled-stands (ends-before {p} {at} {x} {rows} l t) u h =
-      (All-map _ _ rows one (filled-behind t u h), filled-stands t u h)
-    where
-      one : (r : Row) → Behind place named u (at + x .minutes) r →
-          (place p < place (r .processor)) ⊎ ((p ≡ r .processor) × (at + x .minutes ≤ r .from))
-      one r (inl w) = inr (h .1 ∙ sym (w .1), w .2)
-      one r (inr w) = inl (omega (arith, h .0))
-  filled-stands (ends-there {rows} l t) u h = (
-    All-map _ _ rows (λ (r : Row) w. inl (omega (arith, h .0)))
-        (later place named u start rows (filled-behind t (suc u) (h .2))),
-    filled-stands t (suc u) (h .2),
-  )
-  filled-stands (goes-on {rows} l t) u h = (
-    All-map _ _ rows (λ (r : Row) w. inl (omega (arith, h .0)))
-        (later place named u start rows (filled-behind t (suc u) (h .2))),
-    filled-stands t (suc u) (h .2),
-  )
-
   -- a row's processor is among the first that its job may use: u processors are full, and y minutes of the next
   pub filled-room : {ps : List ℕ} {at : ℕ} {xs : List Share} {rows : List Row} (span : ℕ) (room : ℕ → ℕ) →
       start + span ≡ end → Filled start end ps at xs rows → (u y S : ℕ) → at ≡ start + y → S ≡ u * span + y →
@@ -144,3 +89,67 @@ module _ {start end : ℕ} (place named : ℕ → ℕ) where
         filled-room span room whole t (suc u) 0 (suc u * span) (omega arith) (omega arith) (h .2)
             (omega arith, omega (arith, k .1), subst (λ (z : ℕ). Roomy span room z xs) same (k .2)),
       )
+
+-- of a list whose members are distinct, the places rise
+places-behind : (x : ℕ) (ys : List ℕ) → All (λ y. x ≢ y) ys →
+    Pairwise (λ y z. placeIn ys y < placeIn ys z) ys →
+    Pairwise (λ y z. placeIn (x ∷ ys) y < placeIn (x ∷ ys) z) ys
+unfolding placeIn
+places-behind x ys d h = go ys d h
+  where
+    go : (zs : List ℕ) → All (λ y. x ≢ y) zs → Pairwise (λ y z. placeIn ys y < placeIn ys z) zs →
+        Pairwise (λ y z. placeIn (x ∷ ys) y < placeIn (x ∷ ys) z) zs
+    go [] d h = tt
+    go (z ∷ zs) d h = (
+      All-map _ _ zs (λ w k. rw (ne-eqb x z (d .0), ne-eqb x w (k .0)) (omega (arith, k .1))) (All-both _ _ zs (d .1) (h .0)),
+      go zs (d .1) (h .1),
+    )
+
+pub places-rise : (xs : List ℕ) → Pairwise (λ x y. x ≢ y) xs → Pairwise (λ x y. placeIn xs x < placeIn xs y) xs
+unfolding placeIn
+places-rise [] d = tt
+places-rise (x ∷ xs) d = (
+  All-map _ _ xs (λ y ne. rw (eq-eqb x x refl, ne-eqb x y ne) (omega arith)) (d .0),
+  places-behind x xs (d .0) (places-rise xs (d .1)),
+)
+
+-- a row of the processor p behind the minute `at`, or on a later processor
+abbrev Behind : (ℕ → ℕ) → ℕ → ℕ → Row → Type 0
+Behind place p at r = ((p ≡ r .processor) × (at ≤ r .from)) ⊎ (place p < place (r .processor))
+
+module _ {start end : ℕ} (place : ℕ → ℕ) where
+  -- on processors behind p, each row is
+  later : {ps : List ℕ} {at : ℕ} {xs : List Share} {rows : List Row} → Filled start end ps at xs rows → (p : ℕ) →
+      All (λ q. place p < place q) ps → All (λ (r : Row). place p < place (r .processor)) rows
+  later t p h = filled-processors (λ q. place p < place q) t h
+
+  filled-behind : {p : ℕ} {ps : List ℕ} {at : ℕ} {xs : List Share} {rows : List Row} → Filled start end (p ∷ ps) at xs rows →
+      Pairwise (λ q r. place q < place r) (p ∷ ps) → All (Behind place p at) rows
+  filled-behind no-share h = tt
+  filled-behind (ends-before {p} {at} {x} {rows} l t) h =
+      (inl (refl, omega arith), All-map _ _ rows weaker (filled-behind t h))
+    where
+      weaker : (r : Row) → Behind place p (at + x .minutes) r → Behind place p at r
+      weaker r (inl w) = inl (w .0, omega (arith, w .1))
+      weaker r (inr w) = inr w
+  filled-behind (ends-there {p} {rows} l t) h =
+      (inl (refl, omega arith), All-map _ _ rows (λ (r : Row) w. inr w) (later t p (h .0)))
+  filled-behind (goes-on {p} {rows} l t) h =
+      (inl (refl, omega arith), All-map _ _ rows (λ (r : Row) w. inr w) (later t p (h .0)))
+
+  -- rows stand by place, then by `from`
+  pub filled-stands-rising : {ps : List ℕ} {at : ℕ} {xs : List Share} {rows : List Row} → Filled start end ps at xs rows →
+      Pairwise (λ q r. place q < place r) ps → Pairwise (Stands place) rows
+  filled-stands-rising no-processor h = tt
+  filled-stands-rising no-share h = tt
+  filled-stands-rising (ends-before {p} {at} {x} {rows} l t) h =
+      (All-map _ _ rows one (filled-behind t h), filled-stands-rising t h)
+    where
+      one : (r : Row) → Behind place p (at + x .minutes) r →
+          (place p < place (r .processor)) ⊎ ((p ≡ r .processor) × (at + x .minutes ≤ r .from))
+      one r (inl w) = inr w
+      one r (inr w) = inl w
+  filled-stands-rising (ends-there {p} {rows} l t) h =
+      (All-map _ _ rows (λ (r : Row) w. inl w) (later t p (h .0)), filled-stands-rising t (h .1))
+  filled-stands-rising (goes-on {p} {rows} l t) h =
+      (All-map _ _ rows (λ (r : Row) w. inl w) (later t p (h .0)), filled-stands-rising t (h .1))

@@ -46,7 +46,7 @@ abbrev pub byNumber : (ℕ → ℕ → ℕ) → ℕ → ℕ → ℕ
 byNumber a zero s = 0
 byNumber a (suc j) s = a j s
 
-gate-only : (c k v : ℕ) → gate c (suc k) v ≡ only (leb c k) v
+pub gate-only : (c k v : ℕ) → gate c (suc k) v ≡ only (leb c k) v
 gate-only c k v =
     elim (decLe c k) [
       | yes h ↦ gate-in c (suc k) v (omega arith) ∙ sym (ap (λ (t : Bool). only t v) (le-leb c k h))

@@ -6,9 +6,14 @@ pub mod FilledRows
 pub mod FilledPlaces
 pub mod Shares
 pub mod Marks
-pub mod Stretch
-pub mod LayoutOrdered
 pub mod HeldInOrder
-pub mod LayoutRight
 pub mod DuePlaces
 pub mod Flows
+pub mod Frame
+pub mod FrameLaws
+pub mod FrameRight
+pub mod FrameFlow
+pub mod FrameAt
+pub mod FrameBase
+pub mod LayoutOrdered
+pub mod LayoutRight

@@ -44,3 +44,8 @@ pub ≤-mul-cut : (n p : ℕ) (z : ℤ) → 1 ≤ n → pos n ≤ℤ (pos p *ℤ
     none : (m : ℕ) → pos n ≤ℤ negℤ (pos m) → n ≤ p * 0
     none zero h = absurd (omega (arith, pos-≤ h))
     none (suc m) h = absurd (h .le)
+
+-- and the other way round
+pub mul-cut-≤ : (n p : ℕ) (z : ℤ) → 1 ≤ n → n ≤ p * cut z → pos n ≤ℤ (pos p *ℤ z)
+mul-cut-≤ n p (pos k) l h = ≤-pos h
+mul-cut-≤ n p (negsuc k) l h = absurd (omega arith)
