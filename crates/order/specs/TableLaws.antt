@@ -1,11 +1,13 @@
 -- A refusal of the code is a refusal of the table, and stands whatever rows follow.
 use Prim.Native.Nat.{ℕ}
 use mathlib.Core.Path.{_≡_, refl, sym, ap, _∙_}
+use mathlib.Core.Bool.{false}
 use mathlib.Core.List.{List, _++_}
 use native.Mathlib.Omega.{arith}
+use lib.Dec.{eqb}
 use Rattle.order.specs.Refusals.{TableRow, Verdict, accepted, refused, judge, answer, refusal, answerBy}
 use Rattle.order.specs.RefusalLaws.{judge-refused-append}
-use Rattle.order.specs.Table.{refusalTold}
+use Rattle.order.specs.Table.{refusalTold, numberBy}
 use Rattle.order.specs.declared.Refusal.{Refusal}
 use Rattle.order.specs.declared.Refusal.the-variants.{
   NoProcessor,
@@ -34,6 +36,20 @@ refused-told BoundOutOfRange = (8, 0, refl)
 refused-told BufferTooShort = (9, 0, refl)
 refused-told TooManyRows = (11, 0, refl)
 refused-told BadFile = (12, 0, refl)
+
+-- none of them is 10, which comes with its reason
+pub not-ten : (r : Refusal) → eqb (numberBy (refusalTold r)) 10 ≡ false
+not-ten NoProcessor = refl
+not-ten TooManyProcessors = refl
+not-ten NoJob = refl
+not-ten TooManyJobs = refl
+not-ten (TimeOutOfRange j) = refl
+not-ten (DueOutOfRange j) = refl
+not-ten (FitsNoProcessor j) = refl
+not-ten BoundOutOfRange = refl
+not-ten BufferTooShort = refl
+not-ten TooManyRows = refl
+not-ten BadFile = refl
 
 -- where the first rows refuse, so does the whole table, whatever the values are that would have been answered
 pub refused-answer : {A : Type 0} (rows later : List TableRow) (r : Refusal) (a b : A) → refusalTold r ≡ judge rows →

@@ -11,7 +11,7 @@ use Rattle.order.specs.Order.{Job, noJob}
 use Rattle.order.specs.Table.{tableOf}
 use Rattle.order.specs.declared.Order.{Order as OrderTable}
 use Rattle.order_file.specs.Bytes.{number4, signed}
-use Rattle.order_file.specs.File.{jobPlace, processorsOf, jobsOf, jobIn, orderIn}
+use Rattle.order_file.specs.File.{jobPlace, processorsOf, jobsOf, jobIn, orderIn, jobWidth}
 use Rattle.order_file.specs.Inside.{paddedTo, Placed}
 use Rattle.order_file.specs.PaddedLaws.{padded-cong}
 use Rattle.order_file.proofs.Padded.{padded-field, number4-part}
@@ -29,7 +29,7 @@ module _ (f : List ℕ) (pa ja p j : ℕ) (at : Placed f pa ja p j) where
   processor-list = take (pa + 4 * p - pa) (drop pa f)
 
   abbrev job-list : List ℕ
-  job-list = take (ja + 12 * j - ja) (drop ja f)
+  job-list = take (ja + jobWidth * j - ja) (drop ja f)
 
   memories-read : paddedTo 16 p 0 (λ i. number4 processor-list (4 * i)) ≡ tabulate 16 (λ i. getD (orderIn f .memories) i 0)
   unfolding orderIn paddedTo
@@ -38,25 +38,25 @@ module _ (f : List ℕ) (pa ja p j : ℕ) (at : Placed f pa ja p j) where
       ∙ ap (λ (n : ℕ). paddedTo 16 n 0 (λ i. number4 f (pa + 4 * i))) (at .processors-are)
       ∙ ap (λ (b : ℕ). paddedTo 16 (processorsOf f) 0 (λ i. number4 f (b + 4 * i))) (at .processors-at)
 
-  job-number : (k first : ℕ) → k < j → first ≤ 8 → number4 job-list (12 * k + first) ≡ number4 f (ja + 12 * k + first)
+  job-number : (k first : ℕ) → k < j → first ≤ 8 → number4 job-list (jobWidth * k + first) ≡ number4 f (ja + jobWidth * k + first)
   job-number k first l s =
-      number4-part f ja (ja + 12 * j - ja) (12 * k + first) (omega arith) ∙ ap (number4 f) (omega arith)
+      number4-part f ja (ja + jobWidth * j - ja) (jobWidth * k + first) (omega arith) ∙ ap (number4 f) (omega arith)
 
   -- one field of each job
   field-read : {B : Type 0} (g : Job → B) →
-      paddedTo 48 j (g noJob) (λ k. g (jobIn f (ja + 12 * k))) ≡ tabulate 48 (λ k. g (getD (orderIn f .jobs) k noJob))
+      paddedTo 48 j (g noJob) (λ k. g (jobIn f (ja + jobWidth * k))) ≡ tabulate 48 (λ k. g (getD (orderIn f .jobs) k noJob))
   unfolding orderIn
   field-read g =
-      ap (λ (n : ℕ). paddedTo 48 n (g noJob) (λ k. g (jobIn f (ja + 12 * k)))) (at .jobs-are)
-      ∙ ap (λ (b : ℕ). paddedTo 48 (jobsOf f) (g noJob) (λ k. g (jobIn f (b + 12 * k)))) (at .jobs-at)
-      ∙ padded-field g 48 (jobsOf f) noJob (λ k. jobIn f (jobPlace f + 12 * k))
+      ap (λ (n : ℕ). paddedTo 48 n (g noJob) (λ k. g (jobIn f (ja + jobWidth * k)))) (at .jobs-are)
+      ∙ ap (λ (b : ℕ). paddedTo 48 (jobsOf f) (g noJob) (λ k. g (jobIn f (b + jobWidth * k)))) (at .jobs-at)
+      ∙ padded-field g 48 (jobsOf f) noJob (λ k. jobIn f (jobPlace f + jobWidth * k))
 
   -- the struct of the columns that were read is that of the file's order
   pub columns-read : (ms ts : List ℕ) (ds : List ℤ) (ns : List ℕ) →
       ms ≡ paddedTo 16 p 0 (λ i. number4 processor-list (4 * i)) →
-      ts ≡ paddedTo 48 j 0 (λ k. number4 job-list (12 * k + 0)) →
-      ds ≡ paddedTo 48 j (pos 0) (λ k. signed (number4 job-list (12 * k + 4))) →
-      ns ≡ paddedTo 48 j 0 (λ k. number4 job-list (12 * k + 8)) →
+      ts ≡ paddedTo 48 j 0 (λ k. number4 job-list (jobWidth * k + 0)) →
+      ds ≡ paddedTo 48 j (pos 0) (λ k. signed (number4 job-list (jobWidth * k + 4))) →
+      ns ≡ paddedTo 48 j 0 (λ k. number4 job-list (jobWidth * k + 8)) →
       _≡_ {A = OrderTable}
       (record { processors = p; memories = ms; jobs = j; times = ts; dues = ds; needs = ns })
       (tableOf (orderIn f))

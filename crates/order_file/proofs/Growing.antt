@@ -8,7 +8,7 @@ use lib.ListN.{length, take, drop}
 use Rattle.sums.specs.Lists.{tabulate}
 use Rattle.order.specs.Order.{Job}
 use Rattle.order_file.specs.Bytes.{bytes4, pattern}
-use Rattle.order_file.specs.File.{processorBytes, bytesOfJob, jobBytes}
+use Rattle.order_file.specs.File.{processorBytes, bytesOfJob, jobBytes, jobWidth}
 use Rattle.order_file.specs.FileLaws.{processorBytes-more, jobBytes-more}
 use Rattle.order_file.proofs.Stores.{Front, front-start, front-at, front-more, three-put}
 
@@ -34,25 +34,25 @@ module _ (s : List ℕ) (a : ℕ) (f : ℕ → Job) where
   no-job h = rw append-nil (front-at s _ (a + 0) _ s (front-start s a h) (omega arith))
 
   -- the due time comes as z, which is read back from the struct
-  pub one-job-more : (j : ℕ) (out after : List ℕ) (z : ℤ) → Front s (a + 12 * j) (take a s ++ jobBytes (tabulate j f)) out →
-      a + 12 * j + 12 ≤ length s → z ≡ f j .due →
-      after ≡ take (a + 12 * j) out ++ (bytesOfJob (withDue z (f j)) ++ drop (a + 12 * j + 12) out) →
-      Front s (a + 12 * (j + 1)) (take a s ++ jobBytes (tabulate (j + 1) f)) after
+  pub one-job-more : (j : ℕ) (out after : List ℕ) (z : ℤ) → Front s (a + jobWidth * j) (take a s ++ jobBytes (tabulate j f)) out →
+      a + jobWidth * j + jobWidth ≤ length s → z ≡ f j .due →
+      after ≡ take (a + jobWidth * j) out ++ (bytesOfJob (withDue z (f j)) ++ drop (a + jobWidth * j + jobWidth) out) →
+      Front s (a + jobWidth * (j + 1)) (take a s ++ jobBytes (tabulate (j + 1) f)) after
   one-job-more j out after z fr h d e =
       rw (jobBytes-more j f, ← append-assoc (take a s) (jobBytes (tabulate j f)) (bytesOfJob (f j)))
-      (front-at s _ (a + 12 * (j + 1)) _ after
-      (front-more s _ _ out fr 12 (bytesOfJob (f j)) after refl h
-      (e ∙ ap (λ (y : ℤ). take (a + 12 * j) out ++ (bytesOfJob (withDue y (f j)) ++ drop (a + 12 * j + 12) out)) d))
+      (front-at s _ (a + jobWidth * (j + 1)) _ after
+      (front-more s _ _ out fr jobWidth (bytesOfJob (f j)) after refl h
+      (e ∙ ap (λ (y : ℤ). take (a + jobWidth * j) out ++ (bytesOfJob (withDue y (f j)) ++ drop (a + jobWidth * j + jobWidth) out)) d))
       (omega arith))
 
-  pub all-jobs : (n : ℕ) (out : List ℕ) → Front s (a + 12 * n) (take a s ++ jobBytes (tabulate n f)) out →
-      out ≡ take a s ++ (jobBytes (tabulate n f) ++ drop (a + 12 * n) s)
-  all-jobs n out fr = fr .is ∙ append-assoc (take a s) (jobBytes (tabulate n f)) (drop (a + 12 * n) s)
+  pub all-jobs : (n : ℕ) (out : List ℕ) → Front s (a + jobWidth * n) (take a s ++ jobBytes (tabulate n f)) out →
+      out ≡ take a s ++ (jobBytes (tabulate n f) ++ drop (a + jobWidth * n) s)
+  all-jobs n out fr = fr .is ∙ append-assoc (take a s) (jobBytes (tabulate n f)) (drop (a + jobWidth * n) s)
 
 -- the three numbers of one job, the due time as the pattern x
-pub one-job : (s : List ℕ) (a : ℕ) (job : Job) (x : ℕ) (o₁ o₂ o₃ : List ℕ) → a + 12 ≤ length s → x ≡ pattern (job .due) →
+pub one-job : (s : List ℕ) (a : ℕ) (job : Job) (x : ℕ) (o₁ o₂ o₃ : List ℕ) → a + jobWidth ≤ length s → x ≡ pattern (job .due) →
     o₁ ≡ take a s ++ (bytes4 (job .time) ++ drop (a + 4) s) → o₂ ≡ take (a + 4) o₁ ++ (bytes4 x ++ drop (a + 4 + 4) o₁) →
-    o₃ ≡ take (a + 8) o₂ ++ (bytes4 (job .need) ++ drop (a + 8 + 4) o₂) → o₃ ≡ take a s ++ (bytesOfJob job ++ drop (a + 12) s)
+    o₃ ≡ take (a + 8) o₂ ++ (bytes4 (job .need) ++ drop (a + 8 + 4) o₂) → o₃ ≡ take a s ++ (bytesOfJob job ++ drop (a + jobWidth) s)
 one-job s a job x o₁ o₂ o₃ h p e₁ e₂ e₃ =
     three-put s a (bytes4 (job .time)) (bytes4 x) (bytes4 (job .need)) o₁ o₂ o₃ h refl refl refl e₁ e₂ e₃
-    ∙ ap (λ (y : ℕ). take a s ++ ((bytes4 (job .time) ++ (bytes4 y ++ bytes4 (job .need))) ++ drop (a + 12) s)) p
+    ∙ ap (λ (y : ℕ). take a s ++ ((bytes4 (job .time) ++ (bytes4 y ++ bytes4 (job .need))) ++ drop (a + jobWidth) s)) p

@@ -8,7 +8,8 @@ use native.Mathlib.Omega.{arith}
 use borrow.Author.Tests.{eq-eqb, ne-eqb}
 use lib.Dec.{eqb}
 use lib.ListN.{length}
-use Rattle.order_file.specs.File.{processorPlace, jobPlace, processorsOf, jobsOf, listsAgree, goodFile}
+use Rattle.order.specs.Refusals.{shortestFile, longestFile}
+use Rattle.order_file.specs.File.{processorPlace, jobPlace, processorsOf, jobsOf, listsAgree, goodFile, jobWidth, trailerWidth}
 use Rattle.order_file.specs.RoundTrip.{Agrees, listsAgree-iff, goodFile-iff}
 use Rattle.order_file.specs.Inside.{trailerOf, trailerBy, Placed}
 use Rattle.order_file.specs.declared.Lists.{Lists}
@@ -28,7 +29,7 @@ module _ (p j pa ja : ℕ) where
   first-placement e f = rw (eq-eqb pa 0 e, eq-eqb ja (4 * p) f)
 
   module _ (other : (eqb pa 0 && eqb ja (4 * p)) ≡ false) where
-    pub second-placement : ja ≡ 0 → eqb pa (12 * j) ≡ listsAgree p j pa ja
+    pub second-placement : ja ≡ 0 → eqb pa (jobWidth * j) ≡ listsAgree p j pa ja
     second-placement e = rw (other, eq-eqb ja 0 e)
 
     pub no-placement : (ja ≡ 0 → ⊥) → false ≡ listsAgree p j pa ja
@@ -52,7 +53,7 @@ module _ (f : List ℕ) where
   -- the numbers that were read are those of the trailer
   module _ (pa ja p j : ℕ)
       (epa : pa ≡ processorPlace f) (eja : ja ≡ jobPlace f) (ep : p ≡ processorsOf f) (ej : j ≡ jobsOf f) where
-    pub other-length : (4 * p + 12 * j + 12 ≡ length f → ⊥) → Bad ≡ trailerOf f
+    pub other-length : (4 * p + jobWidth * j + trailerWidth ≡ length f → ⊥) → Bad ≡ trailerOf f
     other-length h = bad (λ a. h (omega (arith, a .exact-length)))
 
     agree-read : listsAgree p j pa ja ≡ listsAgree (processorsOf f) (jobsOf f) (processorPlace f) (jobPlace f)
@@ -64,7 +65,7 @@ module _ (f : List ℕ) where
         let e = listsAgree-iff (processorsOf f) (jobsOf f) (processorPlace f) (jobPlace f) .1 (a .placed) in
         true≢false (sym e ∙ sym agree-read ∙ h))
 
-    module _ (long : 12 ≤ length f) (short : length f ≤ 652) (exact : 4 * p + 12 * j + 12 ≡ length f)
+    module _ (long : shortestFile ≤ length f) (short : length f ≤ longestFile) (exact : 4 * p + jobWidth * j + trailerWidth ≡ length f)
         (h : listsAgree p j pa ja ≡ true) where
       agrees : Agrees f
       agrees =
@@ -77,7 +78,7 @@ module _ (f : List ℕ) where
 
       placed : Placed f pa ja p j
       placed =
-          let inside : (pa + 4 * p ≤ length f) × (ja + 12 * j ≤ length f) =
+          let inside : (pa + 4 * p ≤ length f) × (ja + jobWidth * j ≤ length f) =
           elim (listsAgree-iff p j pa ja .0 h) [ inl x ↦ omega arith | inr x ↦ omega arith ] in
           record {
             short = short;

@@ -31,7 +31,7 @@ use Rattle.order.specs.declared.Order.{Order as OrderTable}
 use Rattle.order.specs.declared.Refusal.{Refusal}
 use Rattle.order.specs.declared.Acceptance.{Acceptance}
 use Rattle.order.specs.declared.Acceptance.the-variants.{Accepted, Refused}
-use Rattle.order_file.specs.File.{processorBytes, jobBytes, trailerBytes, fileOf, fileLength, writeRows, writtenBy, ReadBackBy}
+use Rattle.order_file.specs.File.{processorBytes, jobBytes, trailerBytes, fileOf, fileLength, writeRows, writtenBy, ReadBackBy, jobWidth, trailerWidth}
 use Rattle.order_file.specs.FileLaws.{length-processorBytes, length-jobBytes}
 use Rattle.order_file.specs.RoundTrip.{Bounded, read-back}
 use Rattle.order_file.proofs.Stores.{Front, front-more}
@@ -83,7 +83,7 @@ module _ (t : OrderTable) (a : Acceptance) (e : acceptanceTold a ≡ judge (orde
       unfolding writeRows
       room-decides = judge-accepted-append (orderRows limits (orderOf t)) room (good is)
 
-      pub too-short : length buffer < 4 * t .processors + 12 * t .jobs + 12 →
+      pub too-short : length buffer < 4 * t .processors + jobWidth * t .jobs + trailerWidth →
           WrittenBy verdict (orderOf t) buffer (refusal 9 0) buffer
       unfolding judge
       too-short h =
@@ -91,11 +91,11 @@ module _ (t : OrderTable) (a : Acceptance) (e : acceptanceTold a ≡ judge (orde
           (refl, (refl, tt))
 
       -- the three parts, stored one after the other, are the file
-      module _ (o₁ o₂ o₃ : List ℕ) (enough : 4 * t .processors + 12 * t .jobs + 12 ≤ length buffer)
+      module _ (o₁ o₂ o₃ : List ℕ) (enough : 4 * t .processors + jobWidth * t .jobs + trailerWidth ≤ length buffer)
           (e₁ : o₁ ≡ processorBytes (orderOf t .memories) ++ drop (4 * t .processors) buffer)
-          (e₂ : o₂ ≡ take (4 * t .processors) o₁ ++ (jobBytes (orderOf t .jobs) ++ drop (4 * t .processors + 12 * t .jobs) o₁))
-          (e₃ : o₃ ≡ take (4 * t .processors + 12 * t .jobs) o₂
-          ++ (trailerBytes (t .processors) (t .jobs) ++ drop (4 * t .processors + 12 * t .jobs + 12) o₂))
+          (e₂ : o₂ ≡ take (4 * t .processors) o₁ ++ (jobBytes (orderOf t .jobs) ++ drop (4 * t .processors + jobWidth * t .jobs) o₁))
+          (e₃ : o₃ ≡ take (4 * t .processors + jobWidth * t .jobs) o₂
+          ++ (trailerBytes (t .processors) (t .jobs) ++ drop (4 * t .processors + jobWidth * t .jobs + trailerWidth) o₂))
           (small : Bounded (orderOf t)) where
         processors-stored : Front buffer (4 * t .processors) (processorBytes (orderOf t .memories)) o₁
         processors-stored =
@@ -111,17 +111,17 @@ module _ (t : OrderTable) (a : Acceptance) (e : acceptanceTold a ≡ judge (orde
         abbrev jobs : List ℕ
         jobs = jobBytes (orderOf t .jobs)
 
-        jobs-stored : Front buffer (4 * t .processors + 12 * t .jobs) (processors ++ jobs) o₂
+        jobs-stored : Front buffer (4 * t .processors + jobWidth * t .jobs) (processors ++ jobs) o₂
         jobs-stored =
-            front-more buffer _ _ o₁ processors-stored (12 * t .jobs) jobs o₂
-            (length-jobBytes (orderOf t .jobs) ∙ ap (λ (n : ℕ). 12 * n) (jobs-are t)) (omega arith) e₂
+            front-more buffer _ _ o₁ processors-stored (jobWidth * t .jobs) jobs o₂
+            (length-jobBytes (orderOf t .jobs) ∙ ap (λ (n : ℕ). jobWidth * n) (jobs-are t)) (omega arith) e₂
 
         all-stored : o₃ ≡ fileOf (orderOf t) ++ drop (fileLength (orderOf t)) buffer
         unfolding fileOf
         all-stored =
             rw (processors-are t, jobs-are t)
-            (front-more buffer _ _ o₂ jobs-stored 12 (trailerBytes (t .processors) (t .jobs)) o₃ refl enough e₃ .is
-            ∙ ap (λ (l : List ℕ). l ++ drop (4 * t .processors + 12 * t .jobs + 12) buffer)
+            (front-more buffer _ _ o₂ jobs-stored trailerWidth (trailerBytes (t .processors) (t .jobs)) o₃ refl enough e₃ .is
+            ∙ ap (λ (l : List ℕ). l ++ drop (4 * t .processors + jobWidth * t .jobs + trailerWidth) buffer)
             (append-assoc processors jobs (trailerBytes (t .processors) (t .jobs))))
 
         accepts : verdict ≡ accepted
@@ -133,7 +133,7 @@ module _ (t : OrderTable) (a : Acceptance) (e : acceptanceTold a ≡ judge (orde
         written : o₃ ≡ writtenBy verdict (orderOf t) buffer
         written = rw accepts all-stored
 
-        pub file-written : WrittenBy verdict (orderOf t) buffer (answer (4 * t .processors + 12 * t .jobs + 12)) o₃
+        pub file-written : WrittenBy verdict (orderOf t) buffer (answer (4 * t .processors + jobWidth * t .jobs + trailerWidth)) o₃
         file-written = (
           rw accepts (ap answer (omega (arith, processors-are t, jobs-are t))),
           (written, subst (ReadBackBy verdict (orderOf t)) (sym written) (read-back (orderOf t) buffer small)),

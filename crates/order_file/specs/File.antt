@@ -22,9 +22,16 @@ use Rattle.order.specs.Refusals.{
 }
 use Rattle.order_file.specs.Bytes.{number4, number2, bytes4, bytes2, signed, pattern}
 
+-- a job is 12 bytes, and so is the trailer
+abbrev pub jobWidth : ℕ
+jobWidth = 12
+
+abbrev pub trailerWidth : ℕ
+trailerWidth = 12
+
 -- the trailer: place of the processor list, place of the job list, processor count, job count
 abbrev pub trailer : List ℕ → ℕ
-trailer f = length f - 12
+trailer f = length f - trailerWidth
 
 abbrev pub processorPlace : List ℕ → ℕ
 processorPlace f = number4 f (trailer f)
@@ -39,16 +46,16 @@ abbrev pub jobsOf : List ℕ → ℕ
 jobsOf f = number2 f (trailer f + 10)
 
 -- "The two lists lie in either order, the first from byte 0, the second from where the first ends up to the trailer
--- exactly": a processor is 4 bytes, a job 12
+-- exactly": a processor is 4 bytes
 abbrev pub listsAgree : ℕ → ℕ → ℕ → ℕ → Bool
 listsAgree processors jobs processorsAt jobsAt =
-    (eqb processorsAt 0 && eqb jobsAt (4 * processors)) || (eqb jobsAt 0 && eqb processorsAt (12 * jobs))
+    (eqb processorsAt 0 && eqb jobsAt (4 * processors)) || (eqb jobsAt 0 && eqb processorsAt (jobWidth * jobs))
 
 unfoldable pub goodFile : List ℕ → Bool
 goodFile f =
     leb shortestFile (length f)
     && (leb (length f) longestFile
-    && (eqb (4 * processorsOf f + 12 * jobsOf f + 12) (length f)
+    && (eqb (4 * processorsOf f + jobWidth * jobsOf f + trailerWidth) (length f)
     && listsAgree (processorsOf f) (jobsOf f) (processorPlace f) (jobPlace f)))
 
 -- the order of a file: the numbers at the places that its trailer gives
@@ -58,7 +65,7 @@ jobIn f at = record { time = number4 f at; due = signed (number4 f (at + 4)); ne
 unfoldable pub orderIn : List ℕ → Order
 orderIn f = record {
   memories = tabulate (processorsOf f) (λ i. number4 f (processorPlace f + 4 * i));
-  jobs = tabulate (jobsOf f) (λ j. jobIn f (jobPlace f + 12 * j));
+  jobs = tabulate (jobsOf f) (λ j. jobIn f (jobPlace f + jobWidth * j));
 }
 
 -- the reader judges 12, then 1 to 7
@@ -92,7 +99,7 @@ unfoldable pub fileOf : Order → List ℕ
 fileOf o = processorBytes (o .memories) ++ (jobBytes (o .jobs) ++ trailerBytes (processorCount o) (jobCount o))
 
 abbrev pub fileLength : Order → ℕ
-fileLength o = 4 * processorCount o + 12 * jobCount o + 12
+fileLength o = 4 * processorCount o + jobWidth * jobCount o + trailerWidth
 
 -- the writer judges 1 to 7, then 9
 unfoldable pub writeRows : Order → ℕ → List TableRow

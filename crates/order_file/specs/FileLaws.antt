@@ -12,15 +12,15 @@ use Rattle.order.specs.Order.{Job, noJob}
 use Rattle.order.specs.StructLaws.{same-job}
 use Rattle.order_file.specs.Bytes.{number4, bytes4, signed, pattern}
 use Rattle.order_file.specs.ByteLaws.{four-bytes, number4-past, pattern-small, signed-pattern}
-use Rattle.order_file.specs.File.{jobIn, processorBytes, bytesOfJob, jobBytes}
+use Rattle.order_file.specs.File.{jobIn, processorBytes, bytesOfJob, jobBytes, jobWidth}
 
--- a processor is 4 bytes, a job 12
+-- a processor is 4 bytes, a job as many as its width
 pub length-processorBytes : (ms : List ℕ) → length (processorBytes ms) ≡ 4 * length ms
 unfolding processorBytes
 length-processorBytes [] = refl
 length-processorBytes (m ∷ ms) = omega (arith, length-processorBytes ms)
 
-pub length-jobBytes : (js : List Job) → length (jobBytes js) ≡ 12 * length js
+pub length-jobBytes : (js : List Job) → length (jobBytes js) ≡ jobWidth * length js
 unfolding jobBytes
 length-jobBytes [] = refl
 length-jobBytes (j ∷ js) = omega (arith, length-jobBytes js)
@@ -81,12 +81,12 @@ jobIn-first job rest h =
     (four-bytes (job .need) (h .need))
 
 pub jobIn-jobBytes : (js : List Job) (rest : List ℕ) → All JobFits js → (j : ℕ) → j < length js →
-    jobIn (jobBytes js ++ rest) (12 * j) ≡ getD js j noJob
+    jobIn (jobBytes js ++ rest) (jobWidth * j) ≡ getD js j noJob
 unfolding jobBytes
 jobIn-jobBytes [] rest h j l = absurd (omega arith)
 jobIn-jobBytes (x ∷ js) rest h zero l = jobIn-first x (jobBytes js ++ rest) (h .0)
 jobIn-jobBytes (x ∷ js) rest h (suc j) l =
-    let at : 12 * suc j ≡ 12 + 12 * j = omega arith in
+    let at : jobWidth * suc j ≡ jobWidth + jobWidth * j = omega arith in
     rw at
-    (jobIn-past (bytesOfJob x) (jobBytes js ++ rest) 12 (12 * j) refl
+    (jobIn-past (bytesOfJob x) (jobBytes js ++ rest) jobWidth (jobWidth * j) refl
     ∙ jobIn-jobBytes js rest (h .1) j (le-of-suc-le-suc l))

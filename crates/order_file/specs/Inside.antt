@@ -4,8 +4,9 @@ use mathlib.Core.Path.{_≡_}
 use mathlib.Core.Bool.{Bool, true, false}
 use mathlib.Core.List.{List}
 use lib.ListN.{length, getD}
+use Rattle.order.specs.Refusals.{longestFile}
 use Rattle.sums.specs.Lists.{tabulate}
-use Rattle.order_file.specs.File.{processorPlace, jobPlace, processorsOf, jobsOf, goodFile}
+use Rattle.order_file.specs.File.{processorPlace, jobPlace, processorsOf, jobsOf, goodFile, jobWidth}
 use Rattle.order_file.specs.declared.Lists.{Lists}
 use Rattle.order_file.specs.declared.Trailer.{Trailer}
 use Rattle.order_file.specs.declared.Trailer.the-variants.{Good, Bad}
@@ -26,9 +27,9 @@ trailerOf f =
 
 -- the lists are those of the file's trailer, and lie in the file
 pub record Placed (f : List ℕ) (processorsAt jobsAt processors jobs : ℕ) : Type 0 where
-  pub short : length f ≤ 652
+  pub short : length f ≤ longestFile
   pub processors-in : processorsAt + 4 * processors ≤ length f
-  pub jobs-in : jobsAt + 12 * jobs ≤ length f
+  pub jobs-in : jobsAt + jobWidth * jobs ≤ length f
   pub processors-at : processorsAt ≡ processorPlace f
   pub jobs-at : jobsAt ≡ jobPlace f
   pub processors-are : processors ≡ processorsOf f

@@ -1,5 +1,5 @@
 -- An order that is written and read again is the same order; and what a file has to be for the reader to take it.
-use Prim.Native.Nat.{ℕ, zero, suc, _+_, _*_, _≤_, _<_}
+use Prim.Native.Nat.{ℕ, zero, suc, _+_, _-_, _*_, _≤_, _<_}
 use mathlib.Core.Path.{_≡_, refl, sym, ap, _∙_}
 use mathlib.Core.Bool.{Bool, true, false, _&&_, _||_}
 use mathlib.Core.List.{List, [], _∷_, _++_, append-assoc}
@@ -14,7 +14,7 @@ use lib.Signed.{mag, _≤ℤ_}
 use Rattle.sums.specs.Lists.{All, tabulate}
 use Rattle.sums.specs.ListLaws.{All-map, All-both, tabulate-cong, tabulate-getD}
 use Rattle.order.specs.Order.{Job, Order, noJob, processorCount, jobCount}
-use Rattle.order.specs.Refusals.{limits, TableRow, Verdict, accepted, refused, judge, orderRows, Accepted}
+use Rattle.order.specs.Refusals.{limits, TableRow, Verdict, accepted, refused, judge, orderRows, Accepted, shortestFile, longestFile}
 use Rattle.order.specs.RefusalLaws.{Acceptable, accepted-iff, both-true, judge-refused-append}
 use Rattle.order.specs.StructLaws.{same-order}
 use Rattle.order.specs.Table.{orderOf, jobAt}
@@ -40,6 +40,8 @@ use Rattle.order_file.specs.File.{
   writeRows,
   writtenBy,
   ReadBackBy,
+  jobWidth,
+  trailerWidth,
 }
 use Rattle.order_file.specs.FileLaws.{
   length-processorBytes,
@@ -53,11 +55,11 @@ use Rattle.order_file.specs.FileLaws.{
 -- what the reader asks of a file: its length is that of its lists and trailer, and the lists lie one after the other from
 -- byte 0, in either order
 pub record Agrees (f : List ℕ) : Type 0 where
-  pub long-enough : 12 ≤ length f
-  pub short-enough : length f ≤ 652
-  pub exact-length : length f ≡ 4 * processorsOf f + 12 * jobsOf f + 12
+  pub long-enough : shortestFile ≤ length f
+  pub short-enough : length f ≤ longestFile
+  pub exact-length : length f ≡ 4 * processorsOf f + jobWidth * jobsOf f + trailerWidth
   pub placed : ((processorPlace f ≡ 0) × (jobPlace f ≡ 4 * processorsOf f))
-      ⊎ ((jobPlace f ≡ 0) × (processorPlace f ≡ 12 * jobsOf f))
+      ⊎ ((jobPlace f ≡ 0) × (processorPlace f ≡ jobWidth * jobsOf f))
 
 either-true : (a b : Bool) → (a || b) ≡ true → (a ≡ true) ⊎ (b ≡ true)
 either-true true b e = inl refl
@@ -81,15 +83,15 @@ equal-both a b c d e f = true-both (eqb a b) (eqb c d) (eq-eqb a b e) (eq-eqb c 
 
 -- the two placements
 pub listsAgree-iff : (p j pa ja : ℕ) →
-    (listsAgree p j pa ja ≡ true) ↔ (((pa ≡ 0) × (ja ≡ 4 * p)) ⊎ ((ja ≡ 0) × (pa ≡ 12 * j)))
+    (listsAgree p j pa ja ≡ true) ↔ (((pa ≡ 0) × (ja ≡ 4 * p)) ⊎ ((ja ≡ 0) × (pa ≡ jobWidth * j)))
 listsAgree-iff p j pa ja = (
-  λ e. elim (either-true (eqb pa 0 && eqb ja (4 * p)) (eqb ja 0 && eqb pa (12 * j)) e) [
+  λ e. elim (either-true (eqb pa 0 && eqb ja (4 * p)) (eqb ja 0 && eqb pa (jobWidth * j)) e) [
     | inl h ↦ inl (both-equal pa 0 ja (4 * p) h)
-    | inr h ↦ inr (both-equal ja 0 pa (12 * j) h)
+    | inr h ↦ inr (both-equal ja 0 pa (jobWidth * j) h)
   ],
   λ s. elim s [
     | inl h ↦ true-left (eqb pa 0 && eqb ja (4 * p)) _ (equal-both pa 0 ja (4 * p) (h .0) (h .1))
-    | inr h ↦ true-right (eqb pa 0 && eqb ja (4 * p)) _ (equal-both ja 0 pa (12 * j) (h .0) (h .1))
+    | inr h ↦ true-right (eqb pa 0 && eqb ja (4 * p)) _ (equal-both ja 0 pa (jobWidth * j) (h .0) (h .1))
   ],
 )
 
@@ -98,26 +100,26 @@ pub goodFile-iff : (f : List ℕ) → (goodFile f ≡ true) ↔ Agrees f
 unfolding goodFile
 goodFile-iff f = (
   λ e.
-      let h₁ = both-true (leb 12 (length f)) _ e in
-      let h₂ = both-true (leb (length f) 652) _ (h₁ .1) in
-      let h₃ = both-true (eqb (4 * processorsOf f + 12 * jobsOf f + 12) (length f)) _ (h₂ .1) in
+      let h₁ = both-true (leb shortestFile (length f)) _ e in
+      let h₂ = both-true (leb (length f) longestFile) _ (h₁ .1) in
+      let h₃ = both-true (eqb (4 * processorsOf f + jobWidth * jobsOf f + trailerWidth) (length f)) _ (h₂ .1) in
       record {
-        long-enough = leb-true 12 (length f) (h₁ .0);
-        short-enough = leb-true (length f) 652 (h₂ .0);
-        exact-length = sym (eqb-true (4 * processorsOf f + 12 * jobsOf f + 12) (length f) (h₃ .0));
+        long-enough = leb-true shortestFile (length f) (h₁ .0);
+        short-enough = leb-true (length f) longestFile (h₂ .0);
+        exact-length = sym (eqb-true (4 * processorsOf f + jobWidth * jobsOf f + trailerWidth) (length f) (h₃ .0));
         placed = listsAgree-iff (processorsOf f) (jobsOf f) (processorPlace f) (jobPlace f) .0 (h₃ .1);
       },
   λ a.
-      true-both (leb 12 (length f)) _ (le-leb 12 (length f) (a .long-enough))
-      (true-both (leb (length f) 652) _ (le-leb (length f) 652 (a .short-enough))
-      (true-both (eqb (4 * processorsOf f + 12 * jobsOf f + 12) (length f)) _
-      (eq-eqb (4 * processorsOf f + 12 * jobsOf f + 12) (length f) (sym (a .exact-length)))
+      true-both (leb shortestFile (length f)) _ (le-leb shortestFile (length f) (a .long-enough))
+      (true-both (leb (length f) longestFile) _ (le-leb (length f) longestFile (a .short-enough))
+      (true-both (eqb (4 * processorsOf f + jobWidth * jobsOf f + trailerWidth) (length f)) _
+      (eq-eqb (4 * processorsOf f + jobWidth * jobsOf f + trailerWidth) (length f) (sym (a .exact-length)))
       (listsAgree-iff (processorsOf f) (jobsOf f) (processorPlace f) (jobPlace f) .1 (a .placed)))),
 )
 
 -- the file of an order is as long as it says
 lists-length : (o : Order) →
-    length (processorBytes (o .memories) ++ jobBytes (o .jobs)) ≡ 4 * processorCount o + 12 * jobCount o
+    length (processorBytes (o .memories) ++ jobBytes (o .jobs)) ≡ 4 * processorCount o + jobWidth * jobCount o
 lists-length o =
     omega (
       arith,
@@ -136,7 +138,7 @@ pub fileOf-length : (o : Order) → length (fileOf o) ≡ fileLength o
 fileOf-length o =
     ap length (lists-first o)
     ∙ length-append (processorBytes (o .memories) ++ jobBytes (o .jobs)) (trailerBytes (processorCount o) (jobCount o))
-    ∙ ap (λ (n : ℕ). n + 12) (lists-length o)
+    ∙ ap (λ (n : ℕ). n + trailerWidth) (lists-length o)
 
 -- the writer's buffer begins with the file
 pub written-file : (o : Order) (buffer : List ℕ) → take (fileLength o) (fileOf o ++ drop (fileLength o) buffer) ≡ fileOf o
@@ -182,30 +184,30 @@ module _ (o : Order) (a : Accepted o) (b : Bounded o) where
       record { time = omega (arith, h .0 .0); due = small-due (job .due) (h .1 .0 .0) (h .1 .0 .1); need = h .1 .1 })
       (All-both _ _ (o .jobs) (good .times) (All-both _ _ (o .jobs) (good .dues) (b .needs)))
 
-  few-places : 4 * processorCount o + 12 * jobCount o ≤ 640
+  few-places : 4 * processorCount o + jobWidth * jobCount o ≤ longestFile - trailerWidth
   few-places = omega (arith, good .few-processors, good .few-jobs)
 
   -- the numbers of its trailer
-  trailer-at : (k : ℕ) → trailer (fileOf o) + k ≡ 4 * processorCount o + 12 * jobCount o + k
+  trailer-at : (k : ℕ) → trailer (fileOf o) + k ≡ 4 * processorCount o + jobWidth * jobCount o + k
   trailer-at k = omega (arith, fileOf-length o)
 
   trailer-number4 : (k : ℕ) →
-      number4 (fileOf o) (4 * processorCount o + 12 * jobCount o + k) ≡ number4 (trailerBytes (processorCount o) (jobCount o)) k
+      number4 (fileOf o) (4 * processorCount o + jobWidth * jobCount o + k) ≡ number4 (trailerBytes (processorCount o) (jobCount o)) k
   trailer-number4 k =
-      ap (λ (f : List ℕ). number4 f (4 * processorCount o + 12 * jobCount o + k)) (lists-first o)
+      ap (λ (f : List ℕ). number4 f (4 * processorCount o + jobWidth * jobCount o + k)) (lists-first o)
       ∙ number4-past (processorBytes (o .memories) ++ jobBytes (o .jobs)) (trailerBytes (processorCount o) (jobCount o))
-      (4 * processorCount o + 12 * jobCount o) k (lists-length o)
+      (4 * processorCount o + jobWidth * jobCount o) k (lists-length o)
 
   trailer-number2 : (k : ℕ) →
-      number2 (fileOf o) (4 * processorCount o + 12 * jobCount o + k) ≡ number2 (trailerBytes (processorCount o) (jobCount o)) k
+      number2 (fileOf o) (4 * processorCount o + jobWidth * jobCount o + k) ≡ number2 (trailerBytes (processorCount o) (jobCount o)) k
   trailer-number2 k =
-      ap (λ (f : List ℕ). number2 f (4 * processorCount o + 12 * jobCount o + k)) (lists-first o)
+      ap (λ (f : List ℕ). number2 f (4 * processorCount o + jobWidth * jobCount o + k)) (lists-first o)
       ∙ number2-past (processorBytes (o .memories) ++ jobBytes (o .jobs)) (trailerBytes (processorCount o) (jobCount o))
-      (4 * processorCount o + 12 * jobCount o) k (lists-length o)
+      (4 * processorCount o + jobWidth * jobCount o) k (lists-length o)
 
   processor-place : processorPlace (fileOf o) ≡ 0
   processor-place =
-      let at : trailer (fileOf o) ≡ 4 * processorCount o + 12 * jobCount o + 0 = omega (arith, fileOf-length o) in
+      let at : trailer (fileOf o) ≡ 4 * processorCount o + jobWidth * jobCount o + 0 = omega (arith, fileOf-length o) in
       ap (number4 (fileOf o)) at ∙ trailer-number4 0
 
   job-place : jobPlace (fileOf o) ≡ 4 * processorCount o
@@ -238,12 +240,12 @@ module _ (o : Order) (a : Accepted o) (b : Bounded o) where
       ∙ number4-processorBytes (o .memories) (jobBytes (o .jobs) ++ trailerBytes (processorCount o) (jobCount o))
       (b .memories) i l
 
-  job-read : (j : ℕ) → j < jobCount o → jobIn (fileOf o) (jobPlace (fileOf o) + 12 * j) ≡ getD (o .jobs) j noJob
+  job-read : (j : ℕ) → j < jobCount o → jobIn (fileOf o) (jobPlace (fileOf o) + jobWidth * j) ≡ getD (o .jobs) j noJob
   unfolding fileOf
   job-read j l =
       let rest = jobBytes (o .jobs) ++ trailerBytes (processorCount o) (jobCount o) in
-      ap (λ (k : ℕ). jobIn (fileOf o) (k + 12 * j)) job-place
-      ∙ jobIn-past (processorBytes (o .memories)) rest (4 * processorCount o) (12 * j) (length-processorBytes (o .memories))
+      ap (λ (k : ℕ). jobIn (fileOf o) (k + jobWidth * j)) job-place
+      ∙ jobIn-past (processorBytes (o .memories)) rest (4 * processorCount o) (jobWidth * j) (length-processorBytes (o .memories))
       ∙ jobIn-jobBytes (o .jobs) (trailerBytes (processorCount o) (jobCount o)) jobs-fit j l
 
   order-read : orderIn (fileOf o) ≡ o
@@ -253,7 +255,7 @@ module _ (o : Order) (a : Accepted o) (b : Bounded o) where
       (ap (λ (n : ℕ). tabulate n (λ i. number4 (fileOf o) (processorPlace (fileOf o) + 4 * i))) processors-are
       ∙ tabulate-cong (processorCount o) _ (λ i. getD (o .memories) i 0) memory-read
       ∙ tabulate-getD (o .memories) 0)
-      (ap (λ (n : ℕ). tabulate n (λ j. jobIn (fileOf o) (jobPlace (fileOf o) + 12 * j))) jobs-are
+      (ap (λ (n : ℕ). tabulate n (λ j. jobIn (fileOf o) (jobPlace (fileOf o) + jobWidth * j))) jobs-are
       ∙ tabulate-cong (jobCount o) _ (λ j. getD (o .jobs) j noJob) job-read
       ∙ tabulate-getD (o .jobs) noJob)
 

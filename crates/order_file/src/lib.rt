@@ -7,6 +7,13 @@ pub mod bytes; // numbers as bytes
 pub mod read; // read_order
 pub mod write; // write_order
 
+// The bytes of a job and of the trailer, and of the longest file.
+pub const JOB_WIDTH: usize = 12;
+
+pub const TRAILER_WIDTH: usize = 12;
+
+pub const LONGEST_FILE: usize = 652;
+
 // Where the lists lie, and how long they are.
 pub struct Lists {
     pub processors_at: usize,

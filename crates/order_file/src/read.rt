@@ -1,6 +1,9 @@
 // The reader: refusal 12, then 1 to 7. Only `read_order` is a public entry point; the others serve it.
+use super::JOB_WIDTH;
+use super::LONGEST_FILE;
 use super::Lists;
 use super::OrderRead;
+use super::TRAILER_WIDTH;
 use super::Trailer;
 use super::bytes::read2;
 use super::bytes::read4;
@@ -16,7 +19,7 @@ ghost use Rattle.sums.specs.Lists.{tabulate};
 ghost use Rattle.order.specs.Refusals.{judge, answerBy};
 ghost use Rattle.order.specs.Table.{tableOf};
 ghost use Rattle.order_file.specs.Bytes.{number4, signed};
-ghost use Rattle.order_file.specs.File.{listsAgree, orderIn, readRows, orderBy, noOrder};
+ghost use Rattle.order_file.specs.File.{jobWidth, listsAgree, orderIn, readRows, orderBy, noOrder};
 ghost use Rattle.order_file.specs.Told.{readTold};
 ghost use Rattle.order_file.specs.Inside.{trailerOf, Within, paddedTo, Placed};
 
@@ -31,7 +34,7 @@ fn lists_agree(processors: usize, jobs: usize, processors_at: usize, jobs_at: us
         }
     }
     if jobs_at == 0 {
-        return processors_at == 12 * jobs;
+        return processors_at == JOB_WIDTH * jobs;
     }
     false
 }
@@ -42,18 +45,18 @@ fn read_trailer(file: &[u8]) -> Trailer
     ensures { λ r. ⌜ Within (now (file .entry)) r ⌝ }
 {
     let len = file.len();
-    if len < 12 {
+    if len < TRAILER_WIDTH {
         return Trailer::Bad;
     }
-    if 652 < len {
+    if LONGEST_FILE < len {
         return Trailer::Bad;
     }
-    let at = len - 12;
+    let at = len - TRAILER_WIDTH;
     let processors_at = read4(file, at) as usize;
     let jobs_at = read4(file, at + 4) as usize;
     let processors = read2(file, at + 8) as usize;
     let jobs = read2(file, at + 10) as usize;
-    if 4 * processors + 12 * jobs + 12 != len {
+    if 4 * processors + JOB_WIDTH * jobs + TRAILER_WIDTH != len {
         return Trailer::Bad;
     }
     if !lists_agree(processors, jobs, processors_at, jobs_at) {
@@ -83,13 +86,13 @@ fn memories(list: &[u8], n: usize) -> [u32; 16]
 
 // The times or the needs of a job list: the numbers at `first` in each job, 0 beyond its end.
 fn column(list: &[u8], n: usize, first: usize) -> [u32; 48]
-    requires { ⌜ (n ≤ 48) × (first ≤ 8) × (12 * n ≤ length (now list)) ⌝ }
-    ensures { λ r. ⌜ r ≡ paddedTo 48 n 0 (λ (j : ℕ). number4 (now (list .entry)) (12 * j + first)) ⌝ }
+    requires { ⌜ (n ≤ 48) × (first ≤ 8) × (jobWidth * n ≤ length (now list)) ⌝ }
+    ensures { λ r. ⌜ r ≡ paddedTo 48 n 0 (λ (j : ℕ). number4 (now (list .entry)) (jobWidth * j + first)) ⌝ }
 {
     let mut out = [0u32; 48];
     let mut j: usize = 0;
     while j < n {
-        out[j] = read4(list, 12 * j + first);
+        out[j] = read4(list, JOB_WIDTH * j + first);
         j += 1;
     }
     out
@@ -97,13 +100,13 @@ fn column(list: &[u8], n: usize, first: usize) -> [u32; 48]
 
 // The due times of a job list, 0 beyond its end.
 fn dues(list: &[u8], n: usize) -> [i32; 48]
-    requires { ⌜ (n ≤ 48) × (12 * n ≤ length (now list)) ⌝ }
-    ensures { λ r. ⌜ r ≡ paddedTo 48 n (pos 0) (λ (j : ℕ). signed (number4 (now (list .entry)) (12 * j + 4))) ⌝ }
+    requires { ⌜ (n ≤ 48) × (jobWidth * n ≤ length (now list)) ⌝ }
+    ensures { λ r. ⌜ r ≡ paddedTo 48 n (pos 0) (λ (j : ℕ). signed (number4 (now (list .entry)) (jobWidth * j + 4))) ⌝ }
 {
     let mut out = [0i32; 48];
     let mut j: usize = 0;
     while j < n {
-        out[j] = to_signed(read4(list, 12 * j + 4));
+        out[j] = to_signed(read4(list, JOB_WIDTH * j + 4));
         j += 1;
     }
     out
@@ -122,7 +125,7 @@ fn read_lists(
     ensures { λ r. ⌜ r ≡ tableOf (orderIn (now (file .entry))) ⌝ }
 {
     let processors_end = processors_at + 4 * processors;
-    let jobs_end = jobs_at + 12 * jobs;
+    let jobs_end = jobs_at + JOB_WIDTH * jobs;
     let processor_list = &file[processors_at..processors_end];
     let job_list = &file[jobs_at..jobs_end];
     Order {

@@ -1,5 +1,7 @@
 // The writer: refusals 1 to 7, then 9. Only `write_order` is a public entry point; the others serve it.
+use super::JOB_WIDTH;
 use super::OrderWritten;
+use super::TRAILER_WIDTH;
 use super::bytes::put2;
 use super::bytes::put4;
 use super::bytes::to_pattern;
@@ -12,7 +14,7 @@ ghost use mathlib.Core.List.{_++_};
 ghost use lib.ListN.{length, take, drop};
 ghost use Rattle.order.specs.Refusals.{judge, answerBy};
 ghost use Rattle.order.specs.Table.{orderOf, jobAt};
-ghost use Rattle.order_file.specs.File.{processorBytes, bytesOfJob, jobBytes, trailerBytes};
+ghost use Rattle.order_file.specs.File.{jobWidth, trailerWidth, processorBytes, bytesOfJob, jobBytes, trailerBytes};
 ghost use Rattle.order_file.specs.File.{fileLength, writeRows, writtenBy, ReadBackBy};
 ghost use Rattle.order_file.specs.Told.{writtenTold};
 
@@ -32,9 +34,9 @@ fn put_processors(order: Order, out: &mut [u8])
 
 // One job is stored at a place.
 fn put_job(out: &mut [u8], at: usize, time: u32, due: i32, need: u32)
-    requires { ⌜ at + 12 ≤ length (now out) ⌝ }
+    requires { ⌜ at + jobWidth ≤ length (now out) ⌝ }
     ensures { λ r. ⌜ now (out .exit) ≡ take at (now (out .entry))
-        ++ (bytesOfJob (record { time = time; due = due; need = need }) ++ drop (at + 12) (now (out .entry))) ⌝ }
+        ++ (bytesOfJob (record { time = time; due = due; need = need }) ++ drop (at + jobWidth) (now (out .entry))) ⌝ }
 {
     put4(out, at, time);
     put4(out, at + 4, to_pattern(due));
@@ -43,16 +45,16 @@ fn put_job(out: &mut [u8], at: usize, time: u32, due: i32, need: u32)
 
 // The job list is stored at a place.
 fn put_jobs(order: Order, out: &mut [u8], at: usize)
-    requires { ⌜ (order .jobs ≤ 48) × (at ≤ 64) × (at + 12 * order .jobs ≤ length (now out)) ⌝ }
+    requires { ⌜ (order .jobs ≤ 48) × (at ≤ 64) × (at + jobWidth * order .jobs ≤ length (now out)) ⌝ }
     ensures { λ r. ⌜ now (out .exit) ≡ take at (now (out .entry))
-        ++ (jobBytes (orderOf order .jobs) ++ drop (at + 12 * order .jobs) (now (out .entry))) ⌝ }
+        ++ (jobBytes (orderOf order .jobs) ++ drop (at + jobWidth * order .jobs) (now (out .entry))) ⌝ }
 {
     let n = order.jobs as usize;
     let mut j: usize = 0;
     while j < n {
         put_job(
             out,
-            at + 12 * j,
+            at + JOB_WIDTH * j,
             order.times[j],
             order.dues[j],
             order.needs[j],
@@ -63,9 +65,9 @@ fn put_jobs(order: Order, out: &mut [u8], at: usize)
 
 // The trailer is stored at a place.
 fn put_trailer(out: &mut [u8], at: usize, processors: u32, jobs: u32)
-    requires { ⌜ (processors ≤ 16) × (jobs ≤ 48) × (at + 12 ≤ length (now out)) ⌝ }
+    requires { ⌜ (processors ≤ 16) × (jobs ≤ 48) × (at + trailerWidth ≤ length (now out)) ⌝ }
     ensures { λ r. ⌜ now (out .exit) ≡ take at (now (out .entry))
-        ++ (trailerBytes processors jobs ++ drop (at + 12) (now (out .entry))) ⌝ }
+        ++ (trailerBytes processors jobs ++ drop (at + trailerWidth) (now (out .entry))) ⌝ }
 {
     put4(out, at, 0);
     put4(out, at + 4, 4 * processors);
@@ -85,8 +87,8 @@ pub fn write_order(order: Order, out: &mut [u8]) -> OrderWritten
         return OrderWritten::Refused(refusal);
     }
     let jobs_at = 4 * order.processors as usize;
-    let trailer_at = jobs_at + 12 * order.jobs as usize;
-    let len = trailer_at + 12;
+    let trailer_at = jobs_at + JOB_WIDTH * order.jobs as usize;
+    let len = trailer_at + TRAILER_WIDTH;
     if out.len() < len {
         return OrderWritten::Refused(Refusal::BufferTooShort);
     }

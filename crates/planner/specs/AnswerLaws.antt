@@ -1,28 +1,17 @@
 -- What the planner's answers say of the verdict and of the lent rows. The order is told twice, as it was read and as the file has
 -- it, and the bound as it was passed and as the machine reads it back.
 use Prim.Native.Nat.{ℕ}
-use mathlib.Core.Path.{_≡_, refl, _∙_, subst}
+use mathlib.Core.Path.{_≡_, refl, sym, ap, _∙_, subst}
+use mathlib.Core.Bool.{false}
 use mathlib.Core.List.{List, [], _∷_, _++_, append-assoc}
+use lib.Dec.{eqb}
 use lib.IntN.{ℤ}
 use lib.ListN.{length}
 use Rattle.order.specs.Order.{Order}
 use Rattle.order.specs.Refusals.{limits, Verdict, accepted, refused, judge, answerBy, orderRows, boundRow, tightRow}
-use Rattle.order.specs.Table.{refusalTold}
-use Rattle.order.specs.TableLaws.{refused-told, refused-by, verdict-refused, verdict-accepted}
+use Rattle.order.specs.Table.{refusalTold, numberBy}
+use Rattle.order.specs.TableLaws.{refused-told, not-ten, refused-by, verdict-refused, verdict-accepted}
 use Rattle.order.specs.declared.Refusal.{Refusal}
-use Rattle.order.specs.declared.Refusal.the-variants.{
-  NoProcessor,
-  TooManyProcessors,
-  NoJob,
-  TooManyJobs,
-  TimeOutOfRange,
-  DueOutOfRange,
-  FitsNoProcessor,
-  BoundOutOfRange,
-  BufferTooShort,
-  TooManyRows,
-  BadFile,
-}
 use Rattle.profile.specs.Least.{leastLateness}
 use Rattle.profile.specs.Reason.{Reason as TightReason}
 use Rattle.profile.specs.Search.{Found, nothing, reasonOf}
@@ -37,17 +26,10 @@ use Rattle.reason.specs.declared.Reason.{Reason}
 
 -- no refusal of the code is 10, so none comes with a reason
 pub carried-none : (rf : Refusal) (f : Found TightReason) → reasonCarried (refusalTold rf) f ≡ nothing
-carried-none NoProcessor f = refl
-carried-none TooManyProcessors f = refl
-carried-none NoJob f = refl
-carried-none TooManyJobs f = refl
-carried-none (TimeOutOfRange j) f = refl
-carried-none (DueOutOfRange j) f = refl
-carried-none (FitsNoProcessor j) f = refl
-carried-none BoundOutOfRange f = refl
-carried-none BufferTooShort f = refl
-carried-none TooManyRows f = refl
-carried-none BadFile f = refl
+carried-none rf f =
+    let t = refused-told rf in
+    let n : eqb (t .0) 10 ≡ false = sym (ap (λ (v : Verdict). eqb (numberBy v) 10) (t .2)) ∙ not-ten rf in
+    ap (λ (v : Verdict). reasonCarried v f) (t .2) ∙ rw n
 
 -- both tables begin with the order's rows
 pub least-begins : (o : Order) (n : ℕ) → leastRows o n ≡ orderRows limits o ++ (bufferRow o n ∷ [])

@@ -1,6 +1,7 @@
 -- `column`: the invariant is that the places before j hold the numbers at `first` of the jobs, the others 0.
 use Prim.Native.Nat.{_+_, _*_, _-_, _≤_}
 use mathlib.Core.Path.{_≡_}
+use Rattle.order_file.specs.File.{jobWidth}
 use Rattle.order_file.specs.Bytes.{number4}
 use Rattle.order_file.specs.Inside.{paddedTo}
 use Rattle.order_file.specs.PaddedLaws.{padded-none, padded-more}
@@ -10,7 +11,7 @@ use Rattle.order_file.proofs.read.column.Statement.{statement}
 use Rattle.order_file.proofs.read.column.Tie as tie
 
 abbrev Inv-loop : tie.InvT-loop
-Inv-loop list n first out₀ j₀ out j = (j ≤ n) × (out ≡ paddedTo 48 j 0 (λ k. number4 list (12 * k + first)))
+Inv-loop list n first out₀ j₀ out j = (j ≤ n) × (out ≡ paddedTo 48 j 0 (λ k. number4 list (jobWidth * k + first)))
 
 abbrev μ-loop : tie.MeasureT-loop
 μ-loop list n first out₀ j₀ out j = n - j

@@ -1,4 +1,5 @@
 -- `dues`: the invariant is that the places before j hold the due times, the others 0.
+use Rattle.order_file.specs.File.{jobWidth}
 use Rattle.order_file.proofs.Signed.{read-back}
 use Prim.Native.Nat.{_+_, _*_, _-_, _≤_}
 use mathlib.Core.Path.{_≡_, ap, _∙_}
@@ -12,7 +13,7 @@ use Rattle.order_file.proofs.read.dues.Statement.{statement}
 use Rattle.order_file.proofs.read.dues.Tie as tie
 
 abbrev Inv-loop : tie.InvT-loop
-Inv-loop list n out₀ j₀ out j = (j ≤ n) × (out ≡ paddedTo 48 j (pos 0) (λ k. signed (number4 list (12 * k + 4))))
+Inv-loop list n out₀ j₀ out j = (j ≤ n) × (out ≡ paddedTo 48 j (pos 0) (λ k. signed (number4 list (jobWidth * k + 4))))
 
 abbrev μ-loop : tie.MeasureT-loop
 μ-loop list n out₀ j₀ out j = n - j

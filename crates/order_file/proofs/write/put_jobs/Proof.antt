@@ -8,7 +8,7 @@ use mathlib.Core.List.{_++_}
 use lib.ListN.{take, getD}
 use Rattle.sums.specs.Lists.{tabulate}
 use Rattle.order.specs.Table.{jobAt}
-use Rattle.order_file.specs.File.{jobBytes}
+use Rattle.order_file.specs.File.{jobBytes, jobWidth}
 use Rattle.order_file.proofs.Stores.{Front, front-length}
 use borrow.Author.Needs.{needs}
 use native.Mathlib.Omega.{arith}
@@ -16,7 +16,7 @@ use Rattle.order_file.proofs.write.put_jobs.Statement.{statement}
 use Rattle.order_file.proofs.write.put_jobs.Tie as tie
 
 abbrev Inv-loop : tie.InvT-loop
-Inv-loop out₀ at order n j₀ out j = (j ≤ n) × Front out₀ (at + 12 * j) (take at out₀ ++ jobBytes (tabulate j (jobAt order))) out
+Inv-loop out₀ at order n j₀ out j = (j ≤ n) × Front out₀ (at + jobWidth * j) (take at out₀ ++ jobBytes (tabulate j (jobAt order))) out
 
 abbrev μ-loop : tie.MeasureT-loop
 μ-loop out₀ at order n j₀ out j = n - j
