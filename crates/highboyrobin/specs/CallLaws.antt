@@ -31,7 +31,15 @@ use Rattle.order.specs.Refusals.{
   boundRow,
   Accepted,
 }
-use Rattle.order.specs.RefusalLaws.{judge-accepted, judge-clear, judge-accepted-append, judge-refused-append}
+use Rattle.order.specs.RefusalLaws.{
+  judge-accepted,
+  judge-clear,
+  judge-accepted-append,
+  judge-refused-append,
+  accepted≢refused,
+  accepted-first,
+  whole-clear,
+}
 use Rattle.order_file.specs.File.{goodFile, orderIn}
 use Rattle.plan.specs.Plan.{Row, RightInParts, Meets}
 use Rattle.plan.specs.Check.{RightNumbers, isRight}
@@ -52,17 +60,6 @@ kind-none o (found (overEnd j)) =
     (λ e. let z : _≡_ {A = ℕ} 1 0 = cc in absurd (omega arith), λ e. let z : _≡_ {A = ℕ} 1 0 = cc in absurd (omega arith))
 kind-none o (found (stairs dues)) =
     (λ e. let z : _≡_ {A = ℕ} 2 0 = cc in absurd (omega arith), λ e. let z : _≡_ {A = ℕ} 1 0 = cc in absurd (omega arith))
-
-accepted≢refused : {n c : ℕ} → accepted ≡ refused n c → ⊥
-accepted≢refused e = let z : _≡_ {A = ℕ} 0 1 = cc in omega arith
-
--- where a table accepts, so do its first rows
-accepted-first : (rows later : List TableRow) → judge (rows ++ later) ≡ accepted → judge rows ≡ accepted
-accepted-first rows later e = decided (judge rows) refl
-  where
-    decided : (v : Verdict) → judge rows ≡ v → judge rows ≡ accepted
-    decided accepted f = f
-    decided (refused n c) f = absurd (accepted≢refused (sym e ∙ judge-refused-append rows later n c f))
 
 -- a number that no row has is not returned
 never : (k c : ℕ) (rows : List TableRow) → All (λ (r : TableRow). eqb (r .number) k ≡ false) rows → judge rows ≡ refused k c → ⊥
@@ -113,11 +110,6 @@ pub least-answered : (f : List ℕ) (numbers lent : ℕ) → judge (leastCall f 
 unfolding leastRows
 least-answered f numbers lent e =
     demand-3 (orderIn f) (accepted-order f lent 2 (bufferRow (orderIn f) numbers ∷ []) e)
-
--- what a row about no single job says of its condition
-whole-clear : (b : Bool) → whole b ≡ clear → b ≡ false
-whole-clear true e = let z : _≡_ {A = ℕ} 0 1 = cc in absurd (omega arith)
-whole-clear false e = refl
 
 module _ (f : List ℕ) (bound : ℤ) (numbers lent : ℕ) where
   abbrev o : Order

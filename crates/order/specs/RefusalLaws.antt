@@ -135,12 +135,23 @@ judge-refused-append (r ∷ rs) later number carried e = go (r .finding) e (judg
     go clear h k = k h
     go (holds c) h k = h
 
+pub accepted≢refused : {n c : ℕ} → accepted ≡ refused n c → ⊥
+accepted≢refused e = let z : _≡_ {A = ℕ} 0 1 = cc in omega arith
+
+-- where a table accepts, so do its first rows
+pub accepted-first : (rows later : List TableRow) → judge (rows ++ later) ≡ accepted → judge rows ≡ accepted
+accepted-first rows later e = decided (judge rows) refl
+  where
+    decided : (v : Verdict) → judge rows ≡ v → judge rows ≡ accepted
+    decided accepted f = f
+    decided (refused n c) f = absurd (accepted≢refused (sym e ∙ judge-refused-append rows later n c f))
+
 -- where the first rows accept, the others decide
 pub judge-accepted-append : (rows later : List TableRow) → judge rows ≡ accepted → judge (rows ++ later) ≡ judge later
 judge-accepted-append rows later e = judge-clear rows later (all-clear rows e)
 
 -- a condition about the whole does not hold
-whole-clear : (b : Bool) → whole b ≡ clear → b ≡ false
+pub whole-clear : (b : Bool) → whole b ≡ clear → b ≡ false
 whole-clear true e = absurd (clear≢holds (sym e))
 whole-clear false e = refl
 

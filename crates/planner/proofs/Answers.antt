@@ -5,14 +5,22 @@ use mathlib.Core.Path.{_≡_, refl, sym, ap, _∙_, subst}
 use mathlib.Core.Bool.{Bool, true, false, not}
 use mathlib.Core.List.{List, [], _∷_, _++_}
 use native.Mathlib.Omega.{arith}
-use borrow.Author.Tests.{lt-ltb, le-ltb, not-true, not-false}
+use borrow.Author.Tests.{lt-ltb, le-ltb, ltb-false, not-true, not-false}
 use lib.IntN.{ℤ, pos, _+ℤ_, _-ℤ_}
 use lib.ListN.{length}
 use Rattle.order.specs.Order.{Order}
-use Rattle.order.specs.Refusals.{limits, TableRow, Verdict, accepted, refused, judge, answerBy, orderRows, boundRow, tightRow, boundInRange, Accepted}
+use Rattle.sums.specs.Lists.{All}
+use Rattle.order.specs.Refusals.{limits, clear, TableRow, Verdict, accepted, refused, judge, answerBy, orderRows, boundRow, tightRow, boundInRange, Accepted}
 use Rattle.order.specs.Class.{classes}
 use Rattle.order.specs.Deadline.{cut}
-use Rattle.order.specs.RefusalLaws.{judge-refused-append, judge-accepted-append, accepted-iff}
+use Rattle.order.specs.RefusalLaws.{
+  judge-accepted,
+  judge-refused-append,
+  judge-accepted-append,
+  accepted-first,
+  whole-clear,
+  accepted-iff,
+}
 use Rattle.order.specs.Table.{refusalTold, acceptanceTold}
 use Rattle.order.specs.TableLaws.{refused-told}
 use Rattle.order.specs.declared.Acceptance.{Acceptance}
@@ -22,8 +30,9 @@ use Rattle.order.specs.declared.Refusal.the-variants.{BoundOutOfRange, BufferTo
 use Rattle.plan.specs.IsLeast.{IsLeast}
 use Rattle.profile.specs.Least.{leastLateness}
 use Rattle.profile.specs.Reason.{Reason, overEnd, stairs}
+use Rattle.profile.specs.ReasonLaws.{NoReason, reason-none}
 use Rattle.profile.specs.Search.{Found, nothing, found, reasonOf}
-use Rattle.reason.specs.Told.{sixteen, whyOf}
+use Rattle.reason.specs.Told.{sixteen, whyOf, whyTold}
 use Rattle.reason.specs.ToldLaws.{why-told}
 use Rattle.reason.specs.Settings.{Matches, toldOf, reachOf}
 use Rattle.reason.specs.Matching.{reach-same}
@@ -33,10 +42,15 @@ use Rattle.reason.specs.declared.Setting.{Setting}
 use Rattle.reason.specs.declared.Tightness.{Tightness}
 use Rattle.reason.specs.declared.Tightness.the-variants.{Tight as TooTight, Met}
 use Rattle.reason.specs.declared.Why.{Why}
-use Rattle.planner.specs.AnswerLaws.{carried-none}
+use Rattle.planner.specs.AnswerLaws.{carried-none, plan-begins}
 use Rattle.planner.specs.Rows.{rowsAsked, bufferRow, isFound, leastRows, earlierRows, planRows}
-use Rattle.planner.specs.Told.{plannedTold, rowsOf, reasonCarried, ReasonTold, leastTold, leastCount, LeastIn}
+use Rattle.planner.specs.Told.{plannedTold, rowsOf, reasonCarried, tightnessOf, whyIn, ReasonTold, leastTold, leastCount, LeastIn}
+use Rattle.planner.specs.Judged.{judgedTold, tightnessJudged, whyJudged, JudgedAt, JudgedLeast}
 use Rattle.planner.specs.Written.{Written, BufferBy}
+use Rattle.planner.specs.declared.BoundJudged.{BoundJudged}
+use Rattle.planner.specs.declared.Judgement.{Judgement}
+use Rattle.planner.specs.declared.Judgement.the-variants.{Refused as Refuse, Tight as Tighten, Open}
+use Rattle.planner.specs.declared.LeastJudged.{LeastJudged}
 use Rattle.planner.specs.declared.Least.{Least}
 use Rattle.planner.specs.declared.Least.the-variants.{At, Refused as LeastRefused}
 use Rattle.planner.specs.declared.PlanAnswer.{PlanAnswer}
@@ -76,6 +90,10 @@ met-none o (found (stairs dues)) e = let z : _≡_ {A = ℕ} 0 1 = cc in absurd 
 pub told-met : (o : Order) (f : Found Reason) (w : Why) → w ≡ whyOf o f → w .tightness ≡ Met → f ≡ nothing
 told-met o f w e h = met-none o f (sym (ap (λ (w : Why). w .tightness) e) ∙ h)
 
+not-found : (f : Found Reason) → isFound f ≡ false → f ≡ nothing
+not-found nothing e = refl
+not-found (found r) e = let z : _≡_ {A = ℕ} 0 1 = cc in absurd (omega arith)
+
 -- a setting has room for sixteen classes
 pub classes-few : (o : Order) {t : Setting} → Matches o t → length (classes o) ≤ 16
 classes-few o m = omega (arith, m .classed, m .few-classes)
@@ -111,6 +129,53 @@ module _ (o : Order) (bound : ℤ) (n : ℕ) where
         pub last-row : judge (planRows o bound n) ≡ judge (tightRow (isFound (reasonOf o bound)) ∷ [])
         unfolding planRows
         last-row = judge-accepted-append (earlierRows o bound n) _ earlier
+        -- what judge_bound ensures
+
+  pub refused-judged : (rf : Refusal) → refusalTold rf ≡ judge (planRows o bound n) → (r : BoundJudged) →
+      r .judgement ≡ Refuse rf → r .dues ≡ sixteen [] → JudgedAt o bound n r
+  refused-judged rf v r e f =
+      let none : nothing ≡ reasonCarried (judge (planRows o bound n)) (reasonOf o bound)
+      = sym (carried-none rf (reasonOf o bound)) ∙ ap (λ (v : Verdict). reasonCarried v (reasonOf o bound)) v in
+      let is : whyJudged r ≡ whyOf o nothing
+      = ap (λ (j : Judgement). record { tightness = tightnessJudged j; dues = r .dues }) e
+      ∙ ap (λ (ds : List ℤ). record { tightness = Met; dues = ds }) f in
+      record {
+        verdict = ap judgedTold e ∙ v;
+        reason-told = ap whyTold is ∙ none;
+        reason-whole = is ∙ ap (whyOf o) none;
+        setting-is = λ h. let z : _≡_ {A = ℕ} 0 1 = cc (sym e ∙ h) in absurd (omega arith);
+      }
+
+  module _ (ok : Accepted o) (in-range : boundInRange bound ≡ true) (room : rowsAsked o ≤ n / 4) (t : Setting) (m : Matches o t)
+      (w : Why) (f : w ≡ whyOf o (reasonOf o bound)) where
+    pub tight-judged : (r : CodeReason) → w .tightness ≡ TooTight r →
+        JudgedAt o bound n (record { judgement = Tighten r; dues = w .dues; setting = t })
+    unfolding judge
+    tight-judged r h =
+        let is : record { tightness = TooTight r; dues = w .dues } ≡ w
+        = ap (λ (t : Tightness). record { tightness = t; dues = w .dues }) (sym h) in
+        let v : judge (planRows o bound n) ≡ refused 10 0
+        = last-row ok in-range room ∙ rw (tight-found o (reasonOf o bound) r (sym (ap (λ (w : Why). w .tightness) f) ∙ h)) in
+        record {
+          verdict = sym v;
+          reason-told = rw v (why-told o bound (classes-few o m) _ (is ∙ f));
+          reason-whole = rw v (is ∙ f);
+          setting-is = λ h. let z : _≡_ {A = ℕ} 0 1 = cc in absurd (omega arith);
+        }
+
+    pub open-judged : w .tightness ≡ Met → JudgedAt o bound n (record { judgement = Open; dues = w .dues; setting = t })
+    unfolding judge
+    open-judged h =
+        let none = told-met o (reasonOf o bound) w f h in
+        let is : record { tightness = Met; dues = w .dues } ≡ w
+        = ap (λ (t : Tightness). record { tightness = t; dues = w .dues }) (sym h) in
+        let v : judge (planRows o bound n) ≡ accepted = last-row ok in-range room ∙ rw none in
+        record {
+          verdict = sym v;
+          reason-told = rw v;
+          reason-whole = rw v (is ∙ f ∙ ap (whyOf o) none);
+          setting-is = λ h. m;
+        }
 
   -- what plan_at ensures
   abbrev pub Ensured : List ℕ → List ℕ → PlanAnswer → Type 0
@@ -119,58 +184,82 @@ module _ (o : Order) (bound : ℤ) (n : ℕ) where
       × (ReasonTold o (reasonCarried (judge (planRows o bound n)) (reasonOf o bound)) r
       × BufferBy (judge (planRows o bound n)) o bound entry exit (rowsOf (r .planned)))
 
-  pub refused-ensured : (entry : List ℕ) (rf : Refusal) → refusalTold rf ≡ judge (planRows o bound n) →
-      (p : Planned) → p ≡ Refused rf → (ds : List ℤ) → ds ≡ sixteen [] → Ensured entry entry (record { planned = p; dues = ds })
-  refused-ensured entry rf v p e ds f =
-      let none : nothing ≡ reasonCarried (judge (planRows o bound n)) (reasonOf o bound)
-      = sym (carried-none rf (reasonOf o bound)) ∙ ap (λ (v : Verdict). reasonCarried v (reasonOf o bound)) v in
-      rw (e, f) (
-        ap (λ (v : Verdict). answerBy v 0) v,
+  module _ (r : BoundJudged) (J : JudgedAt o bound n r) where
+    -- the reason is handed on as it was judged
+    told-on : (p : Planned) → tightnessOf p ≡ tightnessJudged (r .judgement) →
+        ReasonTold o (reasonCarried (judge (planRows o bound n)) (reasonOf o bound)) (record { planned = p; dues = r .dues })
+    told-on p e =
+        let is : whyIn (record { planned = p; dues = r .dues }) ≡ whyJudged r
+        = ap (λ (t : Tightness). record { tightness = t; dues = r .dues }) e in
+        (ap whyTold is ∙ J .reason-told, is ∙ J .reason-whole)
+
+    pub refused-ensured : (entry : List ℕ) (rf : Refusal) → r .judgement ≡ Refuse rf →
+        Ensured entry entry (record { planned = Refused rf; dues = r .dues })
+    refused-ensured entry rf e =
+        let v : refusalTold rf ≡ judge (planRows o bound n) = sym (ap judgedTold e) ∙ J .verdict in (
+          ap (λ (v : Verdict). answerBy v 0) v,
+          (
+            told-on (Refused rf) (sym (ap tightnessJudged e)),
+            subst (λ (v : Verdict). BufferBy v o bound entry entry 0) v (buffer-kept rf o bound entry),
+          ),
+        )
+
+    pub tight-ensured : (entry : List ℕ) (reason : CodeReason) → r .judgement ≡ Tighten reason →
+        Ensured entry entry (record { planned = Tight reason; dues = r .dues })
+    tight-ensured entry reason e =
+        let v : refused 10 0 ≡ judge (planRows o bound n) = sym (ap judgedTold e) ∙ J .verdict in (
+          ap (λ (v : Verdict). answerBy v 0) v,
+          (
+            told-on (Tight reason) (sym (ap tightnessJudged e)),
+            subst (λ (v : Verdict). BufferBy v o bound entry entry 0) v (refl, refl),
+          ),
+        )
+
+    module _ (e : r .judgement ≡ Open) where
+      opened : judge (planRows o bound n) ≡ accepted
+      opened = sym (J .verdict) ∙ ap judgedTold e
+
+      pub rows-ensured : (entry exit : List ℕ) (count : ℕ) → Written o bound entry exit count →
+          Ensured entry exit (record { planned = Rows count; dues = r .dues })
+      rows-ensured entry exit count written = (
+        ap (λ (v : Verdict). answerBy v count) (sym opened),
         (
-          subst (λ (g : Found Reason). ReasonTold o g (record { planned = Refused rf; dues = sixteen [] })) none (refl, refl),
-          subst (λ (v : Verdict). BufferBy v o bound entry entry 0) v (buffer-kept rf o bound entry),
+          told-on (Rows count) (sym (ap tightnessJudged e)),
+          subst (λ (v : Verdict). BufferBy v o bound entry exit count) (sym opened) written,
         ),
       )
 
-  module _ (ok : Accepted o) (in-range : boundInRange bound ≡ true) (room : rowsAsked o ≤ n / 4) (few : length (classes o) ≤ 16)
-      (w : Why) (f : w ≡ whyOf o (reasonOf o bound)) where
-    pub tight-ensured : (entry : List ℕ) (r : CodeReason) → w .tightness ≡ TooTight r →
-        Ensured entry entry (record { planned = Tight r; dues = w .dues })
-    unfolding judge
-    tight-ensured entry r h =
-        let is : record { tightness = TooTight r; dues = w .dues } ≡ w
-        = ap (λ (t : Tightness). record { tightness = t; dues = w .dues }) (sym h) in
-        let v : judge (planRows o bound n) ≡ refused 10 0
-        = last-row ok in-range room ∙ rw (tight-found o (reasonOf o bound) r (sym (ap (λ (w : Why). w .tightness) f) ∙ h)) in
-        rw v (refl, ((why-told o bound few _ (is ∙ f), is ∙ f), (refl, refl)))
+      -- what planning goes on with
+      pub order-good : Accepted o
+      unfolding planRows earlierRows
+      order-good =
+          accepted-first (orderRows limits o) (boundRow bound ∷ bufferRow o n ∷ [])
+          (accepted-first (earlierRows o bound n) (tightRow (isFound (reasonOf o bound)) ∷ []) opened)
 
-    pub rows-ensured : (entry exit : List ℕ) (count : ℕ) → w .tightness ≡ Met → Written o bound entry exit count →
-        Ensured entry exit (record { planned = Rows count; dues = w .dues })
-    unfolding judge
-    rows-ensured entry exit count h written =
-        let none = told-met o (reasonOf o bound) w f h in
-        let is : record { tightness = Met; dues = w .dues } ≡ w
-        = ap (λ (t : Tightness). record { tightness = t; dues = w .dues }) (sym h) in
-        let v : judge (planRows o bound n) ≡ accepted = last-row ok in-range room ∙ rw none in
-        rw v (refl, ((refl, is ∙ f ∙ ap (whyOf o) none), written))
+      rows-clear : All (λ (x : TableRow). x .finding ≡ clear) (boundRow bound ∷ bufferRow o n ∷ tightRow (isFound (reasonOf o bound)) ∷ [])
+      unfolding planRows earlierRows
+      rows-clear =
+          judge-accepted (boundRow bound ∷ bufferRow o n ∷ tightRow (isFound (reasonOf o bound)) ∷ []) .0
+          (sym (judge-accepted-append (orderRows limits o) _ order-good) ∙ (ap judge (sym (plan-begins o bound n)) ∙ opened))
 
--- what least_lateness ensures
+      pub bound-good : boundInRange bound ≡ true
+      bound-good = not-false (boundInRange bound) (whole-clear _ (rows-clear .0))
+
+      pub room-good : rowsAsked o ≤ n / 4
+      room-good = ltb-false (n / 4) (rowsAsked o) (whole-clear _ (rows-clear .1 .0))
+
+      pub reason-good : NoReason o bound
+      reason-good = reason-none o bound .0 (not-found (reasonOf o bound) (whole-clear _ (rows-clear .1 .1 .0)))
+
+-- what judge_least ensures
 module _ (o : Order) (n : ℕ) where
-  abbrev pub LeastEnsured : List ℕ → List ℕ → Least → Type 0
-  LeastEnsured entry exit r =
-      (leastTold r ≡ answerBy (judge (leastRows o n)) (leastLateness o))
-      × (LeastIn o r × BufferBy (judge (leastRows o n)) o (leastLateness o) entry exit (leastCount r))
-
-  pub least-refused : (entry : List ℕ) (rf : Refusal) → refusalTold rf ≡ judge (leastRows o n) →
-      LeastEnsured entry entry (LeastRefused rf)
-  least-refused entry rf v =
-      let t = refused-told rf in (
-        rw (t .2, sym v ∙ t .2),
-        (
-          tt,
-          subst (λ (v : Verdict). BufferBy v o (leastLateness o) entry entry 0) v (buffer-kept rf o (leastLateness o) entry),
-        ),
-      )
+  pub least-refused-judged : (rf : Refusal) → refusalTold rf ≡ judge (leastRows o n) → (r : LeastJudged) → r .status ≡ Refuses rf →
+      JudgedLeast o n r
+  least-refused-judged rf v r e =
+      record {
+        verdict = ap acceptanceTold e ∙ v;
+        setting-is = λ h. let z : _≡_ {A = ℕ} 0 1 = cc (sym e ∙ h) in absurd (omega arith);
+      }
 
   pub least-refused-first : (rf : Refusal) → refusalTold rf ≡ judge (orderRows limits o) → refusalTold rf ≡ judge (leastRows o n)
   unfolding leastRows
@@ -182,13 +271,53 @@ module _ (o : Order) (n : ℕ) where
     least-refused-9 h =
         sym (judge-accepted-append (orderRows limits o) (bufferRow o n ∷ []) ok ∙ rw (lt-ltb (n / 4) (rowsAsked o) h))
 
-    pub least-ensured : rowsAsked o ≤ n / 4 → IsLeast o (leastLateness o) → (entry exit : List ℕ) (count : ℕ) (z : ℤ) →
-        z ≡ leastLateness o → Written o (leastLateness o) entry exit count → LeastEnsured entry exit (At z count)
+    pub least-open : rowsAsked o ≤ n / 4 → (t : Setting) → Matches o t → JudgedLeast o n (record { status = Accepts; setting = t })
     unfolding leastRows judge
-    least-ensured room least entry exit count z e written =
-        let v : judge (leastRows o n) ≡ accepted
-        = judge-accepted-append (orderRows limits o) (bufferRow o n ∷ []) ok ∙ rw (le-ltb (n / 4) (rowsAsked o) room) in
-        rw (v, e) (refl, (least, written))
+    least-open room t m =
+        record {
+          verdict =
+              sym (judge-accepted-append (orderRows limits o) (bufferRow o n ∷ []) ok
+              ∙ rw (le-ltb (n / 4) (rowsAsked o) room));
+          setting-is = λ h. m;
+        }
+
+-- what least_lateness ensures
+module _ (o : Order) (n : ℕ) where
+  abbrev pub LeastEnsured : List ℕ → List ℕ → Least → Type 0
+  LeastEnsured entry exit r =
+      (leastTold r ≡ answerBy (judge (leastRows o n)) (leastLateness o))
+      × (LeastIn o r × BufferBy (judge (leastRows o n)) o (leastLateness o) entry exit (leastCount r))
+
+  module _ (r : LeastJudged) (J : JudgedLeast o n r) where
+    pub least-refused : (entry : List ℕ) (rf : Refusal) → r .status ≡ Refuses rf → LeastEnsured entry entry (LeastRefused rf)
+    least-refused entry rf e =
+        let t = refused-told rf in
+        let v : refusalTold rf ≡ judge (leastRows o n) = sym (ap acceptanceTold e) ∙ J .verdict in (
+          rw (t .2, sym v ∙ t .2),
+          (
+            tt,
+            subst (λ (v : Verdict). BufferBy v o (leastLateness o) entry entry 0) v (buffer-kept rf o (leastLateness o) entry),
+          ),
+        )
+
+    module _ (e : r .status ≡ Accepts) where
+      least-opened : judge (leastRows o n) ≡ accepted
+      least-opened = sym (J .verdict) ∙ ap acceptanceTold e
+
+      pub least-order-good : Accepted o
+      unfolding leastRows
+      least-order-good = accepted-first (orderRows limits o) (bufferRow o n ∷ []) least-opened
+
+      pub least-room-good : rowsAsked o ≤ n / 4
+      unfolding leastRows
+      least-room-good =
+          ltb-false (n / 4) (rowsAsked o)
+          (whole-clear _ (judge-accepted (bufferRow o n ∷ []) .0
+          (sym (judge-accepted-append (orderRows limits o) (bufferRow o n ∷ []) least-order-good) ∙ least-opened) .0))
+
+      pub least-ensured : IsLeast o (leastLateness o) → (entry exit : List ℕ) (count : ℕ) (z : ℤ) →
+          z ≡ leastLateness o → Written o (leastLateness o) entry exit count → LeastEnsured entry exit (At z count)
+      least-ensured least entry exit count z f written = rw (least-opened, f) (refl, (least, written))
 
 -- what the test of the bound says, of the bound as passed and as read back
 module _ (bound read : ℤ) (same : read ≡ bound) (b : Bool) (e : b ≡ boundInRange read) where
@@ -216,3 +345,6 @@ module _ (o : Order) (a : Accepted o) (t : Setting) (m : Matches o t) where
   pub least-told : (z : ℤ) → z ≡ pos (reachOf t) -ℤ pos 1000000 → z ≡ leastLateness o
   unfolding leastLateness
   least-told z e = e ∙ ap (λ (n : ℕ). pos n -ℤ pos 1000000) (sym (reach-same o t m))
+
+pub judged-at : {o : Order} {bound read : ℤ} {n : ℕ} {r : BoundJudged} → read ≡ bound → JudgedAt o read n r → JudgedAt o bound n r
+judged-at {o} {bound} {read} {n} {r} e J = subst (λ (z : ℤ). JudgedAt o z n r) e J

@@ -1,6 +1,7 @@
 pub mod Rows
 pub mod Written
 pub mod Told
+pub mod Judged
 pub mod RowLaws
 pub mod LeastRead
 pub mod Demand

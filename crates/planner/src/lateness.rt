@@ -1,11 +1,9 @@
 // The least lateness: refusals 1 to 7 and 9; else the least lateness and a right plan at it.
 use super::Least;
+use super::judging::judge_least;
 use super::making::make_plan;
-use super::room::rows_at;
 use order::Acceptance;
 use order::Order;
-use order::Refusal;
-use reason::given::setting_of;
 ghost use mathlib.Core.Path.{_≡_};
 ghost use lib.ListN.{length};
 ghost use Rattle.order.specs.Refusals.{judge, answerBy};
@@ -22,14 +20,13 @@ pub fn least_lateness(order: Order, rows: &mut [u32]) -> Least
     ensures { λ r. ⌜ BufferBy (judge (leastRows (orderOf order) (length (now (rows .entry))))) (orderOf order)
         (leastLateness (orderOf order)) (now (rows .entry)) (now (rows .exit)) (leastCount r) ⌝ }
 {
-    if let Acceptance::Refused(refusal) = order::accept::accept(order) {
+    let judged = judge_least(order, rows.len());
+    let status = judged.status;
+    if let Acceptance::Refused(refusal) = status {
         return Least::Refused(refusal);
     }
-    let t = setting_of(order);
-    if rows.len() / 4 < rows_at(order, t.q) {
-        return Least::Refused(Refusal::BufferTooShort);
-    }
-    let lateness = reason::tell::least_in(t);
-    let count = make_plan(order, t, lateness, rows);
+    let setting = judged.setting;
+    let lateness = reason::tell::least_in(setting);
+    let count = make_plan(order, setting, lateness, rows);
     Least::At(lateness, count as u32)
 }

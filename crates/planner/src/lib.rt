@@ -1,8 +1,11 @@
 // The planner (document 01): the least lateness of an order with a plan at it, and a plan at a given bound.
+use order::Acceptance;
 use order::Refusal;
 use reason::Reason;
+use reason::Setting;
 
 pub mod bound; // plan_at
+pub mod judging; // what is judged before any row is written
 pub mod lateness; // least_lateness
 mod making; // a plan where there is no reason against the bound
 pub mod room; // rows_asked
@@ -19,6 +22,26 @@ pub enum Planned {
     Rows(u32),
     Tight(Reason),
     Refused(Refusal),
+}
+
+// Whether a plan is to be written: not where it is refused or the bound too tight.
+pub enum Judgement {
+    Refused(Refusal),
+    Tight(Reason),
+    Open,
+}
+
+// The judgement at a bound; beside it the due times of a staircase, 0 beyond, and the setting where a plan is to be written.
+pub struct BoundJudged {
+    pub judgement: Judgement,
+    pub dues: [i32; 16],
+    pub setting: Setting,
+}
+
+// The judgement where no bound is asked, and the setting where a plan is to be written.
+pub struct LeastJudged {
+    pub status: Acceptance,
+    pub setting: Setting,
 }
 
 // The answer at a bound, and beside it the due times of a staircase; 0 beyond.

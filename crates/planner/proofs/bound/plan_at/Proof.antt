@@ -1,217 +1,95 @@
-use Rattle.order.specs.RefusalLaws.{accepted-iff}
-use Rattle.reason.specs.LeadLaws.{reach-most}
-use Rattle.reason.specs.Matching.{fine-of}
-use Rattle.planner.specs.Rows.{rowsAsked}
-use Rattle.planner.proofs.SetupLaws.{stretches-counted}
-use Prim.Native.Nat.{_/_, _≤_}
-use mathlib.Core.Path.{refl, ap, _∙_}
-use lib.IntN.{ℤ, pos, _+ℤ_}
-use Rattle.order.specs.Deadline.{cut}
 use lib.ListN.{length}
-use mir.ValLaws.{toZ-ofZ}
 use mir.Syntax.{w32}
+use mir.ValLaws.{toZ-ofZ}
 use Rattle.order.specs.Table.{orderOf}
-use Rattle.order.specs.declared.Refusal.the-variants.{BoundOutOfRange, BufferTooShort}
-use Rattle.profile.specs.Search.{reasonOf}
-use Rattle.profile.specs.ReasonLaws.{reason-none}
 use Rattle.planner.proofs.Answers.{
-  order-refused,
-  order-accepted,
-  refused-first,
-  refused-8,
-  refused-9,
   refused-ensured,
   tight-ensured,
   rows-ensured,
-  told-met,
-  out-of-range,
-  read-in,
-  within-range,
+  order-good,
+  bound-good,
+  room-good,
+  reason-good,
   written-at,
-  classes-few,
-  reason-told,
+  judged-at,
 }
 use borrow.Author.Needs.{needs}
 use native.Mathlib.Omega.{arith}
 use Rattle.planner.proofs.bound.plan_at.Statement.{statement}
 use Rattle.planner.proofs.bound.plan_at.Tie as tie
-use Rattle.planner.proofs.bound.plan_at.Reads as reads
-use Rattle.planner.proofs.bound.plan_at.Lts as lts
-use Rattle.order.proofs.accept.accept.Reads as accept-reads
-use Rattle.order.proofs.deadline.bound_in_range.Reads as bound-in-range-reads
-use Rattle.order.proofs.deadline.deadline.Reads as deadline-reads
-use Rattle.planner.proofs.bound.refuse.Reads as refuse-reads
-use Rattle.planner.proofs.making.make_plan.Reads as make-plan-reads
-use Rattle.planner.proofs.room.rows_at.Reads as rows-at-reads
-use Rattle.reason.proofs.given.setting_of.Reads as setting-of-reads
-use Rattle.reason.proofs.tell.tell.Reads as tell-reads
 
-accept-requires : tie.Need-accept-requires
-accept-requires c κs = search needs
+judge-bound-requires : tie.Need-judge-bound-requires
+judge-bound-requires c κs = search needs
 
-enum-known-refusal : tie.Need-enum-known-refusal
-enum-known-refusal c = search needs
+enum-known-judgement : tie.Need-enum-known-judgement
+enum-known-judgement c = search needs
 
-refuse-requires : tie.Need-refuse-requires
-refuse-requires c κs = search needs
-
-returns : tie.Need-returns
-returns c =
-    let s = c .before .before .before .before .before .before in
-    let o = orderOf (s .args .order) in
-    let e = toZ-ofZ w32 (s .args .bound) (s .fits .bound) in
-    let n = length (s .args .rows .now) in
-    refused-ensured o (s .args .bound) n (s .args .rows .now) (c .before .before .refusal .given .0 .0)
-    (refused-first o (s .args .bound) n (c .before .before .refusal .given .0 .0)
-    (order-refused o _ _ (c .before .before .before .before .accept .ensures) (c .before .before .refusal .given .1)))
-    _ (c .refuse .ensures .0) _ (c .refuse .ensures .1)
+enum-known-judgement-2 : tie.Need-enum-known-judgement-2
+enum-known-judgement-2 c = search needs
 
 enum-told : tie.Need-enum-told
 enum-told c = search needs
 
-bound-in-range-requires : tie.Need-bound-in-range-requires
-bound-in-range-requires c κs = search needs
+make-plan-requires : tie.Need-make-plan-requires
+make-plan-requires c κs =
+    let s = c .before .before .before .before .before .before .before in
+    let o = orderOf (s .args .order) in
+    let n = length (s .args .rows .now) in
+    let e = toZ-ofZ w32 (s .args .bound) (s .fits .bound) in
+    let j = c .before .before .before .before .before .judge-bound in
+    let is = c .before .enum-told .given .1 in (
+      order-good o _ n _ (j .ensures) is,
+      bound-good o _ n _ (j .ensures) is,
+      reason-good o _ n _ (j .ensures) is,
+      omega (arith, room-good o _ n _ (j .ensures) is),
+      j .ensures .setting-is is,
+    )
 
-refuse-requires-2 : tie.Need-refuse-requires-2
-refuse-requires-2 c κs = search needs
+cast-t17 : tie.Need-cast-t17
+cast-t17 c = search needs
+
+returns : tie.Need-returns
+returns c =
+    let s = c .before .before .before .before .before .before .before in
+    let o = orderOf (s .args .order) in
+    let n = length (s .args .rows .now) in
+    let e = toZ-ofZ w32 (s .args .bound) (s .fits .bound) in
+    let j = c .before .before .before .before .before .judge-bound in
+    refused-ensured o (s .args .bound) n _ (judged-at e (j .ensures)) (s .args .rows .now) _ (c .before .judgement .given .1)
 
 returns-2 : tie.Need-returns-2
 returns-2 c =
     let s = c .before .before .before .before .before .before .before in
     let o = orderOf (s .args .order) in
-    let e = toZ-ofZ w32 (s .args .bound) (s .fits .bound) in
     let n = length (s .args .rows .now) in
-    let ok = order-accepted o _ (c .before .before .before .before .before .accept .ensures) (c .before .before .before .enum-told .given .1) in
-    refused-ensured o (s .args .bound) n (s .args .rows .now) BoundOutOfRange
-    (refused-8 o (s .args .bound) n ok (out-of-range _ _ e _ (c .before .before .bound-in-range .ensures) (c .before .if1 .taken)))
-    _ (c .refuse2 .ensures .0) _ (c .refuse2 .ensures .1)
+    let e = toZ-ofZ w32 (s .args .bound) (s .fits .bound) in
+    let j = c .before .before .before .before .before .judge-bound in
+    tight-ensured o (s .args .bound) n _ (judged-at e (j .ensures)) (s .args .rows .now) _ (c .before .judgement2 .given .1)
 
-setting-of-requires : tie.Need-setting-of-requires
-setting-of-requires c κs =
-    let o = orderOf (c .before .before .before .before .before .before .args .order) in
-    order-accepted o _ (c .before .before .before .before .accept .ensures) (c .before .before .enum-told .given .1)
-
-rows-at-requires : tie.Need-rows-at-requires
-rows-at-requires c κs =
-    let o = orderOf (c .before .before .before .before .before .before .before .args .order) in
-    (order-accepted o _ (c .before .before .before .before .before .accept .ensures) (c .before .before .before .enum-told .given .1), stretches-counted o _ (c .setting-of .ensures .grid))
-
-refuse-requires-3 : tie.Need-refuse-requires-3
-refuse-requires-3 c κs = search needs
+same-length : tie.Need-same-length
+same-length c = search needs
 
 returns-3 : tie.Need-returns-3
 returns-3 c =
     let s = c .before .before .before .before .before .before .before .before .before .before in
     let o = orderOf (s .args .order) in
-    let e = toZ-ofZ w32 (s .args .bound) (s .fits .bound) in
     let n = length (s .args .rows .now) in
-    let ok = order-accepted o _ (c .before .before .before .before .before .before .before .before .accept .ensures) (c .before .before .before .before .before .before .enum-told .given .1) in
-    refused-ensured o (s .args .bound) n (s .args .rows .now) BufferTooShort
-    (refused-9 o (s .args .bound) n ok (within-range _ _ e _ (c .before .before .before .before .before .bound-in-range .ensures) (c .before .before .before .before .if1 .left))
-    (omega (arith, c .before .if2 .taken, c .before .before .rows-at .ensures .0)))
-    _ (c .refuse3 .ensures .0) _ (c .refuse3 .ensures .1)
-
-deadline-requires : tie.Need-deadline-requires
-deadline-requires c κs =
-    let s = c .before .before .before .before .before .before .before .before .before in
-    let o = orderOf (s .args .order) in
     let e = toZ-ofZ w32 (s .args .bound) (s .fits .bound) in
-    let n = length (s .args .rows .now) in
-    (refl, read-in _ _ e _ (c .before .before .before .before .bound-in-range .ensures) (c .before .before .before .if1 .left))
-
-tell-requires : tie.Need-tell-requires
-tell-requires c κs =
-    let s = c .before .before .before .before .before .before .before .before .before .before in
-    let o = orderOf (s .args .order) in
-    let e = toZ-ofZ w32 (s .args .bound) (s .fits .bound) in
-    let n = length (s .args .rows .now) in
-    let ok = order-accepted o _ (c .before .before .before .before .before .before .before .before .accept .ensures) (c .before .before .before .before .before .before .enum-told .given .1) in (
-      fine-of o _ (c .before .before .before .setting-of .ensures) (accepted-iff o .0 ok),
-      omega (
-        arith,
-        c .deadline .ensures ∙ ap (λ (z : ℤ). cut (pos 1000000 +ℤ z)) e,
-        reach-most (s .args .bound) (within-range _ _ e _ (c .before .before .before .before .before .bound-in-range .ensures) (c .before .before .before .before .if1 .left)),
-      ),
-    )
-
-enum-known-tightness : tie.Need-enum-known-tightness
-enum-known-tightness c = search needs
-
-returns-4 : tie.Need-returns-4
-returns-4 c =
-    let s = c .before .before .before .before .before .before .before .before .before .before .before .before .before .before .before in
-    let o = orderOf (s .args .order) in
-    let e = toZ-ofZ w32 (s .args .bound) (s .fits .bound) in
-    let n = length (s .args .rows .now) in
-    let ok = order-accepted o _ (c .before .before .before .before .before .before .before .before .before .before .before .before .before .accept .ensures) (c .before .before .before .before .before .before .before .before .before .before .before .enum-told .given .1) in
-    let m = c .before .before .before .before .before .before .before .before .setting-of .ensures in
-    let f = reason-told o ok _ m (s .args .bound) _ e _ (c .before .before .before .before .before .deadline .ensures) _ (c .before .before .before .before .tell .ensures) in
-    let in-range = within-range _ _ e _ (c .before .before .before .before .before .before .before .before .before .before .bound-in-range .ensures) (c .before .before .before .before .before .before .before .before .before .if1 .left) in
-    let room : rowsAsked o ≤ n / 4 = omega (arith, c .before .before .before .before .before .before .if2 .left, c .before .before .before .before .before .before .before .rows-at .ensures .0) in
-    tight-ensured o (s .args .bound) n ok in-range room (classes-few o m) _ f (s .args .rows .now) _ (c .before .tightness .given .1)
-
-enum-told-2 : tie.Need-enum-told-2
-enum-told-2 c = search needs
-
-make-plan-requires : tie.Need-make-plan-requires
-make-plan-requires c κs =
-    let s = c .before .before .before .before .before .before .before .before .before .before .before .before .before .before .before in
-    let o = orderOf (s .args .order) in
-    let e = toZ-ofZ w32 (s .args .bound) (s .fits .bound) in
-    let n = length (s .args .rows .now) in
-    let ok = order-accepted o _ (c .before .before .before .before .before .before .before .before .before .before .before .before .before .accept .ensures) (c .before .before .before .before .before .before .before .before .before .before .before .enum-told .given .1) in
-    let m = c .before .before .before .before .before .before .before .before .setting-of .ensures in
-    let room : rowsAsked o ≤ n / 4 = omega (arith, c .before .before .before .before .before .before .if2 .left, c .before .before .before .before .before .before .before .rows-at .ensures .0) in
-    let f = reason-told o ok _ m _ _ refl _ (c .before .before .before .before .before .deadline .ensures) _ (c .before .before .before .before .tell .ensures) in (
-      ok,
-      read-in _ _ e _ (c .before .before .before .before .before .before .before .before .before .before .bound-in-range .ensures) (c .before .before .before .before .before .before .before .before .before .if1 .left),
-      reason-none o _ .0 (told-met o _ _ f (c .before .enum-told2 .given .1)),
-      omega arith,
-      m,
-    )
-
-cast-t19 : tie.Need-cast-t19
-cast-t19 c = search needs
-
-same-length : tie.Need-same-length
-same-length c = search needs
-
-returns-5 : tie.Need-returns-5
-returns-5 c =
-    let s = c .before .before .before .before .before .before .before .before .before .before .before .before .before .before .before .before .before .before in
-    let o = orderOf (s .args .order) in
-    let e = toZ-ofZ w32 (s .args .bound) (s .fits .bound) in
-    let n = length (s .args .rows .now) in
-    let ok = order-accepted o _ (c .before .before .before .before .before .before .before .before .before .before .before .before .before .before .before .before .accept .ensures) (c .before .before .before .before .before .before .before .before .before .before .before .before .before .before .enum-told .given .1) in
-    let m = c .before .before .before .before .before .before .before .before .before .before .before .setting-of .ensures in
-    let f = reason-told o ok _ m (s .args .bound) _ e _ (c .before .before .before .before .before .before .before .before .deadline .ensures) _ (c .before .before .before .before .before .before .before .tell .ensures) in
-    let in-range = within-range _ _ e _ (c .before .before .before .before .before .before .before .before .before .before .before .before .before .bound-in-range .ensures) (c .before .before .before .before .before .before .before .before .before .before .before .before .if1 .left) in
-    let room : rowsAsked o ≤ n / 4 = omega (arith, c .before .before .before .before .before .before .before .before .before .if2 .left, c .before .before .before .before .before .before .before .before .before .before .rows-at .ensures .0) in
-    rows-ensured o (s .args .bound) n ok in-range room (classes-few o m) _ f (s .args .rows .now) _ _ (c .before .before .before .before .enum-told2 .given .1)
+    let j = c .before .before .before .before .before .before .before .before .judge-bound in
+    rows-ensured o (s .args .bound) n _ (judged-at e (j .ensures)) (c .before .before .before .before .enum-told .given .1) (s .args .rows .now) _ _
     (written-at e (c .before .before .make-plan .ensures .0))
 
 pub plan-at-spec : {M : Type 1} → statement M
 plan-at-spec =
     tie.close
     (tie.spec
-    accept-requires
-    enum-known-refusal
-    refuse-requires
-    returns
+    judge-bound-requires
+    enum-known-judgement
+    enum-known-judgement-2
     enum-told
-    bound-in-range-requires
-    refuse-requires-2
-    returns-2
-    setting-of-requires
-    rows-at-requires
-    refuse-requires-3
-    returns-3
-    deadline-requires
-    tell-requires
-    enum-known-tightness
-    returns-4
-    enum-told-2
     make-plan-requires
-    cast-t19
+    cast-t17
+    returns
+    returns-2
     same-length
-    returns-5)
+    returns-3)

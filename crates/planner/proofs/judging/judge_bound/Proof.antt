@@ -1,0 +1,161 @@
+use Prim.Native.Nat.{_/_, _≤_}
+use mathlib.Core.Path.{refl, ap, _∙_}
+use lib.IntN.{ℤ, pos, _+ℤ_}
+use mir.Syntax.{w32}
+use mir.ValLaws.{toZ-ofZ}
+use Rattle.order.specs.Deadline.{cut}
+use Rattle.order.specs.RefusalLaws.{accepted-iff}
+use Rattle.order.specs.Table.{orderOf}
+use Rattle.order.specs.declared.Refusal.the-variants.{BoundOutOfRange, BufferTooShort}
+use Rattle.reason.specs.LeadLaws.{reach-most}
+use Rattle.reason.specs.Matching.{fine-of}
+use Rattle.planner.specs.Rows.{rowsAsked}
+use Rattle.planner.proofs.SetupLaws.{stretches-counted}
+use Rattle.planner.proofs.Answers.{
+  order-refused,
+  order-accepted,
+  refused-first,
+  refused-8,
+  refused-9,
+  refused-judged,
+  tight-judged,
+  open-judged,
+  out-of-range,
+  read-in,
+  within-range,
+  reason-told,
+}
+use borrow.Author.Needs.{needs}
+use native.Mathlib.Omega.{arith}
+use Rattle.planner.proofs.judging.judge_bound.Statement.{statement}
+use Rattle.planner.proofs.judging.judge_bound.Tie as tie
+
+accept-requires : tie.Need-accept-requires
+accept-requires c κs = search needs
+
+enum-known-refusal : tie.Need-enum-known-refusal
+enum-known-refusal c = search needs
+
+refuse-requires : tie.Need-refuse-requires
+refuse-requires c κs = search needs
+
+returns : tie.Need-returns
+returns c =
+    let s = c .before .before .before .before .before in
+    let o = orderOf (s .args .order) in
+    let e = toZ-ofZ w32 (s .args .bound) (s .fits .bound) in
+    let rf = c .before .before .refusal .given .0 .0 in
+    refused-judged o (s .args .bound) (s .args .lent) rf
+    (refused-first o (s .args .bound) (s .args .lent) rf (order-refused o _ _ (c .before .before .before .before .accept .ensures) (c .before .before .refusal .given .1)))
+    _ (c .refuse .ensures .0) (c .refuse .ensures .1)
+
+enum-told : tie.Need-enum-told
+enum-told c = search needs
+
+bound-in-range-requires : tie.Need-bound-in-range-requires
+bound-in-range-requires c κs = search needs
+
+refuse-requires-2 : tie.Need-refuse-requires-2
+refuse-requires-2 c κs = search needs
+
+returns-2 : tie.Need-returns-2
+returns-2 c =
+    let s = c .before .before .before .before .before .before in
+    let o = orderOf (s .args .order) in
+    let e = toZ-ofZ w32 (s .args .bound) (s .fits .bound) in
+    let ok = order-accepted o _ (c .before .before .before .before .before .accept .ensures) (c .before .before .before .enum-told .given .1) in
+    refused-judged o (s .args .bound) (s .args .lent) BoundOutOfRange
+    (refused-8 o (s .args .bound) (s .args .lent) ok (out-of-range _ _ e _ (c .before .before .bound-in-range .ensures) (c .before .if1 .taken)))
+    _ (c .refuse2 .ensures .0) (c .refuse2 .ensures .1)
+
+setting-of-requires : tie.Need-setting-of-requires
+setting-of-requires c κs =
+    order-accepted (orderOf (c .before .before .before .before .before .args .order)) _ (c .before .before .before .before .accept .ensures) (c .before .before .enum-told .given .1)
+
+rows-at-requires : tie.Need-rows-at-requires
+rows-at-requires c κs =
+    let o = orderOf (c .before .before .before .before .before .before .args .order) in
+    (order-accepted o _ (c .before .before .before .before .before .accept .ensures) (c .before .before .before .enum-told .given .1), stretches-counted o _ (c .setting-of .ensures .grid))
+
+refuse-requires-3 : tie.Need-refuse-requires-3
+refuse-requires-3 c κs = search needs
+
+returns-3 : tie.Need-returns-3
+returns-3 c =
+    let s = c .before .before .before .before .before .before .before .before .before in
+    let o = orderOf (s .args .order) in
+    let e = toZ-ofZ w32 (s .args .bound) (s .fits .bound) in
+    let ok = order-accepted o _ (c .before .before .before .before .before .before .before .before .accept .ensures) (c .before .before .before .before .before .before .enum-told .given .1) in
+    let in-range = within-range _ _ e _ (c .before .before .before .before .before .bound-in-range .ensures) (c .before .before .before .before .if1 .left) in
+    refused-judged o (s .args .bound) (s .args .lent) BufferTooShort
+    (refused-9 o (s .args .bound) (s .args .lent) ok in-range (omega (arith, c .before .if2 .taken, c .before .before .rows-at .ensures .0)))
+    _ (c .refuse3 .ensures .0) (c .refuse3 .ensures .1)
+
+deadline-requires : tie.Need-deadline-requires
+deadline-requires c κs =
+    let s = c .before .before .before .before .before .before .before .before in
+    let e = toZ-ofZ w32 (s .args .bound) (s .fits .bound) in
+    (refl, read-in _ _ e _ (c .before .before .before .before .bound-in-range .ensures) (c .before .before .before .if1 .left))
+
+tell-requires : tie.Need-tell-requires
+tell-requires c κs =
+    let s = c .before .before .before .before .before .before .before .before .before in
+    let o = orderOf (s .args .order) in
+    let e = toZ-ofZ w32 (s .args .bound) (s .fits .bound) in
+    let ok = order-accepted o _ (c .before .before .before .before .before .before .before .before .accept .ensures) (c .before .before .before .before .before .before .enum-told .given .1) in
+    let reach = c .deadline .ensures ∙ ap (λ (z : ℤ). cut (pos 1000000 +ℤ z)) e in
+    let in-range = within-range _ _ e _ (c .before .before .before .before .before .bound-in-range .ensures) (c .before .before .before .before .if1 .left) in
+    (fine-of o _ (c .before .before .before .setting-of .ensures) (accepted-iff o .0 ok), omega (arith, reach, reach-most (s .args .bound) in-range))
+
+enum-known-tightness : tie.Need-enum-known-tightness
+enum-known-tightness c = search needs
+
+enum-told-2 : tie.Need-enum-told-2
+enum-told-2 c = search needs
+
+returns-4 : tie.Need-returns-4
+returns-4 c =
+    let s = c .before .before .before .before .before .before .before .before .before .before .before .before .before .before in
+    let o = orderOf (s .args .order) in
+    let e = toZ-ofZ w32 (s .args .bound) (s .fits .bound) in
+    let ok = order-accepted o _ (c .before .before .before .before .before .before .before .before .before .before .before .before .before .accept .ensures) (c .before .before .before .before .before .before .before .before .before .before .before .enum-told .given .1) in
+    let m = c .before .before .before .before .before .before .before .before .setting-of .ensures in
+    let room : rowsAsked o ≤ s .args .lent / 4 = omega (arith, c .before .before .before .before .before .before .if2 .left, c .before .before .before .before .before .before .before .rows-at .ensures .0) in
+    let in-range = within-range _ _ e _ (c .before .before .before .before .before .before .before .before .before .before .bound-in-range .ensures) (c .before .before .before .before .before .before .before .before .before .if1 .left) in
+    let f = reason-told o ok _ m (s .args .bound) _ e _ (c .before .before .before .before .before .deadline .ensures) _ (c .before .before .before .before .tell .ensures) in
+    tight-judged o (s .args .bound) (s .args .lent) ok in-range room _ m _ f _ (c .before .tightness .given .1)
+
+returns-5 : tie.Need-returns-5
+returns-5 c =
+    let s = c .before .before .before .before .before .before .before .before .before .before .before .before .before in
+    let o = orderOf (s .args .order) in
+    let e = toZ-ofZ w32 (s .args .bound) (s .fits .bound) in
+    let ok = order-accepted o _ (c .before .before .before .before .before .before .before .before .before .before .before .before .accept .ensures) (c .before .before .before .before .before .before .before .before .before .before .enum-told .given .1) in
+    let m = c .before .before .before .before .before .before .before .setting-of .ensures in
+    let room : rowsAsked o ≤ s .args .lent / 4 = omega (arith, c .before .before .before .before .before .if2 .left, c .before .before .before .before .before .before .rows-at .ensures .0) in
+    let in-range = within-range _ _ e _ (c .before .before .before .before .before .before .before .before .before .bound-in-range .ensures) (c .before .before .before .before .before .before .before .before .if1 .left) in
+    let f = reason-told o ok _ m (s .args .bound) _ e _ (c .before .before .before .before .deadline .ensures) _ (c .before .before .before .tell .ensures) in
+    open-judged o (s .args .bound) (s .args .lent) ok in-range room _ m _ f (c .enum-told2 .given .1)
+
+pub judge-bound-spec : {M : Type 1} → statement M
+judge-bound-spec =
+    tie.close
+    (tie.spec
+    accept-requires
+    enum-known-refusal
+    refuse-requires
+    returns
+    enum-told
+    bound-in-range-requires
+    refuse-requires-2
+    returns-2
+    setting-of-requires
+    rows-at-requires
+    refuse-requires-3
+    returns-3
+    deadline-requires
+    tell-requires
+    enum-known-tightness
+    enum-told-2
+    returns-4
+    returns-5)

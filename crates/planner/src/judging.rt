@@ -1,0 +1,103 @@
+// What is judged before any row is written: the rows of the table, in its order, and whether there is a reason.
+use super::BoundJudged;
+use super::Judgement;
+use super::LeastJudged;
+use super::room::rows_at;
+use order::Acceptance;
+use order::Order;
+use order::Refusal;
+use order::accept::accept;
+use order::deadline::bound_in_range;
+use order::deadline::deadline;
+use reason::Setting;
+use reason::Tightness;
+use reason::given::setting_of;
+use reason::tell::tell;
+ghost use mathlib.Core.Path.{_≡_};
+ghost use mathlib.Core.List.{[]};
+ghost use Rattle.order.specs.Table.{orderOf};
+ghost use Rattle.reason.specs.Told.{sixteen};
+ghost use Rattle.planner.specs.Judged.{JudgedAt, JudgedLeast};
+
+// The setting of no order, where none is gone on with.
+fn no_setting() -> Setting {
+    Setting {
+        n: 0,
+        s: 0,
+        q: 0,
+        times: [0u32; 48],
+        classes: [0u32; 48],
+        leads: [0u32; 48],
+        procs: [0u32; 16],
+        grid: [0u32; 48],
+    }
+}
+
+// A refusal, with no reason.
+fn refuse(refusal: Refusal) -> BoundJudged
+    ensures { λ r. ⌜ (r .judgement ≡ Judgement.Refused refusal) × (r .dues ≡ sixteen []) ⌝ }
+{
+    BoundJudged {
+        judgement: Judgement::Refused(refusal),
+        dues: [0i32; 16],
+        setting: no_setting(),
+    }
+}
+
+// Rows 1 to 10, of an order at a bound and a buffer of so many numbers.
+pub fn judge_bound(order: Order, bound: i32, lent: usize) -> BoundJudged
+    ensures { λ r. ⌜ JudgedAt (orderOf order) bound lent r ⌝ }
+{
+    if let Acceptance::Refused(refusal) = accept(order) {
+        return refuse(refusal);
+    }
+    if !bound_in_range(bound) {
+        return refuse(Refusal::BoundOutOfRange);
+    }
+    let t = setting_of(order);
+    if lent / 4 < rows_at(order, t.q) {
+        return refuse(Refusal::BufferTooShort);
+    }
+    let why = tell(t, deadline(1000000, bound));
+    let tightness = why.tightness;
+    let dues = why.dues;
+    match tightness {
+        Tightness::Tight(reason) => BoundJudged {
+            judgement: Judgement::Tight(reason),
+            dues,
+            setting: t,
+        },
+        Tightness::Met => BoundJudged {
+            judgement: Judgement::Open,
+            dues,
+            setting: t,
+        },
+    }
+}
+
+// A refusal where no bound is asked.
+fn refuse_least(refusal: Refusal) -> LeastJudged
+    ensures { λ r. ⌜ r .status ≡ Acceptance.Refused refusal ⌝ }
+{
+    LeastJudged {
+        status: Acceptance::Refused(refusal),
+        setting: no_setting(),
+    }
+}
+
+// Rows 1 to 7 and 9.
+pub fn judge_least(order: Order, lent: usize) -> LeastJudged
+    ensures { λ r. ⌜ JudgedLeast (orderOf order) lent r ⌝ }
+{
+    if let Acceptance::Refused(refusal) = accept(order) {
+        return refuse_least(refusal);
+    }
+    let t = setting_of(order);
+    if lent / 4 < rows_at(order, t.q) {
+        return refuse_least(Refusal::BufferTooShort);
+    }
+    LeastJudged {
+        status: Acceptance::Accepted,
+        setting: t,
+    }
+}
