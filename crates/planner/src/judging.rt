@@ -2,7 +2,7 @@
 use super::BoundJudged;
 use super::Judgement;
 use super::LeastJudged;
-use super::room::rows_at;
+use super::room::is_short;
 use order::Acceptance;
 use order::Order;
 use order::Refusal;
@@ -55,7 +55,7 @@ pub fn judge_bound(order: Order, bound: i32, lent: usize) -> BoundJudged
         return refuse(Refusal::BoundOutOfRange);
     }
     let t = setting_of(order);
-    if lent / 4 < rows_at(order, t.q) {
+    if is_short(order, t.q, lent) {
         return refuse(Refusal::BufferTooShort);
     }
     let why = tell(t, deadline(1000000, bound));
@@ -93,7 +93,7 @@ pub fn judge_least(order: Order, lent: usize) -> LeastJudged
         return refuse_least(refusal);
     }
     let t = setting_of(order);
-    if lent / 4 < rows_at(order, t.q) {
+    if is_short(order, t.q, lent) {
         return refuse_least(Refusal::BufferTooShort);
     }
     LeastJudged {

@@ -1,5 +1,6 @@
 use Prim.Native.Nat.{_/_, _≤_}
-use mathlib.Core.Path.{refl, ap, _∙_}
+use mathlib.Core.Path.{sym, _∙_, refl, ap}
+use borrow.Author.Tests.{ltb-true, ltb-false}
 use lib.IntN.{ℤ, pos, _+ℤ_}
 use mir.Syntax.{w32}
 use mir.ValLaws.{toZ-ofZ}
@@ -72,8 +73,8 @@ setting-of-requires : tie.Need-setting-of-requires
 setting-of-requires c κs =
     order-accepted (orderOf (c .before .before .before .before .before .args .order)) _ (c .before .before .before .before .accept .ensures) (c .before .before .enum-told .given .1)
 
-rows-at-requires : tie.Need-rows-at-requires
-rows-at-requires c κs =
+is-short-requires : tie.Need-is-short-requires
+is-short-requires c κs =
     let o = orderOf (c .before .before .before .before .before .before .args .order) in
     (order-accepted o _ (c .before .before .before .before .before .accept .ensures) (c .before .before .before .enum-told .given .1), stretches-counted o _ (c .setting-of .ensures .grid))
 
@@ -88,7 +89,7 @@ returns-3 c =
     let ok = order-accepted o _ (c .before .before .before .before .before .before .before .before .accept .ensures) (c .before .before .before .before .before .before .enum-told .given .1) in
     let in-range = within-range _ _ e _ (c .before .before .before .before .before .bound-in-range .ensures) (c .before .before .before .before .if1 .left) in
     refused-judged o (s .args .bound) (s .args .lent) BufferTooShort
-    (refused-9 o (s .args .bound) (s .args .lent) ok in-range (omega (arith, c .before .if2 .taken, c .before .before .rows-at .ensures .0)))
+    (refused-9 o (s .args .bound) (s .args .lent) ok in-range (ltb-true _ _ (sym (c .before .before .is-short .ensures) ∙ c .before .if2 .taken)))
     _ (c .refuse3 .ensures .0) (c .refuse3 .ensures .1)
 
 deadline-requires : tie.Need-deadline-requires
@@ -120,7 +121,7 @@ returns-4 c =
     let e = toZ-ofZ w32 (s .args .bound) (s .fits .bound) in
     let ok = order-accepted o _ (c .before .before .before .before .before .before .before .before .before .before .before .before .before .accept .ensures) (c .before .before .before .before .before .before .before .before .before .before .before .enum-told .given .1) in
     let m = c .before .before .before .before .before .before .before .before .setting-of .ensures in
-    let room : rowsAsked o ≤ s .args .lent / 4 = omega (arith, c .before .before .before .before .before .before .if2 .left, c .before .before .before .before .before .before .before .rows-at .ensures .0) in
+    let room : rowsAsked o ≤ s .args .lent / 4 = ltb-false _ _ (sym (c .before .before .before .before .before .before .before .is-short .ensures) ∙ c .before .before .before .before .before .before .if2 .left) in
     let in-range = within-range _ _ e _ (c .before .before .before .before .before .before .before .before .before .before .bound-in-range .ensures) (c .before .before .before .before .before .before .before .before .before .if1 .left) in
     let f = reason-told o ok _ m (s .args .bound) _ e _ (c .before .before .before .before .before .deadline .ensures) _ (c .before .before .before .before .tell .ensures) in
     tight-judged o (s .args .bound) (s .args .lent) ok in-range room _ m _ f _ (c .before .tightness .given .1)
@@ -132,7 +133,7 @@ returns-5 c =
     let e = toZ-ofZ w32 (s .args .bound) (s .fits .bound) in
     let ok = order-accepted o _ (c .before .before .before .before .before .before .before .before .before .before .before .before .accept .ensures) (c .before .before .before .before .before .before .before .before .before .before .enum-told .given .1) in
     let m = c .before .before .before .before .before .before .before .setting-of .ensures in
-    let room : rowsAsked o ≤ s .args .lent / 4 = omega (arith, c .before .before .before .before .before .if2 .left, c .before .before .before .before .before .before .rows-at .ensures .0) in
+    let room : rowsAsked o ≤ s .args .lent / 4 = ltb-false _ _ (sym (c .before .before .before .before .before .before .is-short .ensures) ∙ c .before .before .before .before .before .if2 .left) in
     let in-range = within-range _ _ e _ (c .before .before .before .before .before .before .before .before .before .bound-in-range .ensures) (c .before .before .before .before .before .before .before .before .if1 .left) in
     let f = reason-told o ok _ m (s .args .bound) _ e _ (c .before .before .before .before .deadline .ensures) _ (c .before .before .before .tell .ensures) in
     open-judged o (s .args .bound) (s .args .lent) ok in-range room _ m _ f (c .enum-told2 .given .1)
@@ -150,7 +151,7 @@ judge-bound-spec =
     refuse-requires-2
     returns-2
     setting-of-requires
-    rows-at-requires
+    is-short-requires
     refuse-requires-3
     returns-3
     deadline-requires

@@ -1,4 +1,5 @@
-use native.Mathlib.Omega.{arith}
+use mathlib.Core.Path.{sym, _∙_}
+use borrow.Author.Tests.{ltb-true, ltb-false}
 use borrow.Author.Needs.{needs}
 use Rattle.order.specs.Table.{orderOf}
 use Rattle.order.specs.declared.Refusal.the-variants.{BufferTooShort}
@@ -32,8 +33,8 @@ setting-of-requires : tie.Need-setting-of-requires
 setting-of-requires c κs =
     order-accepted (orderOf (c .before .before .before .args .order)) _ (c .before .before .accept .ensures) (c .enum-told .given .1)
 
-rows-at-requires : tie.Need-rows-at-requires
-rows-at-requires c κs =
+is-short-requires : tie.Need-is-short-requires
+is-short-requires c κs =
     let o = orderOf (c .before .before .before .before .args .order) in
     (order-accepted o _ (c .before .before .before .accept .ensures) (c .before .enum-told .given .1), stretches-counted o _ (c .setting-of .ensures .grid))
 
@@ -46,7 +47,7 @@ returns-2 c =
     let o = orderOf (s .args .order) in
     let ok = order-accepted o _ (c .before .before .before .before .before .before .accept .ensures) (c .before .before .before .before .enum-told .given .1) in
     least-refused-judged o (s .args .lent) BufferTooShort
-    (least-refused-9 o (s .args .lent) ok (omega (arith, c .before .if1 .taken, c .before .before .rows-at .ensures .0)))
+    (least-refused-9 o (s .args .lent) ok (ltb-true _ _ (sym (c .before .before .is-short .ensures) ∙ c .before .if1 .taken)))
     _ (c .refuse-least2 .ensures)
 
 returns-3 : tie.Need-returns-3
@@ -54,7 +55,7 @@ returns-3 c =
     let s = c .before .before .before .before .before .before in
     let o = orderOf (s .args .order) in
     let ok = order-accepted o _ (c .before .before .before .before .before .accept .ensures) (c .before .before .before .enum-told .given .1) in
-    least-open o (s .args .lent) ok (omega (arith, c .if1 .left, c .before .rows-at .ensures .0)) _ (c .before .before .setting-of .ensures)
+    least-open o (s .args .lent) ok (ltb-false _ _ (sym (c .before .is-short .ensures) ∙ c .if1 .left)) _ (c .before .before .setting-of .ensures)
 
 pub judge-least-spec : {M : Type 1} → statement M
 judge-least-spec =
@@ -66,7 +67,7 @@ judge-least-spec =
     returns
     enum-told
     setting-of-requires
-    rows-at-requires
+    is-short-requires
     refuse-least-requires-2
     returns-2
     returns-3)
