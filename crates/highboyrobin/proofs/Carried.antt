@@ -8,7 +8,23 @@ use lib.Dec.{ltb, eqb}
 use lib.IntN.{ℤ}
 use lib.ListN.{length}
 use Rattle.order.specs.Order.{Order, processorCount, jobCount}
-use Rattle.order.specs.Refusals.{limits, TableRow, Verdict, accepted, refused, holds, verdictOf, judge, row, whole, firstAfter, countRows, jobRows, orderRows, boundInRange}
+use Rattle.order.specs.Refusals.{
+  limits,
+  TableRow,
+  Verdict,
+  accepted,
+  refused,
+  holds,
+  verdictOf,
+  judge,
+  row,
+  whole,
+  firstAfter,
+  countRows,
+  jobRows,
+  orderRows,
+  boundInRange,
+}
 use Rattle.order.specs.RefusalLaws.{judge-accepted-append, judge-refused-append, counts-in-limits}
 use Rattle.order.specs.Table.{carriedBy}
 use Rattle.order_file.specs.File.{goodFile, orderIn, readRows, fileLength, writeRows}

@@ -34,7 +34,16 @@ use Rattle.wrap.specs.Layout.{layout}
 use Rattle.planner.specs.Rows.{leastRows, planRows}
 use Rattle.planner.specs.Told.{reasonCarried, whyIn, ReasonTold}
 use Rattle.planner.specs.Written.{Written}
-use Rattle.planner.specs.AnswerLaws.{carried-none, LeastTold, least-refused, least-at, PlanTold, planned-refused, planned-tight, planned-rows}
+use Rattle.planner.specs.AnswerLaws.{
+  carried-none,
+  LeastTold,
+  least-refused,
+  least-at,
+  PlanTold,
+  planned-refused,
+  planned-tight,
+  planned-rows,
+}
 use Rattle.planner.specs.declared.Least.{Least}
 use Rattle.planner.specs.declared.Least.the-variants.{At, Refused as LeastRefused}
 use Rattle.planner.specs.declared.PlanAnswer.{PlanAnswer}
@@ -122,7 +131,8 @@ pub plan-order-text : (v : Verdict) (o : Order) (text : List ℕ) → v ≡ acce
 plan-order-text v o text e h = subst (λ (v : Verdict). PlanOrderText v o text) (sym e) h
 
 -- at a bound
-module _ (o : Order) (bound : ℤ) (rows rows′ : List ℕ) (a : PlanAnswer) (t : PlanTold o bound rows rows′ (a .planned)) (size : length rows ≡ rowsLent) where
+module _ (o : Order) (bound : ℤ) (rows rows′ : List ℕ) (a : PlanAnswer) (t : PlanTold o bound rows rows′ (a .planned))
+    (size : length rows ≡ rowsLent) where
   abbrev v : Verdict
   v = judge (planRows o bound rowsLent)
 
@@ -229,7 +239,8 @@ module _ (input : List ℕ) where
         let t = refused-told why in (
           v,
           sym (ap (boundLine (refusalTold why)) (carried-none why (reasonOf (orderIn f) (boundIn input)))
-              ∙ (ap (λ (w : Verdict). boundLine w nothing) (t .2) ∙ sym (ap (λ (w : Verdict). refusedLine (numberBy w) (carriedBy w)) (t .2))))
+              ∙ (ap (λ (w : Verdict). boundLine w nothing) (t .2) ∙ sym
+              (ap (λ (w : Verdict). refusedLine (numberBy w) (carriedBy w)) (t .2))))
               ∙ line-of (refusalTold why) v,
         )
 

@@ -26,7 +26,8 @@ module _ (need : ℕ) (t : OrderTable) (i : ℕ) where
   pub processor-found : i < t .processors → need ≤ getD (t .memories) i 0 → true ≡ fitsSome need (orderOf t .memories)
   processor-found l h = sym (fitsSome-tabulate need (t .processors) (λ k. getD (t .memories) k 0) i l h)
 
-  pub no-processor-found : t .processors ≤ i → ((e : ℕ) → e < i → leb need (getD (t .memories) e 0) ≡ false) → false ≡ fitsSome need (orderOf t .memories)
+  pub no-processor-found : t .processors ≤ i → ((e : ℕ) → e < i → leb need (getD (t .memories) e 0) ≡ false) → false ≡ fitsSome need
+      (orderOf t .memories)
   no-processor-found l before =
       sym (fitsNone-tabulate need (t .processors) (λ k. getD (t .memories) k 0) (λ e b. before e (omega arith)))
 

@@ -106,7 +106,8 @@ returned-of number carried [] e = let z : _≡_ {A = ℕ} 0 1 = cc in absurd (om
 returned-of number carried (r ∷ rs) e = found-row number carried r rs (r .finding) refl e (returned-of number carried rs)
 
 -- rows whose conditions do not hold are passed over
-pub judge-clear : (earlier later : List TableRow) → All (λ (r : TableRow). r .finding ≡ clear) earlier → judge (earlier ++ later) ≡ judge later
+pub judge-clear : (earlier later : List TableRow) → All (λ (r : TableRow). r .finding ≡ clear) earlier → judge
+    (earlier ++ later) ≡ judge later
 unfolding judge
 judge-clear [] later h = refl
 judge-clear (r ∷ rs) later h = rw (h .0) (judge-clear rs later (h .1))
@@ -119,12 +120,18 @@ judge-row r rs c e = rw e
 pub judge-refused : (rows : List TableRow) (number carried : ℕ) → (judge rows ≡ refused number carried) ↔ Returned rows number carried
 judge-refused rows number carried = (
   returned-of number carried rows,
-  λ t. rw (t .split, judge-clear (t .earlier) (t .returned ∷ t .later) (t .none-earlier), judge-row (t .returned) (t .later) carried (t .its-condition))
+  λ t. rw (
+    t .split,
+    judge-clear (t .earlier) (t .returned ∷ t .later) (t .none-earlier),
+    judge-row (t .returned) (t .later) carried
+        (t .its-condition),
+  )
       (ap (λ (n : ℕ). refused n carried) (t .its-number)),
 )
 
 -- a refusal among the first rows stands, whatever follows
-pub judge-refused-append : (rows later : List TableRow) (number carried : ℕ) → judge rows ≡ refused number carried → judge (rows ++ later) ≡ refused number carried
+pub judge-refused-append : (rows later : List TableRow) (number carried : ℕ) → judge rows ≡ refused number carried → judge
+    (rows ++ later) ≡ refused number carried
 unfolding judge
 judge-refused-append [] later number carried e = let z : _≡_ {A = ℕ} 0 1 = cc in absurd (omega arith)
 judge-refused-append (r ∷ rs) later number carried e = go (r .finding) e (judge-refused-append rs later number carried)
@@ -281,7 +288,8 @@ accepted-of o a =
             rw (le-ltb 48 (jobCount o) (a .few-jobs)) refl,
             (
               first-none _ (o .jobs) 0 (All-map _ _ (o .jobs)
-                  (λ (job : Job) h. false-not _ (true-both _ _ (le-leb 1 (job .time) (h .0)) (le-leb (job .time) 100000 (h .1)))) (a .times)),
+                  (λ (job : Job) h. false-not _ (true-both _ _ (le-leb 1 (job .time) (h .0)) (le-leb (job .time) 100000 (h .1))))
+                  (a .times)),
               (
                 first-none _ (o .jobs) 0 (All-map _ _ (o .jobs)
                     (λ (job : Job) h. false-not _ (true-both _ _ (true-leZ _ _ (h .0)) (true-leZ _ _ (h .1)))) (a .dues)),
@@ -307,7 +315,8 @@ accepted-iff o = (acceptable-of o, accepted-of o)
 
 -- the same of a list that is given by its places
 module _ {A : Type 0} (test : A → Bool) (n : ℕ) (f : ℕ → A) where
-  pub first-tabulate : (i : ℕ) → i < n → ((e : ℕ) → e < i → test (f e) ≡ false) → test (f i) ≡ true → first test (tabulate n f) ≡ holds (suc i)
+  pub first-tabulate : (i : ℕ) → i < n → ((e : ℕ) → e < i → test (f e) ≡ false) → test (f i) ≡ true → first test (tabulate n f) ≡ holds
+      (suc i)
   first-tabulate i l before here =
       first-at test (tabulate n f) (f i) 0 i (rw length-tabulate l)
       (λ e b. ap test (getD-tabulate n f (f i) e (omega arith)) ∙ before e b)

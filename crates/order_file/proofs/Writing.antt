@@ -31,7 +31,18 @@ use Rattle.order.specs.declared.Order.{Order as OrderTable}
 use Rattle.order.specs.declared.Refusal.{Refusal}
 use Rattle.order.specs.declared.Acceptance.{Acceptance}
 use Rattle.order.specs.declared.Acceptance.the-variants.{Accepted, Refused}
-use Rattle.order_file.specs.File.{processorBytes, jobBytes, trailerBytes, fileOf, fileLength, writeRows, writtenBy, ReadBackBy, jobWidth, trailerWidth}
+use Rattle.order_file.specs.File.{
+  processorBytes,
+  jobBytes,
+  trailerBytes,
+  fileOf,
+  fileLength,
+  writeRows,
+  writtenBy,
+  ReadBackBy,
+  jobWidth,
+  trailerWidth,
+}
 use Rattle.order_file.specs.FileLaws.{length-processorBytes, length-jobBytes}
 use Rattle.order_file.specs.RoundTrip.{Bounded, read-back}
 use Rattle.order_file.proofs.Stores.{Front, front-more}

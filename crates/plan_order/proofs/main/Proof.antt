@@ -30,7 +30,8 @@ array-share-prefix-file : tie.Need-array-share-prefix-file
 array-share-prefix-file c = omega (arith, within-room (c .before .before .before .before .read-input .ensures) (c .before .input .given .1))
 
 slice-aggregate-answer : tie.Need-slice-aggregate-answer
-slice-aggregate-answer c = simp length-take (omega (arith, within-room (c .before .before .before .before .before .read-input .ensures) (c .before .before .input .given .1)))
+slice-aggregate-answer c = simp length-take
+    (omega (arith, within-room (c .before .before .before .before .before .read-input .ensures) (c .before .before .input .given .1)))
 
 answer-requires : tie.Need-answer-requires
 answer-requires c κs = search needs

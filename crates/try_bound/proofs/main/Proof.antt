@@ -27,10 +27,15 @@ returns : tie.Need-returns
 returns c = search needs
 
 array-share-prefix-given : tie.Need-array-share-prefix-given
-array-share-prefix-given c = omega (arith, within-room (c .before .before .before .before .read-input .ensures) (c .before .input .given .1))
+array-share-prefix-given c = omega (
+  arith,
+  within-room (c .before .before .before .before .read-input .ensures)
+      (c .before .input .given .1),
+)
 
 slice-aggregate-answer : tie.Need-slice-aggregate-answer
-slice-aggregate-answer c = simp length-take (omega (arith, within-room (c .before .before .before .before .before .read-input .ensures) (c .before .before .input .given .1)))
+slice-aggregate-answer c = simp length-take
+    (omega (arith, within-room (c .before .before .before .before .before .read-input .ensures) (c .before .before .input .given .1)))
 
 answer-requires : tie.Need-answer-requires
 answer-requires c κs = search needs

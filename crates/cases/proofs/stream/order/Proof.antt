@@ -13,7 +13,8 @@ use Rattle.cases.proofs.stream.number_if.Reads as number-if-reads
 use Rattle.order_file.proofs.bytes.to_signed.Reads as to-signed-reads
 
 abbrev Inv-loop : tie.InvT-loop
-Inv-loop processors jobs memories times₀ dues₀ needs₀ j₀ times dues needs j = (j ≤ 48) × (length times ≡ 48) × (length dues ≡ 48) × (length needs ≡ 48)
+Inv-loop processors jobs memories times₀ dues₀ needs₀ j₀ times dues needs j = (j ≤ 48) × (length times ≡ 48) × (length dues ≡ 48) ×
+    (length needs ≡ 48)
 
 abbrev μ-loop : tie.MeasureT-loop
 μ-loop processors jobs memories times₀ dues₀ needs₀ j₀ times dues needs j = 48 - j

@@ -19,7 +19,8 @@ same-length : tie.Need-same-length
 same-length c = search needs
 
 returns : tie.Need-returns
-returns c = one-stored (c .before .args .answer .now) _ _ (toZ-ofZ w32 _ (record { sfits = c .count-of .ok }) ∙ c .count-of .ensures) (c .before .pre .1)
+returns c = one-stored (c .before .args .answer .now) _ _ (toZ-ofZ w32 _ (record { sfits = c .count-of .ok }) ∙ c .count-of .ensures)
+    (c .before .pre .1)
 
 pub put-count-spec : {M : Type 1} → statement M
 put-count-spec = tie.close (tie.spec count-of-requires slice-set-from-answer same-length returns)

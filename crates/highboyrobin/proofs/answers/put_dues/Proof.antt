@@ -38,7 +38,12 @@ slice-set-from-answer : tie.Need-slice-set-from-answer Inv-loop μ-loop
 slice-set-from-answer c =
     let l = c .before .before .loop in
     let s = c .before .before .before in
-    omega (arith, l .inv .1, stored-length (s .args .answer .now) (s .args .t2) _ 3 (l .i) (l .inv .2) (omega (arith, l .inv .1)) (omega (arith, l .inv .0, s .good .1 .0)))
+    omega (
+      arith,
+      l .inv .1,
+      stored-length (s .args .answer .now) (s .args .t2) _ 3 (l .i) (l .inv .2) (omega (arith, l .inv .1))
+          (omega (arith, l .inv .0, s .good .1 .0)),
+    )
 
 add-i : tie.Need-add-i Inv-loop μ-loop
 add-i c = search needs
@@ -49,14 +54,19 @@ loop-less c = search needs
 loop-again : tie.Need-loop-again Inv-loop μ-loop
 loop-again c =
     let l = c .before .before .loop in
-    let s = c .before .before .before in
-    (search needs, l .inv .1, next-stored (s .args .answer .now) (s .args .t2) _ 3 (l .i) (pos 0) _ (l .inv .2) (omega (arith, l .inv .1)) (omega (arith, l .inv .0, s .good .1 .0)) (toZ-ofZ w32 _ (record { sfits = c .answer .given })))
+    let s = c .before .before .before in (
+      search needs,
+      l .inv .1,
+      next-stored (s .args .answer .now) (s .args .t2) _ 3 (l .i) (pos 0) _ (l .inv .2)
+          (omega (arith, l .inv .1)) (omega (arith, l .inv .0, s .good .1 .0)) (toZ-ofZ w32 _ (record { sfits = c .answer .given })),
+    )
 
 same-length : tie.Need-same-length Inv-loop μ-loop
 same-length c =
     let l = c .before .loop in
     let s = c .before .before in
-    stored-length (s .args .answer .now) (s .args .t2) _ 3 (l .i) (l .inv .2) (omega (arith, l .inv .1)) (omega (arith, l .inv .0, s .good .1 .0))
+    stored-length (s .args .answer .now) (s .args .t2) _ 3 (l .i) (l .inv .2) (omega (arith, l .inv .1))
+    (omega (arith, l .inv .0, s .good .1 .0))
 
 returns : tie.Need-returns Inv-loop μ-loop
 returns c =

@@ -23,7 +23,8 @@ same-length c = search needs
 
 returns : tie.Need-returns
 returns c =
-    two-stored (c .before .args .answer .now) _ _ _ _ (toZ-ofZ w32 _ (c .before .fits .lateness)) (toZ-ofZ w32 _ (record { sfits = c .count-of .ok }) ∙ c .count-of .ensures)
+    two-stored (c .before .args .answer .now) _ _ _ _ (toZ-ofZ w32 _ (c .before .fits .lateness))
+    (toZ-ofZ w32 _ (record { sfits = c .count-of .ok }) ∙ c .count-of .ensures)
     (c .before .pre .1)
 
 pub put-least-spec : {M : Type 1} → statement M

@@ -40,8 +40,12 @@ same-length c = search needs
 
 returns : tie.Need-returns
 returns c =
-    nineteen-stored (c .before .before .before .before .before .before .before .before .before .before .args .answer .now) (c .before .before .before .before .before .before .before .before .before .before .args .why .dues) _ _ _ _ _ _ _ _ (ap pos (c .before .before .before .before .before .before .before .kind-of .ensures))
-    (ap pos (c .before .before .before .before .before .before .which-of .ensures)) (ap pos (c .before .before .before .before .before .time-of .ensures)) (c .before .before .before .before .put-three .ensures) (c .before .put-dues .ensures)
+    nineteen-stored (c .before .before .before .before .before .before .before .before .before .before .args .answer .now)
+    (c .before .before .before .before .before .before .before .before .before .before .args .why .dues) _ _ _ _ _ _ _ _
+    (ap pos (c .before .before .before .before .before .before .before .kind-of .ensures))
+    (ap pos (c .before .before .before .before .before .before .which-of .ensures))
+    (ap pos (c .before .before .before .before .before .time-of .ensures)) (c .before .before .before .before .put-three .ensures)
+    (c .before .put-dues .ensures)
 
 pub put-reason-spec : {M : Type 1} → statement M
 put-reason-spec =

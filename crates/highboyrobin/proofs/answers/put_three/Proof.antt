@@ -34,7 +34,8 @@ same-length c = search needs
 
 returns : tie.Need-returns
 returns c =
-    three-stored (c .before .before .before .args .answer .now) _ _ _ _ _ _ (toZ-ofZ w32 _ (record { sfits = c .before .before .count-of .ok }) ∙ c .before .before .count-of .ensures)
+    three-stored (c .before .before .before .args .answer .now) _ _ _ _ _ _
+    (toZ-ofZ w32 _ (record { sfits = c .before .before .count-of .ok }) ∙ c .before .before .count-of .ensures)
     (toZ-ofZ w32 _ (record { sfits = c .before .count-of2 .ok }) ∙ c .before .count-of2 .ensures)
     (toZ-ofZ w32 _ (record { sfits = c .count-of3 .ok }) ∙ c .count-of3 .ensures) (c .before .before .before .pre .3)
 

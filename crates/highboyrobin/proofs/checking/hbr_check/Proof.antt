@@ -36,14 +36,16 @@ enum-known-status c = search needs
 result-of-requires : tie.Need-result-of-requires
 result-of-requires c κs =
     let f = c .before .before .before .before .before .before .before .args .file .now in
-    carried-few _ _ (reader-refused f (c .before .before .before .read-order .result) (c .before .before .before .read-order .ensures .0) (c .before .status .given .0 .0) (c .before .status .given .1))
+    carried-few _ _ (reader-refused f (c .before .before .before .read-order .result)
+    (c .before .before .before .read-order .ensures .0) (c .before .status .given .0 .0) (c .before .status .given .1))
     (read-carries f)
 
 returns-2 : tie.Need-returns-2
 returns-2 c =
     let s = c .before .before .before .before .before .before .before .before .args in
     ended-told _ _ _ (c .before .before .status .given .0 .0)
-    (call-refused (s .file .now) (length (s .answer .now)) 1 (c .before .before .before .before .read-order .result) (c .before .before .before .before .read-order .ensures .0) (c .before .before .before .before .before .if1 .left)
+    (call-refused (s .file .now) (length (s .answer .now)) 1 (c .before .before .before .before .read-order .result)
+    (c .before .before .before .before .read-order .ensures .0) (c .before .before .before .before .before .if1 .left)
     _ _ (check-begins (orderIn (s .file .now)) (s .bound) (length (s .rows .now))) _ (c .before .before .status .given .1))
     _ (c .result-of .ensures)
 
@@ -67,7 +69,8 @@ result-of-requires-2 c κs =
     let p = c .before .before .before .check-plan in
     let same = toZ-ofZ w32 (s .bound) (c .before .before .before .before .before .before .before .before .before .before .fits .bound) in
     let t = check-moved (orderOf (r .order)) o _ (s .bound) (s .rows .now) (p .result) (order-is f r e ok) same (p .ensures) in
-    carried-few _ _ (check-refused o (s .bound) (s .rows .now) (p .result) t (c .before .checked .given .0 .0) (c .before .checked .given .1))
+    carried-few _ _ (check-refused o (s .bound) (s .rows .now) (p .result) t (c .before .checked .given .0 .0)
+    (c .before .checked .given .1))
     (check-carries o (s .bound) (length (s .rows .now)))
 
 enum-told-2 : tie.Need-enum-told-2
@@ -91,11 +94,13 @@ returns-3 c =
     let e = c .before .before .before .before .before .before .before .read-order .ensures .0 in
     let ok = c .before .before .before .before .before .enum-told .given .1 in
     let p = c .before .before .before .before .check-plan in
-    let same = toZ-ofZ w32 (s .bound) (c .before .before .before .before .before .before .before .before .before .before .before .fits .bound) in
+    let same = toZ-ofZ w32 (s .bound)
+    (c .before .before .before .before .before .before .before .before .before .before .before .fits .bound) in
     let t = check-moved (orderOf (r .order)) o _ (s .bound) (s .rows .now) (p .result) (order-is f r e ok) same (p .ensures) in
     ended-told _ _ _ (c .before .before .checked .given .0 .0)
     (call-read f (length (s .answer .now)) 1 r e (c .before .before .before .before .before .before .before .before .if1 .left) _ ok
-    ∙ check-refused o (s .bound) (s .rows .now) (p .result) t (c .before .before .checked .given .0 .0) (c .before .before .checked .given .1))
+    ∙ check-refused o (s .bound) (s .rows .now) (p .result) t (c .before .before .checked .given .0 .0)
+    (c .before .before .checked .given .1))
     _ (c .result-of2 .ensures)
 
 same-length : tie.Need-same-length
@@ -110,10 +115,12 @@ returns-4 c =
     let e = c .before .before .before .before .before .before .before .before .read-order .ensures .0 in
     let ok = c .before .before .before .before .before .before .enum-told .given .1 in
     let p = c .before .before .before .before .before .check-plan in
-    let same = toZ-ofZ w32 (s .bound) (c .before .before .before .before .before .before .before .before .before .before .before .before .fits .bound) in
+    let same = toZ-ofZ w32 (s .bound)
+    (c .before .before .before .before .before .before .before .before .before .before .before .before .fits .bound) in
     let t = check-moved (orderOf (r .order)) o _ (s .bound) (s .rows .now) (p .result) (order-is f r e ok) same (p .ensures) in
     let h = check-yes o (s .bound) (s .rows .now) (p .result) t (c .before .before .before .enum-told2 .given .1) in
-    ended-done _ _ _ _ (call-read f (length (s .answer .now)) 1 r e (c .before .before .before .before .before .before .before .before .before .if1 .left) _ ok ∙ h .0)
+    ended-done _ _ _ _ (call-read f (length (s .answer .now)) 1 r e
+    (c .before .before .before .before .before .before .before .before .before .if1 .left) _ ok ∙ h .0)
     (c .before .put-count .ensures ∙ ap (λ (b : Bool). yesOrNo b ++ drop 1 (s .answer .now)) (h .1))
 
 same-length-2 : tie.Need-same-length-2
@@ -128,10 +135,12 @@ returns-5 c =
     let e = c .before .before .before .before .before .before .before .before .read-order .ensures .0 in
     let ok = c .before .before .before .before .before .before .enum-told .given .1 in
     let p = c .before .before .before .before .before .check-plan in
-    let same = toZ-ofZ w32 (s .bound) (c .before .before .before .before .before .before .before .before .before .before .before .before .fits .bound) in
+    let same = toZ-ofZ w32 (s .bound)
+    (c .before .before .before .before .before .before .before .before .before .before .before .before .fits .bound) in
     let t = check-moved (orderOf (r .order)) o _ (s .bound) (s .rows .now) (p .result) (order-is f r e ok) same (p .ensures) in
     let h = check-no o (s .bound) (s .rows .now) (p .result) t (c .before .before .before .enum-told3 .given .1) in
-    ended-done _ _ _ _ (call-read f (length (s .answer .now)) 1 r e (c .before .before .before .before .before .before .before .before .before .if1 .left) _ ok ∙ h .0)
+    ended-done _ _ _ _ (call-read f (length (s .answer .now)) 1 r e
+    (c .before .before .before .before .before .before .before .before .before .if1 .left) _ ok ∙ h .0)
     (c .before .put-count2 .ensures ∙ ap (λ (b : Bool). yesOrNo b ++ drop 1 (s .answer .now)) (h .1))
 
 pub hbr-check-spec : {M : Type 1} → statement M

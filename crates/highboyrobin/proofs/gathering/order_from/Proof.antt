@@ -31,8 +31,10 @@ column-of-requires-2 c κs = search needs
 returns : tie.Need-returns
 returns c =
     let s = c .before .before .before .before .before .before .args in
-    gathered (s .memories .now) (s .jobs .now) _ _ _ (c .before .before .before .before .before .before .pre .0) (omega (arith, c .before .before .before .before .before .before .pre .1)) refl refl refl refl
-    (c .before .before .before .memories-of .ensures) (c .before .before .column-of .ensures) (c .before .dues-of .ensures) (c .column-of2 .ensures)
+    gathered (s .memories .now) (s .jobs .now) _ _ _ (c .before .before .before .before .before .before .pre .0)
+    (omega (arith, c .before .before .before .before .before .before .pre .1)) refl refl refl refl
+    (c .before .before .before .memories-of .ensures) (c .before .before .column-of .ensures) (c .before .dues-of .ensures)
+    (c .column-of2 .ensures)
 
 pub order-from-spec : {M : Type 1} → statement M
 order-from-spec =

@@ -32,7 +32,8 @@ enum-known-status c = search needs
 result-of-requires : tie.Need-result-of-requires
 result-of-requires c κs =
     let f = c .before .before .before .before .before .before .args .file .now in
-    carried-few _ _ (reader-refused f (c .before .before .before .read-order .result) (c .before .before .before .read-order .ensures .0) (c .before .status .given .0 .0) (c .before .status .given .1))
+    carried-few _ _ (reader-refused f (c .before .before .before .read-order .result)
+    (c .before .before .before .read-order .ensures .0) (c .before .status .given .0 .0) (c .before .status .given .1))
     (read-carries f)
 
 returns-2 : tie.Need-returns-2
@@ -40,7 +41,8 @@ returns-2 c =
     let s = c .before .before .before .before .before .before .before .args in
     let rows = orderRows limits (orderIn (s .file .now)) in
     ended-told _ _ _ (c .before .before .status .given .0 .0)
-    (call-refused (s .file .now) (length (s .answer .now)) 3 (c .before .before .before .before .read-order .result) (c .before .before .before .before .read-order .ensures .0) (c .before .before .before .before .before .if1 .left)
+    (call-refused (s .file .now) (length (s .answer .now)) 3 (c .before .before .before .before .read-order .result)
+    (c .before .before .before .before .read-order .ensures .0) (c .before .before .before .before .before .if1 .left)
     rows [] (sym (append-nil rows)) _ (c .before .before .status .given .1))
     _ (c .result-of .ensures)
 
@@ -65,7 +67,8 @@ returns-3 c =
     let e = c .before .before .before .before .before .read-order .ensures .0 in
     let ok = c .before .before .before .enum-told .given .1 in
     ended-done _ _ _ _
-    (call-read (s .file .now) (length (s .answer .now)) 3 r e (c .before .before .before .before .before .before .if1 .left) _ ok ∙ order-accepted (s .file .now) r e ok)
+    (call-read (s .file .now) (length (s .answer .now)) 3 r e (c .before .before .before .before .before .before .if1 .left) _ ok
+    ∙ order-accepted (s .file .now) r e ok)
     (c .before .put-sizes .ensures ∙ ap (λ (o : Order). sizesOf o ++ drop 3 (s .answer .now)) (order-is (s .file .now) r e ok))
 
 pub hbr-judge-spec : {M : Type 1} → statement M

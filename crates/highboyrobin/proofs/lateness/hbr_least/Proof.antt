@@ -37,14 +37,16 @@ enum-known-status c = search needs
 result-of-requires : tie.Need-result-of-requires
 result-of-requires c κs =
     let f = c .before .before .before .before .before .before .before .args .file .now in
-    carried-few _ _ (reader-refused f (c .before .before .before .read-order .result) (c .before .before .before .read-order .ensures .0) (c .before .status .given .0 .0) (c .before .status .given .1))
+    carried-few _ _ (reader-refused f (c .before .before .before .read-order .result)
+    (c .before .before .before .read-order .ensures .0) (c .before .status .given .0 .0) (c .before .status .given .1))
     (read-carries f)
 
 returns-2 : tie.Need-returns-2
 returns-2 c =
     let s = c .before .before .before .before .before .before .before .before .args in
     plan-told _ _ _ _ _ _ (c .before .before .status .given .0 .0)
-    (call-refused (s .file .now) (length (s .answer .now)) 2 (c .before .before .before .before .read-order .result) (c .before .before .before .before .read-order .ensures .0) (c .before .before .before .before .before .if1 .left)
+    (call-refused (s .file .now) (length (s .answer .now)) 2 (c .before .before .before .before .read-order .result)
+    (c .before .before .before .before .read-order .ensures .0) (c .before .before .before .before .before .if1 .left)
     _ _ (least-begins (orderIn (s .file .now)) (length (s .rows .now))) _ (c .before .before .status .given .1))
     _ (c .result-of .ensures) _ refl
 
@@ -83,8 +85,11 @@ put-least-requires c κs =
     let ok = c .before .before .before .before .before .before .before .before .enum-told .given .1 in
     let l = c .before .before .before .before .before .before .least-lateness in
     let t = least-moved (orderOf (r .order)) o (s .rows .now) _ (l .result) (order-is f r e ok) (l .ensures .0, l .ensures .1 .1) in
-    let h = least-at o (s .rows .now) _ (l .result) t (c .before .before .least2 .given .0 .0) (c .before .before .least2 .given .0 .1 .0) (c .before .before .least2 .given .1) in
-    (omega (arith, written-few (order-accepted f r e ok) (h .2)), c .before .before .before .before .before .before .before .before .before .before .before .if1 .left)
+    let h = least-at o (s .rows .now) _ (l .result) t (c .before .before .least2 .given .0 .0)
+    (c .before .before .least2 .given .0 .1 .0) (c .before .before .least2 .given .1) in (
+      omega (arith, written-few (order-accepted f r e ok) (h .2)),
+      c .before .before .before .before .before .before .before .before .before .before .before .if1 .left,
+    )
 
 same-length : tie.Need-same-length
 same-length c = search needs
@@ -100,7 +105,9 @@ returns-3 c =
     let l = c .before .before .before .before .before .before .least-lateness in
     let t = least-moved (orderOf (r .order)) o (s .rows .now) _ (l .result) (order-is f r e ok) (l .ensures .0, l .ensures .1 .1) in
     let h = least-refused o (s .rows .now) _ (l .result) t (c .before .before .least .given .0 .0) (c .before .before .least .given .1) in
-    plan-told _ _ _ _ _ _ (c .before .before .least .given .0 .0) (call-read f (length (s .answer .now)) 2 r e (c .before .before .before .before .before .before .before .before .before .before .before .if1 .left) _ ok ∙ h .0)
+    plan-told _ _ _ _ _ _ (c .before .before .least .given .0 .0)
+    (call-read f (length (s .answer .now)) 2 r e
+    (c .before .before .before .before .before .before .before .before .before .before .before .if1 .left) _ ok ∙ h .0)
     _ (c .result-of2 .ensures) _ (h .1)
 
 same-length-2 : tie.Need-same-length-2
@@ -111,7 +118,8 @@ same-length-3 c = search needs
 
 returns-4 : tie.Need-returns-4
 returns-4 c =
-    let s = c .before .before .before .before .before .before .before .before .before .before .before .before .before .before .before .before .args in
+    let s = c .before .before .before .before .before .before .before .before .before .before .before .before .before .before .before
+    .before .args in
     let f = s .file .now in
     let o = orderIn f in
     let r = c .before .before .before .before .before .before .before .before .before .before .before .before .read-order .result in
@@ -119,12 +127,16 @@ returns-4 c =
     let ok = c .before .before .before .before .before .before .before .before .before .before .enum-told .given .1 in
     let l = c .before .before .before .before .before .before .before .before .least-lateness in
     let t = least-moved (orderOf (r .order)) o (s .rows .now) _ (l .result) (order-is f r e ok) (l .ensures .0, l .ensures .1 .1) in
-    let h = least-at o (s .rows .now) _ (l .result) t (c .before .before .before .before .least2 .given .0 .0) (c .before .before .before .before .least2 .given .0 .1 .0) (c .before .before .before .before .least2 .given .1) in
-    plan-done _ _ _ _ _ _ (call-read f (length (s .answer .now)) 2 r e (c .before .before .before .before .before .before .before .before .before .before .before .before .before .if1 .left) _ ok ∙ h .0) _ _
+    let h = least-at o (s .rows .now) _ (l .result) t (c .before .before .before .before .least2 .given .0 .0)
+    (c .before .before .before .before .least2 .given .0 .1 .0) (c .before .before .before .before .least2 .given .1) in
+    plan-done _ _ _ _ _ _ (call-read f (length (s .answer .now)) 2 r e
+    (c .before .before .before .before .before .before .before .before .before .before .before .before .before .if1 .left) _ ok ∙ h .0) _ _
     (record {
       count = c .before .before .before .before .least2 .given .0 .1 .0;
       written = h .2;
-      answered = c .before .put-least .ensures ∙ ap (λ (z : ℤ). z ∷ pos (c .before .before .before .before .least2 .given .0 .1 .0) ∷ drop 2 (s .answer .now)) (read-least _ _ (h .1) (least-in-range o (order-accepted f r e ok)));
+      answered = c .before .put-least .ensures ∙ ap
+          (λ (z : ℤ). z ∷ pos (c .before .before .before .before .least2 .given .0 .1 .0) ∷ drop 2 (s .answer .now))
+          (read-least _ _ (h .1) (least-in-range o (order-accepted f r e ok)));
     })
 
 pub hbr-least-spec : {M : Type 1} → statement M

@@ -35,14 +35,16 @@ enum-known-status c = search needs
 result-of-requires : tie.Need-result-of-requires
 result-of-requires c κs =
     let f = c .before .before .before .before .before .before .before .args .file .now in
-    carried-few _ _ (reader-refused f (c .before .before .before .read-order .result) (c .before .before .before .read-order .ensures .0) (c .before .status .given .0 .0) (c .before .status .given .1))
+    carried-few _ _ (reader-refused f (c .before .before .before .read-order .result)
+    (c .before .before .before .read-order .ensures .0) (c .before .status .given .0 .0) (c .before .status .given .1))
     (read-carries f)
 
 returns-2 : tie.Need-returns-2
 returns-2 c =
     let s = c .before .before .before .before .before .before .before .before .args in
     plan-told _ _ _ _ _ _ (c .before .before .status .given .0 .0)
-    (call-refused (s .file .now) (length (s .answer .now)) 1 (c .before .before .before .before .read-order .result) (c .before .before .before .before .read-order .ensures .0) (c .before .before .before .before .before .if1 .left)
+    (call-refused (s .file .now) (length (s .answer .now)) 1 (c .before .before .before .before .read-order .result)
+    (c .before .before .before .before .read-order .ensures .0) (c .before .before .before .before .before .if1 .left)
     _ _ (plan-begins (orderIn (s .file .now)) (s .bound) (length (s .rows .now))) _ (c .before .before .status .given .1))
     _ (c .result-of .ensures) _ refl
 
@@ -64,9 +66,12 @@ result-of-requires-2 c κs =
     let e = c .before .before .before .before .before .before .before .before .before .read-order .ensures .0 in
     let ok = c .before .before .before .before .before .before .before .enum-told .given .1 in
     let p = c .before .before .before .before .before .plan-at in
-    let same = toZ-ofZ w32 (s .bound) (c .before .before .before .before .before .before .before .before .before .before .before .before .before .fits .bound) in
-    let t = plan-moved (orderOf (r .order)) o _ (s .bound) (s .rows .now) _ (p .result .planned) (order-is f r e ok) same (p .ensures .0, p .ensures .1 .1) in
-    let h = planned-refused o (s .bound) (s .rows .now) _ (p .result .planned) t (c .before .planned .given .0 .0) (c .before .planned .given .1) in
+    let same = toZ-ofZ w32 (s .bound)
+    (c .before .before .before .before .before .before .before .before .before .before .before .before .before .fits .bound) in
+    let t = plan-moved (orderOf (r .order)) o _ (s .bound) (s .rows .now) _ (p .result .planned) (order-is f r e ok) same
+    (p .ensures .0, p .ensures .1 .1) in
+    let h = planned-refused o (s .bound) (s .rows .now) _ (p .result .planned) t (c .before .planned .given .0 .0)
+    (c .before .planned .given .1) in
     carried-few _ _ (h .0) (plan-carries o (s .bound) (length (s .rows .now)))
 
 enum-told-2 : tie.Need-enum-told-2
@@ -84,10 +89,15 @@ put-count-requires c κs =
     let e = c .before .before .before .before .before .before .before .before .before .before .read-order .ensures .0 in
     let ok = c .before .before .before .before .before .before .before .before .enum-told .given .1 in
     let p = c .before .before .before .before .before .before .plan-at in
-    let same = toZ-ofZ w32 (s .bound) (c .before .before .before .before .before .before .before .before .before .before .before .before .before .before .fits .bound) in
-    let t = plan-moved (orderOf (r .order)) o _ (s .bound) (s .rows .now) _ (p .result .planned) (order-is f r e ok) same (p .ensures .0, p .ensures .1 .1) in
-    let h = planned-rows o (s .bound) (s .rows .now) _ (p .result .planned) t (c .before .before .planned2 .given .0 .0) (c .before .before .planned2 .given .1) in
-    (omega (arith, written-few (order-accepted f r e ok) (h .1)), c .before .before .before .before .before .before .before .before .before .before .before .if1 .left)
+    let same = toZ-ofZ w32 (s .bound)
+    (c .before .before .before .before .before .before .before .before .before .before .before .before .before .before .fits .bound) in
+    let t = plan-moved (orderOf (r .order)) o _ (s .bound) (s .rows .now) _ (p .result .planned) (order-is f r e ok) same
+    (p .ensures .0, p .ensures .1 .1) in
+    let h = planned-rows o (s .bound) (s .rows .now) _ (p .result .planned) t (c .before .before .planned2 .given .0 .0)
+    (c .before .before .planned2 .given .1) in (
+      omega (arith, written-few (order-accepted f r e ok) (h .1)),
+      c .before .before .before .before .before .before .before .before .before .before .before .if1 .left,
+    )
 
 same-length : tie.Need-same-length
 same-length c = search needs
@@ -101,10 +111,15 @@ returns-3 c =
     let e = c .before .before .before .before .before .before .before .before .before .before .read-order .ensures .0 in
     let ok = c .before .before .before .before .before .before .before .before .enum-told .given .1 in
     let p = c .before .before .before .before .before .before .plan-at in
-    let same = toZ-ofZ w32 (s .bound) (c .before .before .before .before .before .before .before .before .before .before .before .before .before .before .fits .bound) in
-    let t = plan-moved (orderOf (r .order)) o _ (s .bound) (s .rows .now) _ (p .result .planned) (order-is f r e ok) same (p .ensures .0, p .ensures .1 .1) in
-    let h = planned-refused o (s .bound) (s .rows .now) _ (p .result .planned) t (c .before .before .planned .given .0 .0) (c .before .before .planned .given .1) in
-    plan-told _ _ _ _ _ _ (c .before .before .planned .given .0 .0) (call-read f (length (s .answer .now)) 1 r e (c .before .before .before .before .before .before .before .before .before .before .before .if1 .left) _ ok ∙ h .0)
+    let same = toZ-ofZ w32 (s .bound)
+    (c .before .before .before .before .before .before .before .before .before .before .before .before .before .before .fits .bound) in
+    let t = plan-moved (orderOf (r .order)) o _ (s .bound) (s .rows .now) _ (p .result .planned) (order-is f r e ok) same
+    (p .ensures .0, p .ensures .1 .1) in
+    let h = planned-refused o (s .bound) (s .rows .now) _ (p .result .planned) t (c .before .before .planned .given .0 .0)
+    (c .before .before .planned .given .1) in
+    plan-told _ _ _ _ _ _ (c .before .before .planned .given .0 .0)
+    (call-read f (length (s .answer .now)) 1 r e
+    (c .before .before .before .before .before .before .before .before .before .before .before .if1 .left) _ ok ∙ h .0)
     _ (c .result-of2 .ensures) _ (h .1)
 
 same-length-2 : tie.Need-same-length-2
@@ -119,10 +134,13 @@ returns-4 c =
     let e = c .before .before .before .before .before .before .before .before .read-order .ensures .0 in
     let ok = c .before .before .before .before .before .before .enum-told .given .1 in
     let p = c .before .before .before .before .plan-at in
-    let same = toZ-ofZ w32 (s .bound) (c .before .before .before .before .before .before .before .before .before .before .before .before .fits .bound) in
-    let t = plan-moved (orderOf (r .order)) o _ (s .bound) (s .rows .now) _ (p .result .planned) (order-is f r e ok) same (p .ensures .0, p .ensures .1 .1) in
+    let same = toZ-ofZ w32 (s .bound)
+    (c .before .before .before .before .before .before .before .before .before .before .before .before .fits .bound) in
+    let t = plan-moved (orderOf (r .order)) o _ (s .bound) (s .rows .now) _ (p .result .planned) (order-is f r e ok) same
+    (p .ensures .0, p .ensures .1 .1) in
     let h = planned-tight o (s .bound) (s .rows .now) _ (p .result .planned) t _ (c .enum-told2 .given .1) in
-    plan-refused _ _ _ _ _ _ 10 0 (call-read f (length (s .answer .now)) 1 r e (c .before .before .before .before .before .before .before .before .before .if1 .left) _ ok ∙ h .0) _ (h .1)
+    plan-refused _ _ _ _ _ _ 10 0 (call-read f (length (s .answer .now)) 1 r e
+    (c .before .before .before .before .before .before .before .before .before .if1 .left) _ ok ∙ h .0) _ (h .1)
 
 same-length-3 : tie.Need-same-length-3
 same-length-3 c = search needs
@@ -132,17 +150,23 @@ same-length-4 c = search needs
 
 returns-5 : tie.Need-returns-5
 returns-5 c =
-    let s = c .before .before .before .before .before .before .before .before .before .before .before .before .before .before .before .before .args in
+    let s = c .before .before .before .before .before .before .before .before .before .before .before .before .before .before .before
+    .before .args in
     let f = s .file .now in
     let o = orderIn f in
     let r = c .before .before .before .before .before .before .before .before .before .before .before .before .read-order .result in
     let e = c .before .before .before .before .before .before .before .before .before .before .before .before .read-order .ensures .0 in
     let ok = c .before .before .before .before .before .before .before .before .before .before .enum-told .given .1 in
     let p = c .before .before .before .before .before .before .before .before .plan-at in
-    let same = toZ-ofZ w32 (s .bound) (c .before .before .before .before .before .before .before .before .before .before .before .before .before .before .before .before .fits .bound) in
-    let t = plan-moved (orderOf (r .order)) o _ (s .bound) (s .rows .now) _ (p .result .planned) (order-is f r e ok) same (p .ensures .0, p .ensures .1 .1) in
-    let h = planned-rows o (s .bound) (s .rows .now) _ (p .result .planned) t (c .before .before .before .before .planned2 .given .0 .0) (c .before .before .before .before .planned2 .given .1) in
-    plan-done _ _ _ _ _ _ (call-read f (length (s .answer .now)) 1 r e (c .before .before .before .before .before .before .before .before .before .before .before .before .before .if1 .left) _ ok ∙ h .0) _ _
+    let same = toZ-ofZ w32 (s .bound)
+    (c .before .before .before .before .before .before .before .before .before .before .before .before .before .before .before
+    .before .fits .bound) in
+    let t = plan-moved (orderOf (r .order)) o _ (s .bound) (s .rows .now) _ (p .result .planned) (order-is f r e ok) same
+    (p .ensures .0, p .ensures .1 .1) in
+    let h = planned-rows o (s .bound) (s .rows .now) _ (p .result .planned) t (c .before .before .before .before .planned2 .given .0 .0)
+    (c .before .before .before .before .planned2 .given .1) in
+    plan-done _ _ _ _ _ _ (call-read f (length (s .answer .now)) 1 r e
+    (c .before .before .before .before .before .before .before .before .before .before .before .before .before .if1 .left) _ ok ∙ h .0) _ _
     (record {
       count = c .before .before .before .before .planned2 .given .0 .0;
       written = h .1;

@@ -45,14 +45,16 @@ enum-known-status c = search needs
 result-of-requires : tie.Need-result-of-requires
 result-of-requires c κs =
     let f = c .before .before .before .before .before .before .args .file .now in
-    carried-few _ _ (reader-refused f (c .before .before .before .read-order .result) (c .before .before .before .read-order .ensures .0) (c .before .status .given .0 .0) (c .before .status .given .1))
+    carried-few _ _ (reader-refused f (c .before .before .before .read-order .result)
+    (c .before .before .before .read-order .ensures .0) (c .before .status .given .0 .0) (c .before .status .given .1))
     (read-carries f)
 
 returns-2 : tie.Need-returns-2
 returns-2 c =
     let s = c .before .before .before .before .before .before .before .args in
     ended-told _ _ _ (c .before .before .status .given .0 .0)
-    (call-refused (s .file .now) (length (s .answer .now)) 19 (c .before .before .before .before .read-order .result) (c .before .before .before .before .read-order .ensures .0) (c .before .before .before .before .before .if1 .left)
+    (call-refused (s .file .now) (length (s .answer .now)) 19 (c .before .before .before .before .read-order .result)
+    (c .before .before .before .before .read-order .ensures .0) (c .before .before .before .before .before .if1 .left)
     _ _ refl _ (c .before .before .status .given .1))
     _ (c .result-of .ensures)
 
@@ -77,7 +79,8 @@ returns-3 c =
     let same = toZ-ofZ w32 (s .bound) (c .before .before .before .before .before .before .before .before .fits .bound) in
     let b = sym (ap boundInRange same) ∙ sym (c .before .before .bound-in-range .ensures) in
     ended-told _ _ _ BoundOutOfRange
-    (call-read f (length (s .answer .now)) 19 r e (c .before .before .before .before .before .before .if1 .left) _ ok ∙ bound-refused (orderIn f) (s .bound) a (b ∙ not-true _ (c .before .if2 .taken)))
+    (call-read f (length (s .answer .now)) 19 r e (c .before .before .before .before .before .before .if1 .left) _ ok ∙ bound-refused
+    (orderIn f) (s .bound) a (b ∙ not-true _ (c .before .if2 .taken)))
     _ (c .result-of2 .ensures)
 
 reason-at-requires : tie.Need-reason-at-requires
@@ -120,12 +123,15 @@ returns-4 c =
     let ok = c .before .before .before .before .before .before .enum-told .given .1 in
     let is = order-is f r e ok in
     let a = order-accepted f r e ok in
-    let same = toZ-ofZ w32 (s .bound) (c .before .before .before .before .before .before .before .before .before .before .before .fits .bound) in
+    let same = toZ-ofZ w32 (s .bound)
+    (c .before .before .before .before .before .before .before .before .before .before .before .fits .bound) in
     let b = sym (ap boundInRange same) ∙ sym (c .before .before .before .before .before .bound-in-range .ensures) in
     let w = why-moved (orderOf (r .order)) (orderIn f) _ (s .bound) _ is same (c .before .before .reason-at .ensures .1) in
     let g = reasonOf (orderIn f) (s .bound) in
     ended-done _ _ _ _
-    (call-read f (length (s .answer .now)) 19 r e (c .before .before .before .before .before .before .before .before .before .if1 .left) _ ok ∙ bound-accepted (orderIn f) (s .bound) a (b ∙ not-false _ (c .before .before .before .before .if2 .left)))
+    (call-read f (length (s .answer .now)) 19 r e
+    (c .before .before .before .before .before .before .before .before .before .if1 .left) _ ok ∙ bound-accepted (orderIn f)
+    (s .bound) a (b ∙ not-false _ (c .before .before .before .before .if2 .left)))
     (c .before .put-reason .ensures
     ∙ ap (λ (xs : List ℤ). xs ++ drop 19 (s .answer .now)) (ap whyNumbers w ∙ numbers-are (orderIn f) g)
     ∙ ap (λ (n : ℕ). reasonNumbers (orderIn f) g ++ drop n (s .answer .now)) (sym (numbers-count (orderIn f) g)))

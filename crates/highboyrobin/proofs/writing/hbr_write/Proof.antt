@@ -61,7 +61,8 @@ returns-3 c =
     let j = s .jobs .now in
     let n = length (s .file .now) in
     let a = length (s .answer .now) in
-    write-told _ _ _ _ TooManyProcessors (many-processors m j n a (c .before .before .before .if1 .left) (c .before .before .if2 .left) (c .before .if3 .taken)) _ (c .result-of .ensures) _ refl
+    write-told _ _ _ _ TooManyProcessors (many-processors m j n a (c .before .before .before .if1 .left) (c .before .before .if2 .left)
+    (c .before .if3 .taken)) _ (c .result-of .ensures) _ refl
 
 result-of-requires-2 : tie.Need-result-of-requires-2
 result-of-requires-2 c κs = omega arith
@@ -73,7 +74,8 @@ returns-4 c =
     let j = s .jobs .now in
     let n = length (s .file .now) in
     let a = length (s .answer .now) in
-    write-told _ _ _ _ NoProcessor (no-processor m j n a (c .before .before .before .before .before .if1 .left) (c .before .before .before .before .if2 .left) (c .before .if5 .taken)) _ (c .result-of2 .ensures) _ refl
+    write-told _ _ _ _ NoProcessor (no-processor m j n a (c .before .before .before .before .before .if1 .left)
+    (c .before .before .before .before .if2 .left) (c .before .if5 .taken)) _ (c .result-of2 .ensures) _ refl
 
 result-of-requires-3 : tie.Need-result-of-requires-3
 result-of-requires-3 c κs = omega arith
@@ -85,7 +87,9 @@ returns-5 c =
     let j = s .jobs .now in
     let n = length (s .file .now) in
     let a = length (s .answer .now) in
-    write-told _ _ _ _ TooManyJobs (many-jobs m j n a (c .before .before .before .before .before .if1 .left) (c .before .before .before .before .if2 .left) (c .before .if5 .left) (c .before .before .before .if3 .left) (c .before .before .if4 .taken)) _ (c .result-of3 .ensures) _ refl
+    write-told _ _ _ _ TooManyJobs (many-jobs m j n a (c .before .before .before .before .before .if1 .left)
+    (c .before .before .before .before .if2 .left) (c .before .if5 .left) (c .before .before .before .if3 .left)
+    (c .before .before .if4 .taken)) _ (c .result-of3 .ensures) _ refl
 
 order-from-requires : tie.Need-order-from-requires
 order-from-requires c κs = search needs
@@ -98,14 +102,16 @@ enum-known-written c = search needs
 
 result-of-requires-4 : tie.Need-result-of-requires-4
 result-of-requires-4 c κs =
-    let s = c .before .before .before .before .before .before .before .before .before .before .before .before .before .before .before .args in
+    let s = c .before .before .before .before .before .before .before .before .before .before .before .before .before .before
+    .before .args in
     let m = s .memories .now in
     let j = s .jobs .now in
     let n = length (s .file .now) in
     let a = length (s .answer .now) in
     let o = orderFrom m j in
     let w = c .before .before .before .before .before .write-order in
-    let t = write-moved (orderOf (c .before .before .before .before .before .before .before .order-from .result)) o (s .file .now) _ (w .result) (c .before .before .before .before .before .before .before .order-from .ensures) (w .ensures) in
+    let t = write-moved (orderOf (c .before .before .before .before .before .before .before .order-from .result)) o (s .file .now) _
+    (w .result) (c .before .before .before .before .before .before .before .order-from .ensures) (w .ensures) in
     let h = writer-refused o (s .file .now) _ (w .result) t (c .before .written .given .0 .0) (c .before .written .given .1) in
     carried-few _ _ (h .0) (write-carries o n)
 
@@ -114,45 +120,60 @@ enum-known-written-2 c = search needs
 
 cast-put-count : tie.Need-cast-put-count
 cast-put-count c =
-    let s = c .before .before .before .before .before .before .before .before .before .before .before .before .before .before .before .before .args in
+    let s = c .before .before .before .before .before .before .before .before .before .before .before .before .before .before .before
+    .before .args in
     let m = s .memories .now in
     let j = s .jobs .now in
     let n = length (s .file .now) in
     let a = length (s .answer .now) in
     let o = orderFrom m j in
     let w = c .before .before .before .before .before .before .write-order in
-    let t = write-moved (orderOf (c .before .before .before .before .before .before .before .before .order-from .result)) o (s .file .now) _ (w .result) (c .before .before .before .before .before .before .before .before .order-from .ensures) (w .ensures) in
-    let h = writer-wrote o (s .file .now) _ (w .result) t (c .before .before .written2 .given .0 .0) (c .before .before .written2 .given .1) in
+    let t = write-moved (orderOf (c .before .before .before .before .before .before .before .before .order-from .result)) o
+    (s .file .now) _ (w .result) (c .before .before .before .before .before .before .before .before .order-from .ensures) (w .ensures) in
+    let h = writer-wrote o (s .file .now) _ (w .result) t (c .before .before .written2 .given .0 .0)
+    (c .before .before .written2 .given .1) in
     omega (arith, h .1, file-few o n (h .0))
 
 put-count-requires : tie.Need-put-count-requires
 put-count-requires c κs =
-    let s = c .before .before .before .before .before .before .before .before .before .before .before .before .before .before .before .before .args in
+    let s = c .before .before .before .before .before .before .before .before .before .before .before .before .before .before .before
+    .before .args in
     let m = s .memories .now in
     let j = s .jobs .now in
     let n = length (s .file .now) in
     let a = length (s .answer .now) in
     let o = orderFrom m j in
     let w = c .before .before .before .before .before .before .write-order in
-    let t = write-moved (orderOf (c .before .before .before .before .before .before .before .before .order-from .result)) o (s .file .now) _ (w .result) (c .before .before .before .before .before .before .before .before .order-from .ensures) (w .ensures) in
-    let h = writer-wrote o (s .file .now) _ (w .result) t (c .before .before .written2 .given .0 .0) (c .before .before .written2 .given .1) in
-    (omega (arith, h .1, file-few o n (h .0)), c .before .before .before .before .before .before .before .before .before .before .before .before .if1 .left)
+    let t = write-moved (orderOf (c .before .before .before .before .before .before .before .before .order-from .result)) o
+    (s .file .now) _ (w .result) (c .before .before .before .before .before .before .before .before .order-from .ensures) (w .ensures) in
+    let h = writer-wrote o (s .file .now) _ (w .result) t (c .before .before .written2 .given .0 .0)
+    (c .before .before .written2 .given .1) in (
+      omega (arith, h .1, file-few o n (h .0)),
+      c .before .before .before .before .before .before .before .before .before .before .before .before .if1 .left,
+    )
 
 same-length : tie.Need-same-length
 same-length c = search needs
 
 returns-6 : tie.Need-returns-6
 returns-6 c =
-    let s = c .before .before .before .before .before .before .before .before .before .before .before .before .before .before .before .before .args in
+    let s = c .before .before .before .before .before .before .before .before .before .before .before .before .before .before .before
+    .before .args in
     let m = s .memories .now in
     let j = s .jobs .now in
     let n = length (s .file .now) in
     let a = length (s .answer .now) in
     let o = orderFrom m j in
     let w = c .before .before .before .before .before .before .write-order in
-    let t = write-moved (orderOf (c .before .before .before .before .before .before .before .before .order-from .result)) o (s .file .now) _ (w .result) (c .before .before .before .before .before .before .before .before .order-from .ensures) (w .ensures) in
-    let h = writer-refused o (s .file .now) _ (w .result) t (c .before .before .written .given .0 .0) (c .before .before .written .given .1) in
-    write-told _ _ _ _ (c .before .before .written .given .0 .0) (writer-decides m j n a (c .before .before .before .before .before .before .before .before .before .before .before .before .if1 .left) (c .before .before .before .before .before .before .before .before .before .before .before .if2 .left) ∙ h .0) _ (c .result-of4 .ensures) _ (h .1)
+    let t = write-moved (orderOf (c .before .before .before .before .before .before .before .before .order-from .result)) o
+    (s .file .now) _ (w .result) (c .before .before .before .before .before .before .before .before .order-from .ensures) (w .ensures) in
+    let h = writer-refused o (s .file .now) _ (w .result) t (c .before .before .written .given .0 .0)
+    (c .before .before .written .given .1) in
+    write-told _ _ _ _ (c .before .before .written .given .0 .0)
+    (writer-decides m j n a
+    (c .before .before .before .before .before .before .before .before .before .before .before .before .if1 .left)
+    (c .before .before .before .before .before .before .before .before .before .before .before .if2 .left) ∙ h .0) _
+    (c .result-of4 .ensures) _ (h .1)
 
 same-length-2 : tie.Need-same-length-2
 same-length-2 c = search needs
@@ -162,16 +183,22 @@ same-length-3 c = search needs
 
 returns-7 : tie.Need-returns-7
 returns-7 c =
-    let s = c .before .before .before .before .before .before .before .before .before .before .before .before .before .before .before .before .before .before .args in
+    let s = c .before .before .before .before .before .before .before .before .before .before .before .before .before .before .before
+    .before .before .before .args in
     let m = s .memories .now in
     let j = s .jobs .now in
     let n = length (s .file .now) in
     let a = length (s .answer .now) in
     let o = orderFrom m j in
     let w = c .before .before .before .before .before .before .before .before .write-order in
-    let t = write-moved (orderOf (c .before .before .before .before .before .before .before .before .before .before .order-from .result)) o (s .file .now) _ (w .result) (c .before .before .before .before .before .before .before .before .before .before .order-from .ensures) (w .ensures) in
-    let h = writer-wrote o (s .file .now) _ (w .result) t (c .before .before .before .before .written2 .given .0 .0) (c .before .before .before .before .written2 .given .1) in
-    let d = writer-decides m j n a (c .before .before .before .before .before .before .before .before .before .before .before .before .before .before .if1 .left) (c .before .before .before .before .before .before .before .before .before .before .before .before .before .if2 .left) in
+    let t = write-moved
+    (orderOf (c .before .before .before .before .before .before .before .before .before .before .order-from .result)) o (s .file .now) _
+    (w .result) (c .before .before .before .before .before .before .before .before .before .before .order-from .ensures) (w .ensures) in
+    let h = writer-wrote o (s .file .now) _ (w .result) t (c .before .before .before .before .written2 .given .0 .0)
+    (c .before .before .before .before .written2 .given .1) in
+    let d = writer-decides m j n a
+    (c .before .before .before .before .before .before .before .before .before .before .before .before .before .before .if1 .left)
+    (c .before .before .before .before .before .before .before .before .before .before .before .before .before .if2 .left) in
     write-done _ _ _ _ _ d (h .0) _ (h .2) (h .3) _
     (c .before .put-count .ensures ∙ ap (λ (k : ℕ). pos k ∷ drop 1 (s .answer .now)) (h .1))
 

@@ -95,7 +95,8 @@ loop-again c =
     let s = c .before .before .before .before .before .before .before .before .before .before .before .before in
     let l = c .before .before .before .before .before .before .before .loop in
     let z : length (s .args .t3) ≡ 48 = search needs in
-    stretching-more (l .inv) (omega arith) (s .pre .7) (c .before .before .before .before .before .before .loop-test .taken) (s .pre .8) (c .before .before .lay-share .ensures)
+    stretching-more (l .inv) (omega arith) (s .pre .7) (c .before .before .before .before .before .before .loop-test .taken) (s .pre .8)
+    (c .before .before .lay-share .ensures)
 
 none : {m : ℕ} → m ≤ 0 → m ≡ 0
 none h = omega arith

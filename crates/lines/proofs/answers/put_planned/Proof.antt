@@ -36,8 +36,10 @@ returns : tie.Need-returns
 unfolding meetsLine
 returns c =
     let a = c .before .before .before .before .before .before .before .before .before .args .answer in
-    let q = c .before .before .put-bytes .ensures in
-    (put-as (ap (λ (p : Planned). plannedLine p (a .dues)) (sym (c .before .before .before .before .before .enum-told .given .1))) q, omega arith)
+    let q = c .before .before .put-bytes .ensures in (
+      put-as (ap (λ (p : Planned). plannedLine p (a .dues)) (sym (c .before .before .before .before .before .enum-told .given .1))) q,
+      omega arith,
+    )
 
 same-length-2 : tie.Need-same-length-2
 same-length-2 c = search needs
@@ -45,8 +47,10 @@ same-length-2 c = search needs
 returns-2 : tie.Need-returns-2
 returns-2 c =
     let a = c .before .before .before .before .before .before .before .before .before .args .answer in
-    let q = c .before .before .put-tight .ensures in
-    (put-as (ap (λ (p : Planned). plannedLine p (a .dues)) (sym (c .before .before .before .before .before .planned .given .1))) (q .0), omega arith)
+    let q = c .before .before .put-tight .ensures in (
+      put-as (ap (λ (p : Planned). plannedLine p (a .dues)) (sym (c .before .before .before .before .before .planned .given .1))) (q .0),
+      omega arith,
+    )
 
 same-length-3 : tie.Need-same-length-3
 same-length-3 c = search needs
@@ -54,8 +58,11 @@ same-length-3 c = search needs
 returns-3 : tie.Need-returns-3
 returns-3 c =
     let a = c .before .before .before .before .before .before .before .before .before .args .answer in
-    let q = c .before .before .put-refused .ensures in
-    (put-as (ap (λ (p : Planned). plannedLine p (a .dues)) (sym (c .before .before .before .before .before .planned2 .given .1))) (q .0), omega arith)
+    let q = c .before .before .put-refused .ensures in (
+      put-as (ap (λ (p : Planned). plannedLine p (a .dues)) (sym (c .before .before .before .before .before .planned2 .given .1)))
+          (q .0),
+      omega arith,
+    )
 
 pub put-planned-spec : {M : Type 1} → statement M
 put-planned-spec =

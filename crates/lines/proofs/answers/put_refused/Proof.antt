@@ -37,9 +37,13 @@ same-length c = search needs
 returns : tie.Need-returns
 unfolding refusedLine
 returns c =
-    let p1 = c .before .before .before .before .before .before .before .before .before .before .before .before .before .before .before .before .before .put-bytes .ensures in
-    let p2 = put-as (ap number (c .before .before .before .before .before .before .before .before .before .before .before .before .before .number-of .ensures .0)) (c .before .before .before .before .before .before .before .before .before .before .before .before .put-number .ensures .0) in
-    let p3 = put-as (ap number (c .before .before .before .before .before .before .before .before .carried-of .ensures)) (c .before .before .before .before .before .before .before .put-number2 .ensures .0) in
+    let p1 = c .before .before .before .before .before .before .before .before .before .before .before .before .before .before .before
+    .before .before .put-bytes .ensures in
+    let p2 = put-as (ap number
+    (c .before .before .before .before .before .before .before .before .before .before .before .before .before .number-of .ensures .0))
+    (c .before .before .before .before .before .before .before .before .before .before .before .before .put-number .ensures .0) in
+    let p3 = put-as (ap number (c .before .before .before .before .before .before .before .before .carried-of .ensures))
+    (c .before .before .before .before .before .before .before .put-number2 .ensures .0) in
     let p4 = c .before .before .put-bytes2 .ensures in
     (put-both p1 (put-both p2 (put-both p3 p4)), omega arith)
 

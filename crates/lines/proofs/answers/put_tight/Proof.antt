@@ -26,8 +26,11 @@ same-length c = search needs
 returns : tie.Need-returns
 returns c =
     let s = c .before .before .before .before .before .before .before .before in
-    let q = c .before .before .put-job .ensures in
-    (put-as (ap (λ (r : Reason). tightLine (reasonTold r (s .args .dues))) (sym (c .before .before .before .before .before .reason .given .1))) (q .0), omega arith)
+    let q = c .before .before .put-job .ensures in (
+      put-as (ap (λ (r : Reason). tightLine (reasonTold r (s .args .dues)))
+          (sym (c .before .before .before .before .before .reason .given .1))) (q .0),
+      omega arith,
+    )
 
 same-length-2 : tie.Need-same-length-2
 same-length-2 c = search needs
@@ -35,8 +38,11 @@ same-length-2 c = search needs
 returns-2 : tie.Need-returns-2
 returns-2 c =
     let s = c .before .before .before .before .before .before .before .before in
-    let q = c .before .before .put-stairs .ensures in
-    (put-as (ap (λ (r : Reason). tightLine (reasonTold r (s .args .dues))) (sym (c .before .before .before .before .before .reason2 .given .1))) (q .0), omega arith)
+    let q = c .before .before .put-stairs .ensures in (
+      put-as (ap (λ (r : Reason). tightLine (reasonTold r (s .args .dues)))
+          (sym (c .before .before .before .before .before .reason2 .given .1))) (q .0),
+      omega arith,
+    )
 
 pub put-tight-spec : {M : Type 1} → statement M
 put-tight-spec =

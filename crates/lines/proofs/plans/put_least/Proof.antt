@@ -32,7 +32,8 @@ unfolding leastLine
 returns c =
     let p1 = c .before .before .before .before .before .before .before .before .before .before .before .put-bytes .ensures in
     let s = c .before .before .before .before .before .before .before .before .before .before .before .before .before .before .before in
-    let p2 = put-as (ap signedNumber (toZ-ofZ w32 (s .args .lateness) (s .fits .lateness))) (c .before .before .before .before .before .before .before .put-signed .ensures .0) in
+    let p2 = put-as (ap signedNumber (toZ-ofZ w32 (s .args .lateness) (s .fits .lateness)))
+    (c .before .before .before .before .before .before .before .put-signed .ensures .0) in
     let p3 = c .before .before .put-bytes2 .ensures in
     (put-both p1 (put-both p2 p3), omega arith)
 

@@ -26,9 +26,11 @@ returns : tie.Need-returns
 unfolding planLines
 returns c =
     let s = c .before .before .before .before .before .before .before .before .before .before .before .before .before .before in
-    let p1 = put-as (ap leastLine (toZ-ofZ w32 (s .args .lateness) (s .fits .lateness))) (c .before .before .before .before .before .before .before .before .before .before .put-least .ensures .0) in
+    let p1 = put-as (ap leastLine (toZ-ofZ w32 (s .args .lateness) (s .fits .lateness)))
+    (c .before .before .before .before .before .before .before .before .before .before .put-least .ensures .0) in
     let p2 = c .before .before .before .before .before .before .put-rows .ensures .0 in
-    let p3 = put-as (ap endLine (sym (length-tabulate (s .args .count) (rowAt (s .args .rows .now))))) (c .before .before .put-end .ensures .0) in
+    let p3 = put-as (ap endLine (sym (length-tabulate (s .args .count) (rowAt (s .args .rows .now)))))
+    (c .before .before .put-end .ensures .0) in
     (put-both p1 (put-both p2 p3), omega arith)
 
 pub put-plan-spec : {M : Type 1} → statement M

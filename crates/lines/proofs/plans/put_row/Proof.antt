@@ -35,9 +35,12 @@ same-length c = search needs
 returns : tie.Need-returns
 unfolding pieceLine
 returns c =
-    let p1 = c .before .before .before .before .before .before .before .before .before .before .before .before .before .before .before .before .before .before .before .before .before .before .before .put-bytes .ensures in
-    let p2 = c .before .before .before .before .before .before .before .before .before .before .before .before .before .before .before .before .before .before .before .put-number .ensures .0 in
-    let p3 = c .before .before .before .before .before .before .before .before .before .before .before .before .before .before .before .put-number2 .ensures .0 in
+    let p1 = c .before .before .before .before .before .before .before .before .before .before .before .before .before .before .before
+    .before .before .before .before .before .before .before .before .put-bytes .ensures in
+    let p2 = c .before .before .before .before .before .before .before .before .before .before .before .before .before .before .before
+    .before .before .before .before .put-number .ensures .0 in
+    let p3 = c .before .before .before .before .before .before .before .before .before .before .before .before .before .before
+    .before .put-number2 .ensures .0 in
     let p4 = c .before .before .before .before .before .before .before .before .before .before .before .put-number3 .ensures .0 in
     let p5 = c .before .before .before .before .before .before .before .put-number4 .ensures .0 in
     let p6 = c .before .before .put-bytes2 .ensures in

@@ -5,7 +5,18 @@ use Rattle.profile.specs.LeastRange.{least-in-range}
 use Rattle.planner.specs.LeastRead.{read-least}
 use Rattle.order.specs.Table.{orderOf}
 use Rattle.planner.specs.RowLaws.{written-few}
-use Rattle.lines.proofs.Told.{blank, blank-size, refused-text, refused-true, accepted-false, written-room, least-told, least-written, plan-text, plan-order-text}
+use Rattle.lines.proofs.Told.{
+  blank,
+  blank-size,
+  refused-text,
+  refused-true,
+  accepted-false,
+  written-room,
+  least-told,
+  least-written,
+  plan-text,
+  plan-order-text,
+}
 use Rattle.lines.proofs.programs.least_output.Statement.{statement}
 use Rattle.lines.proofs.programs.least_output.Tie as tie
 
@@ -44,7 +55,8 @@ returns c =
     let o = orderOf (s .args .order) in
     let l = c .before .before .before .before .before .before .before .before .least-lateness in
     let why = c .before .before .before .before .before .least .given .0 .0 in
-    let v = least-told o blank _ _ (l .ensures .0, l .ensures .1 .1) blank-size why (c .before .before .before .before .before .least .given .1) in
+    let v = least-told o blank _ _ (l .ensures .0, l .ensures .1 .1) blank-size why
+    (c .before .before .before .before .before .least .given .1) in
     let q = c .before .before .put-refused .ensures in (
       record { text = _; text-is = refused-text _ o why v; put = q .0; told = refused-true _ why v },
       omega (arith, q .1),
@@ -58,11 +70,13 @@ returns-2 c =
     let s = c .before .before .before .before .before .before .before .before .before .before .before .before in
     let o = orderOf (s .args .order) in
     let l = c .before .before .before .before .before .before .before .before .before .least-lateness in
-    let h = least-written o blank _ _ (l .ensures .0, l .ensures .1 .1) blank-size _ _ (c .before .before .before .before .before .before .least2 .given .1) in
+    let h = least-written o blank _ _ (l .ensures .0, l .ensures .1 .1) blank-size _ _
+    (c .before .before .before .before .before .before .least2 .given .1) in
     let q = c .before .before .put-plan .ensures in (
       record {
         text = _;
-        text-is = plan-order-text _ o _ (h .0) (plan-text o blank _ _ _ (read-least _ (leastLateness o) (h .1) (least-in-range o (s .pre .0))) (h .2));
+        text-is = plan-order-text _ o _ (h .0) (plan-text o blank _ _ _
+            (read-least _ (leastLateness o) (h .1) (least-in-range o (s .pre .0))) (h .2));
         put = q .0;
         told = accepted-false _ (h .0);
       },

@@ -55,14 +55,18 @@ same-length-2 c = search needs
 returns-2 : tie.Need-returns-2
 unfolding tryBoundRows
 returns-2 c =
-    let input = c .before .before .before .before .before .before .before .before .before .before .before .before .before .before .args .input .now in
+    let input = c .before .before .before .before .before .before .before .before .before .before .before .before .before
+    .before .args .input .now in
     let f = drop 4 input in
     let r = c .before .before .before .before .before .before .before .read-order in
     let why = c .before .before .before .before .before .status .given .0 .0 in
     let q = c .before .before .put-refused2 .ensures in
     let v = file-refused f (r .result) (read-part input (r .result) (r .ensures .0)) (planRows (orderIn f) (boundIn input) 12096) _
     (plan-begins (orderIn f) (boundIn input) 12096) why (c .before .before .before .before .before .status .given .1) in
-    let t = tried-refused input (omega (arith, c .before .before .before .before .before .before .before .before .before .before .before .if1 .left)) why v in
+    let t = tried-refused input (omega (
+      arith,
+      c .before .before .before .before .before .before .before .before .before .before .before .if1 .left,
+    )) why v in
     ((put-as (t .1) (q .0), refused-true _ why (t .0)), omega (arith, q .1))
 
 enum-told : tie.Need-enum-told
@@ -77,15 +81,21 @@ same-length-3 c = search needs
 returns-3 : tie.Need-returns-3
 unfolding tryBoundRows
 returns-3 c =
-    let input = c .before .before .before .before .before .before .before .before .before .before .before .before .before .args .input .now in
+    let input = c .before .before .before .before .before .before .before .before .before .before .before .before
+    .before .args .input .now in
     let f = drop 4 input in
     let r = c .before .before .before .before .before .before .read-order in
     let ok = c .before .before .before .before .enum-told .given .1 in
     let q = c .before .before .bound-output .ensures in
     let v = file-read f (r .result) (read-part input (r .result) (r .ensures .0)) (planRows (orderIn f) (boundIn input) 12096) ok in
     let raw = c .before .before .before .before .before .before .before .before .before .read4 in
-    let b = bound-read input (raw .result) _ (omega arith) (raw .ensures) (c .before .before .before .before .before .before .before .before .to-signed .ensures) in
-    (tried-moved input (omega (arith, c .before .before .before .before .before .before .before .before .before .before .if1 .left)) _ _ _ _ _ (order-is f (r .result) (read-part input (r .result) (r .ensures .0)) ok) b v (q .0), q .1)
+    let b = bound-read input (raw .result) _ (omega arith) (raw .ensures)
+    (c .before .before .before .before .before .before .before .before .to-signed .ensures) in (
+      tried-moved input
+          (omega (arith, c .before .before .before .before .before .before .before .before .before .before .if1 .left)) _ _ _ _ _
+          (order-is f (r .result) (read-part input (r .result) (r .ensures .0)) ok) b v (q .0),
+      q .1,
+    )
 
 pub tried-output-spec : {M : Type 1} → statement M
 tried-output-spec =

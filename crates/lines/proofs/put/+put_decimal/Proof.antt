@@ -48,7 +48,8 @@ put-decimal-returns : (t : ℕ) → put-decimal-lts.Need-returns (
   put-decimal-below t,
   put-decimal.Post,
 ) (put-decimal-at t) put-decimal.Post
-put-decimal-returns t c = put-as (sym (decimal-digit _ (c .before .before .before .before .if1 .taken))) (c .before .before .put-digit .ensures)
+put-decimal-returns t c = put-as (sym (decimal-digit _ (c .before .before .before .before .if1 .taken)))
+    (c .before .before .put-digit .ensures)
 
 put-decimal-put-decimal-requires : (t : ℕ) → put-decimal-lts.Need-put-decimal-requires (
   put-digit-reads.Asked,
@@ -68,8 +69,17 @@ put-decimal-put-digit-requires-2 : (t : ℕ) → put-decimal-lts.Need-put-digit-
 ) (put-decimal-at t) put-decimal.Post
 put-decimal-put-digit-requires-2 t c κs =
     let s = c .before .before .before .before .before .before .before in
-    let p = c .before .before .before .put-decimal .ensures in
-    (omega arith, omega (arith, s .pre .1, p .next-is, p .same-length, decimal-longer (s .args .n) (c .before .before .before .before .before .if1 .left)))
+    let p = c .before .before .before .put-decimal .ensures in (
+      omega arith,
+      omega (
+        arith,
+        s .pre .1,
+        p .next-is,
+        p .same-length,
+        decimal-longer (s .args .n)
+            (c .before .before .before .before .before .if1 .left),
+      ),
+    )
 
 put-decimal-same-length-2 : (t : ℕ) → put-decimal-lts.Need-same-length-2 (
   put-digit-reads.Asked,
@@ -86,7 +96,8 @@ put-decimal-returns-2 : (t : ℕ) → put-decimal-lts.Need-returns-2 (
   put-decimal.Post,
 ) (put-decimal-at t) put-decimal.Post
 put-decimal-returns-2 t c =
-    put-as (sym (decimal-more _ (c .before .before .before .before .before .before .before .before .if1 .left))) (put-both (c .before .before .before .before .before .before .put-decimal .ensures) (c .before .before .put-digit2 .ensures))
+    put-as (sym (decimal-more _ (c .before .before .before .before .before .before .before .before .if1 .left)))
+    (put-both (c .before .before .before .before .before .before .put-decimal .ensures) (c .before .before .put-digit2 .ensures))
 
 pub +put-decimal-spec : {M : Type 1} → statement M
 +put-decimal-spec = close μ-put-decimal λ t. put-decimal-lts.spec (

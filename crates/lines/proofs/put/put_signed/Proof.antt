@@ -41,7 +41,13 @@ add-put-decimal c = search needs
 put-decimal-requires : tie.Need-put-decimal-requires
 put-decimal-requires c κs =
     let p = c .before .before .before .put-bytes .ensures in
-    omega (arith, p .next-is, p .same-length, decimal-short (4294967295 - c .before .before .before .before .before .before .before .to-pattern .result + 1) (omega arith))
+    omega (
+      arith,
+      p .next-is,
+      p .same-length,
+      decimal-short
+          (4294967295 - c .before .before .before .before .before .before .before .to-pattern .result + 1) (omega arith),
+    )
 
 same-length-2 : tie.Need-same-length-2
 same-length-2 c = search needs
@@ -49,10 +55,21 @@ same-length-2 c = search needs
 returns-2 : tie.Need-returns-2
 returns-2 c =
     let s = c .before .before .before .before .before .before .before .before .before .before .before .before in
-    let e = c .before .before .before .before .before .before .before .before .before .before .to-pattern .ensures ∙ ap pattern (toZ-ofZ w32 (s .args .n) (s .fits .n)) in
+    let e = c .before .before .before .before .before .before .before .before .before .before .to-pattern .ensures ∙ ap pattern
+    (toZ-ofZ w32 (s .args .n) (s .fits .n)) in
     let p = c .before .before .before .before .before .before .put-bytes .ensures in
-    let q = c .before .before .put-decimal .ensures in
-    (put-as (signed-negative (s .args .n) (s .fits .n) _ e (c .before .before .before .before .before .before .before .before .before .if1 .left)) (put-both p q), omega (arith, p .next-is, q .next-is, decimal-short (4294967295 - c .before .before .before .before .before .before .before .before .before .before .to-pattern .result + 1) (omega arith)))
+    let q = c .before .before .put-decimal .ensures in (
+      put-as (signed-negative (s .args .n) (s .fits .n) _ e
+          (c .before .before .before .before .before .before .before .before .before .if1 .left)) (put-both p q),
+      omega (
+        arith,
+        p .next-is,
+        q .next-is,
+        decimal-short
+            (4294967295 - c .before .before .before .before .before .before .before .before .before .before .to-pattern .result + 1)
+            (omega arith),
+      ),
+    )
 
 pub put-signed-spec : {M : Type 1} → statement M
 put-signed-spec =

@@ -25,25 +25,43 @@ returns : tie.Need-returns
 returns c = counts-refuse (c .before .before .before .args .order) _ (c .before .before .accept-counts .ensures) _ (c .enum-told2 .given .1)
 
 first-bad-time-requires : tie.Need-first-bad-time-requires
-first-bad-time-requires c κs = counts-few (c .before .before .before .args .order) _ (c .before .before .accept-counts .ensures) (c .enum-told .given .1) .1
+first-bad-time-requires c κs = counts-few (c .before .before .before .args .order) _ (c .before .before .accept-counts .ensures)
+    (c .enum-told .given .1) .1
 
 returns-2 : tie.Need-returns-2
-returns-2 c = sym (jobs-decide (c .before .before .before .before .before .args .order) _ (c .before .before .before .before .accept-counts .ensures) (c .before .before .enum-told .given .1) ∙ time-refused (orderOf (c .before .before .before .before .before .args .order)) _ 0 0 (c .before .first-bad-time .ensures) (c .if1 .taken))
+returns-2 c = sym (jobs-decide (c .before .before .before .before .before .args .order) _
+    (c .before .before .before .before .accept-counts .ensures) (c .before .before .enum-told .given .1) ∙ time-refused
+    (orderOf (c .before .before .before .before .before .args .order)) _ 0 0 (c .before .first-bad-time .ensures) (c .if1 .taken))
 
 first-bad-due-requires : tie.Need-first-bad-due-requires
-first-bad-due-requires c κs = counts-few (c .before .before .before .before .before .args .order) _ (c .before .before .before .before .accept-counts .ensures) (c .before .before .enum-told .given .1) .1
+first-bad-due-requires c κs = counts-few (c .before .before .before .before .before .args .order) _
+    (c .before .before .before .before .accept-counts .ensures) (c .before .before .enum-told .given .1) .1
 
 returns-3 : tie.Need-returns-3
-returns-3 c = sym (jobs-decide (c .before .before .before .before .before .before .before .args .order) _ (c .before .before .before .before .before .before .accept-counts .ensures) (c .before .before .before .before .enum-told .given .1) ∙ due-refused (orderOf (c .before .before .before .before .before .before .before .args .order)) _ _ 0 (c .before .before .before .first-bad-time .ensures) (c .before .before .if1 .left) (c .before .first-bad-due .ensures) (c .if2 .taken))
+returns-3 c = sym (jobs-decide (c .before .before .before .before .before .before .before .args .order) _
+    (c .before .before .before .before .before .before .accept-counts .ensures) (c .before .before .before .before .enum-told .given .1)
+    ∙ due-refused (orderOf (c .before .before .before .before .before .before .before .args .order)) _ _ 0
+    (c .before .before .before .first-bad-time .ensures) (c .before .before .if1 .left) (c .before .first-bad-due .ensures) (c .if2 .taken))
 
 first-unfit-requires : tie.Need-first-unfit-requires
-first-unfit-requires c κs = counts-few (c .before .before .before .before .before .before .before .args .order) _ (c .before .before .before .before .before .before .accept-counts .ensures) (c .before .before .before .before .enum-told .given .1)
+first-unfit-requires c κs = counts-few (c .before .before .before .before .before .before .before .args .order) _
+    (c .before .before .before .before .before .before .accept-counts .ensures) (c .before .before .before .before .enum-told .given .1)
 
 returns-4 : tie.Need-returns-4
-returns-4 c = sym (jobs-decide (c .before .before .before .before .before .before .before .before .before .args .order) _ (c .before .before .before .before .before .before .before .before .accept-counts .ensures) (c .before .before .before .before .before .before .enum-told .given .1) ∙ need-refused (orderOf (c .before .before .before .before .before .before .before .before .before .args .order)) _ _ _ (c .before .before .before .before .before .first-bad-time .ensures) (c .before .before .before .before .if1 .left) (c .before .before .before .first-bad-due .ensures) (c .before .before .if2 .left) (c .before .first-unfit .ensures) (c .if3 .taken))
+returns-4 c = sym (jobs-decide (c .before .before .before .before .before .before .before .before .before .args .order) _
+    (c .before .before .before .before .before .before .before .before .accept-counts .ensures)
+    (c .before .before .before .before .before .before .enum-told .given .1) ∙ need-refused
+    (orderOf (c .before .before .before .before .before .before .before .before .before .args .order)) _ _ _
+    (c .before .before .before .before .before .first-bad-time .ensures) (c .before .before .before .before .if1 .left)
+    (c .before .before .before .first-bad-due .ensures) (c .before .before .if2 .left) (c .before .first-unfit .ensures) (c .if3 .taken))
 
 returns-5 : tie.Need-returns-5
-returns-5 c = sym (jobs-decide (c .before .before .before .before .before .before .before .before .before .args .order) _ (c .before .before .before .before .before .before .before .before .accept-counts .ensures) (c .before .before .before .before .before .before .enum-told .given .1) ∙ all-accepted (orderOf (c .before .before .before .before .before .before .before .before .before .args .order)) _ _ _ (c .before .before .before .before .before .first-bad-time .ensures) (c .before .before .before .before .if1 .left) (c .before .before .before .first-bad-due .ensures) (c .before .before .if2 .left) (c .before .first-unfit .ensures) (c .if3 .left))
+returns-5 c = sym (jobs-decide (c .before .before .before .before .before .before .before .before .before .args .order) _
+    (c .before .before .before .before .before .before .before .before .accept-counts .ensures)
+    (c .before .before .before .before .before .before .enum-told .given .1) ∙ all-accepted
+    (orderOf (c .before .before .before .before .before .before .before .before .before .args .order)) _ _ _
+    (c .before .before .before .before .before .first-bad-time .ensures) (c .before .before .before .before .if1 .left)
+    (c .before .before .before .first-bad-due .ensures) (c .before .before .if2 .left) (c .before .first-unfit .ensures) (c .if3 .left))
 
 pub accept-spec : {M : Type 1} → statement M
 accept-spec =

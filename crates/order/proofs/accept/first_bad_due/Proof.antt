@@ -4,7 +4,17 @@ use Rattle.order.proofs.Signed.{read-back}
 use borrow.Author.Count.{below-none, below-more}
 use mathlib.Core.Path.{sym, ap, _∙_}
 use borrow.Author.Tests.{lt-leb}
-use Rattle.order.proofs.Ranges.{job-found, no-job-found, processor-found, no-processor-found, time-low, time-high, time-good, not-of, not-of-false}
+use Rattle.order.proofs.Ranges.{
+  job-found,
+  no-job-found,
+  processor-found,
+  no-processor-found,
+  time-low,
+  time-high,
+  time-good,
+  not-of,
+  not-of-false,
+}
 use Prim.Native.Nat.{ℕ, _≤_, _<_, _-_}
 use mathlib.Core.Path.{_≡_}
 use mathlib.Core.Bool.{true, false, not}
@@ -49,7 +59,9 @@ returns : tie.Need-returns Inv-loop μ-loop
 returns c =
     let l = c .before .before .before .before .loop in
     let o = c .before .before .before .before .before .args .t1 in
-    job-found _ o (l .j) (l .inv .1) (omega arith) (not-of-false _ _ (c .before .due-in-range .ensures ∙ ap dueInRange (read-back (getD (o .dues) (l .j) (pos 0)) (c .before .before .due-in-range-arg .given))) (c .if1 .taken))
+    job-found _ o (l .j) (l .inv .1) (omega arith)
+    (not-of-false _ _ (c .before .due-in-range .ensures ∙ ap dueInRange
+    (read-back (getD (o .dues) (l .j) (pos 0)) (c .before .before .due-in-range-arg .given))) (c .if1 .taken))
 
 loop-less : tie.Need-loop-less Inv-loop μ-loop
 loop-less c = search needs
@@ -57,8 +69,12 @@ loop-less c = search needs
 loop-again : tie.Need-loop-again Inv-loop μ-loop
 loop-again c =
     let l = c .before .before .before .before .loop in
-    let o = c .before .before .before .before .before .args .t1 in
-    (search needs, below-more _ _ (l .inv .1) (not-of _ _ (c .before .due-in-range .ensures ∙ ap dueInRange (read-back (getD (o .dues) (l .j) (pos 0)) (c .before .before .due-in-range-arg .given))) (c .if1 .left)))
+    let o = c .before .before .before .before .before .args .t1 in (
+      search needs,
+      below-more _ _ (l .inv .1)
+          (not-of _ _ (c .before .due-in-range .ensures ∙ ap dueInRange
+          (read-back (getD (o .dues) (l .j) (pos 0)) (c .before .before .due-in-range-arg .given))) (c .if1 .left)),
+    )
 
 returns-2 : tie.Need-returns-2 Inv-loop μ-loop
 returns-2 c =

@@ -76,7 +76,8 @@ returns-3 c =
     let n = length (s .args .rows .now) in
     let e = toZ-ofZ w32 (s .args .bound) (s .fits .bound) in
     let j = c .before .before .before .before .before .before .before .before .judge-bound in
-    rows-ensured o (s .args .bound) n _ (judged-at e (j .ensures)) (c .before .before .before .before .enum-told .given .1) (s .args .rows .now) _ _
+    rows-ensured o (s .args .bound) n _ (judged-at e (j .ensures)) (c .before .before .before .before .enum-told .given .1)
+    (s .args .rows .now) _ _
     (written-at e (c .before .before .make-plan .ensures .0))
 
 pub plan-at-spec : {M : Type 1} → statement M

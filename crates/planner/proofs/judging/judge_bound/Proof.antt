@@ -47,7 +47,8 @@ returns c =
     let e = toZ-ofZ w32 (s .args .bound) (s .fits .bound) in
     let rf = c .before .before .refusal .given .0 .0 in
     refused-judged o (s .args .bound) (s .args .lent) rf
-    (refused-first o (s .args .bound) (s .args .lent) rf (order-refused o _ _ (c .before .before .before .before .accept .ensures) (c .before .before .refusal .given .1)))
+    (refused-first o (s .args .bound) (s .args .lent) rf
+    (order-refused o _ _ (c .before .before .before .before .accept .ensures) (c .before .before .refusal .given .1)))
     _ (c .refuse .ensures .0) (c .refuse .ensures .1)
 
 enum-told : tie.Need-enum-told
@@ -64,19 +65,24 @@ returns-2 c =
     let s = c .before .before .before .before .before .before in
     let o = orderOf (s .args .order) in
     let e = toZ-ofZ w32 (s .args .bound) (s .fits .bound) in
-    let ok = order-accepted o _ (c .before .before .before .before .before .accept .ensures) (c .before .before .before .enum-told .given .1) in
+    let ok = order-accepted o _ (c .before .before .before .before .before .accept .ensures)
+    (c .before .before .before .enum-told .given .1) in
     refused-judged o (s .args .bound) (s .args .lent) BoundOutOfRange
-    (refused-8 o (s .args .bound) (s .args .lent) ok (out-of-range _ _ e _ (c .before .before .bound-in-range .ensures) (c .before .if1 .taken)))
+    (refused-8 o (s .args .bound) (s .args .lent) ok
+    (out-of-range _ _ e _ (c .before .before .bound-in-range .ensures) (c .before .if1 .taken)))
     _ (c .refuse2 .ensures .0) (c .refuse2 .ensures .1)
 
 setting-of-requires : tie.Need-setting-of-requires
 setting-of-requires c κs =
-    order-accepted (orderOf (c .before .before .before .before .before .args .order)) _ (c .before .before .before .before .accept .ensures) (c .before .before .enum-told .given .1)
+    order-accepted (orderOf (c .before .before .before .before .before .args .order)) _
+    (c .before .before .before .before .accept .ensures) (c .before .before .enum-told .given .1)
 
 is-short-requires : tie.Need-is-short-requires
 is-short-requires c κs =
-    let o = orderOf (c .before .before .before .before .before .before .args .order) in
-    (order-accepted o _ (c .before .before .before .before .before .accept .ensures) (c .before .before .before .enum-told .given .1), stretches-counted o _ (c .setting-of .ensures .grid))
+    let o = orderOf (c .before .before .before .before .before .before .args .order) in (
+      order-accepted o _ (c .before .before .before .before .before .accept .ensures) (c .before .before .before .enum-told .given .1),
+      stretches-counted o _ (c .setting-of .ensures .grid),
+    )
 
 refuse-requires-3 : tie.Need-refuse-requires-3
 refuse-requires-3 c κs = search needs
@@ -86,10 +92,13 @@ returns-3 c =
     let s = c .before .before .before .before .before .before .before .before .before in
     let o = orderOf (s .args .order) in
     let e = toZ-ofZ w32 (s .args .bound) (s .fits .bound) in
-    let ok = order-accepted o _ (c .before .before .before .before .before .before .before .before .accept .ensures) (c .before .before .before .before .before .before .enum-told .given .1) in
-    let in-range = within-range _ _ e _ (c .before .before .before .before .before .bound-in-range .ensures) (c .before .before .before .before .if1 .left) in
+    let ok = order-accepted o _ (c .before .before .before .before .before .before .before .before .accept .ensures)
+    (c .before .before .before .before .before .before .enum-told .given .1) in
+    let in-range = within-range _ _ e _ (c .before .before .before .before .before .bound-in-range .ensures)
+    (c .before .before .before .before .if1 .left) in
     refused-judged o (s .args .bound) (s .args .lent) BufferTooShort
-    (refused-9 o (s .args .bound) (s .args .lent) ok in-range (ltb-true _ _ (sym (c .before .before .is-short .ensures) ∙ c .before .if2 .taken)))
+    (refused-9 o (s .args .bound) (s .args .lent) ok in-range
+    (ltb-true _ _ (sym (c .before .before .is-short .ensures) ∙ c .before .if2 .taken)))
     _ (c .refuse3 .ensures .0) (c .refuse3 .ensures .1)
 
 deadline-requires : tie.Need-deadline-requires
@@ -103,10 +112,15 @@ tell-requires c κs =
     let s = c .before .before .before .before .before .before .before .before .before in
     let o = orderOf (s .args .order) in
     let e = toZ-ofZ w32 (s .args .bound) (s .fits .bound) in
-    let ok = order-accepted o _ (c .before .before .before .before .before .before .before .before .accept .ensures) (c .before .before .before .before .before .before .enum-told .given .1) in
+    let ok = order-accepted o _ (c .before .before .before .before .before .before .before .before .accept .ensures)
+    (c .before .before .before .before .before .before .enum-told .given .1) in
     let reach = c .deadline .ensures ∙ ap (λ (z : ℤ). cut (pos 1000000 +ℤ z)) e in
-    let in-range = within-range _ _ e _ (c .before .before .before .before .before .bound-in-range .ensures) (c .before .before .before .before .if1 .left) in
-    (fine-of o _ (c .before .before .before .setting-of .ensures) (accepted-iff o .0 ok), omega (arith, reach, reach-most (s .args .bound) in-range))
+    let in-range = within-range _ _ e _ (c .before .before .before .before .before .bound-in-range .ensures)
+    (c .before .before .before .before .if1 .left) in (
+      fine-of o _ (c .before .before .before .setting-of .ensures) (accepted-iff o .0 ok),
+      omega
+          (arith, reach, reach-most (s .args .bound) in-range),
+    )
 
 enum-known-tightness : tie.Need-enum-known-tightness
 enum-known-tightness c = search needs
@@ -119,11 +133,18 @@ returns-4 c =
     let s = c .before .before .before .before .before .before .before .before .before .before .before .before .before .before in
     let o = orderOf (s .args .order) in
     let e = toZ-ofZ w32 (s .args .bound) (s .fits .bound) in
-    let ok = order-accepted o _ (c .before .before .before .before .before .before .before .before .before .before .before .before .before .accept .ensures) (c .before .before .before .before .before .before .before .before .before .before .before .enum-told .given .1) in
+    let ok = order-accepted o _
+    (c .before .before .before .before .before .before .before .before .before .before .before .before .before .accept .ensures)
+    (c .before .before .before .before .before .before .before .before .before .before .before .enum-told .given .1) in
     let m = c .before .before .before .before .before .before .before .before .setting-of .ensures in
-    let room : rowsAsked o ≤ s .args .lent / 4 = ltb-false _ _ (sym (c .before .before .before .before .before .before .before .is-short .ensures) ∙ c .before .before .before .before .before .before .if2 .left) in
-    let in-range = within-range _ _ e _ (c .before .before .before .before .before .before .before .before .before .before .bound-in-range .ensures) (c .before .before .before .before .before .before .before .before .before .if1 .left) in
-    let f = reason-told o ok _ m (s .args .bound) _ e _ (c .before .before .before .before .before .deadline .ensures) _ (c .before .before .before .before .tell .ensures) in
+    let room : rowsAsked o ≤ s .args .lent / 4 = ltb-false _ _
+    (sym (c .before .before .before .before .before .before .before .is-short .ensures)
+    ∙ c .before .before .before .before .before .before .if2 .left) in
+    let in-range = within-range _ _ e _
+    (c .before .before .before .before .before .before .before .before .before .before .bound-in-range .ensures)
+    (c .before .before .before .before .before .before .before .before .before .if1 .left) in
+    let f = reason-told o ok _ m (s .args .bound) _ e _ (c .before .before .before .before .before .deadline .ensures) _
+    (c .before .before .before .before .tell .ensures) in
     tight-judged o (s .args .bound) (s .args .lent) ok in-range room _ m _ f _ (c .before .tightness .given .1)
 
 returns-5 : tie.Need-returns-5
@@ -131,11 +152,17 @@ returns-5 c =
     let s = c .before .before .before .before .before .before .before .before .before .before .before .before .before in
     let o = orderOf (s .args .order) in
     let e = toZ-ofZ w32 (s .args .bound) (s .fits .bound) in
-    let ok = order-accepted o _ (c .before .before .before .before .before .before .before .before .before .before .before .before .accept .ensures) (c .before .before .before .before .before .before .before .before .before .before .enum-told .given .1) in
+    let ok = order-accepted o _
+    (c .before .before .before .before .before .before .before .before .before .before .before .before .accept .ensures)
+    (c .before .before .before .before .before .before .before .before .before .before .enum-told .given .1) in
     let m = c .before .before .before .before .before .before .before .setting-of .ensures in
-    let room : rowsAsked o ≤ s .args .lent / 4 = ltb-false _ _ (sym (c .before .before .before .before .before .before .is-short .ensures) ∙ c .before .before .before .before .before .if2 .left) in
-    let in-range = within-range _ _ e _ (c .before .before .before .before .before .before .before .before .before .bound-in-range .ensures) (c .before .before .before .before .before .before .before .before .if1 .left) in
-    let f = reason-told o ok _ m (s .args .bound) _ e _ (c .before .before .before .before .deadline .ensures) _ (c .before .before .before .tell .ensures) in
+    let room : rowsAsked o ≤ s .args .lent / 4 = ltb-false _ _
+    (sym (c .before .before .before .before .before .before .is-short .ensures) ∙ c .before .before .before .before .before .if2 .left) in
+    let in-range = within-range _ _ e _
+    (c .before .before .before .before .before .before .before .before .before .bound-in-range .ensures)
+    (c .before .before .before .before .before .before .before .before .if1 .left) in
+    let f = reason-told o ok _ m (s .args .bound) _ e _ (c .before .before .before .before .deadline .ensures) _
+    (c .before .before .before .tell .ensures) in
     open-judged o (s .args .bound) (s .args .lent) ok in-range room _ m _ f (c .enum-told2 .given .1)
 
 pub judge-bound-spec : {M : Type 1} → statement M

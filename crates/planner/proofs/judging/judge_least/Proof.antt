@@ -4,7 +4,14 @@ use borrow.Author.Needs.{needs}
 use Rattle.order.specs.Table.{orderOf}
 use Rattle.order.specs.declared.Refusal.the-variants.{BufferTooShort}
 use Rattle.planner.proofs.SetupLaws.{stretches-counted}
-use Rattle.planner.proofs.Answers.{order-refused, order-accepted, least-refused-judged, least-refused-first, least-refused-9, least-open}
+use Rattle.planner.proofs.Answers.{
+  order-refused,
+  order-accepted,
+  least-refused-judged,
+  least-refused-first,
+  least-refused-9,
+  least-open,
+}
 use Rattle.planner.proofs.judging.judge_least.Statement.{statement}
 use Rattle.planner.proofs.judging.judge_least.Tie as tie
 
@@ -23,7 +30,8 @@ returns c =
     let o = orderOf (s .args .order) in
     let rf = c .before .before .refusal .given .0 .0 in
     least-refused-judged o (s .args .lent) rf
-    (least-refused-first o (s .args .lent) rf (order-refused o _ _ (c .before .before .before .before .accept .ensures) (c .before .before .refusal .given .1)))
+    (least-refused-first o (s .args .lent) rf
+    (order-refused o _ _ (c .before .before .before .before .accept .ensures) (c .before .before .refusal .given .1)))
     _ (c .refuse-least .ensures)
 
 enum-told : tie.Need-enum-told
@@ -35,8 +43,11 @@ setting-of-requires c κs =
 
 is-short-requires : tie.Need-is-short-requires
 is-short-requires c κs =
-    let o = orderOf (c .before .before .before .before .args .order) in
-    (order-accepted o _ (c .before .before .before .accept .ensures) (c .before .enum-told .given .1), stretches-counted o _ (c .setting-of .ensures .grid))
+    let o = orderOf (c .before .before .before .before .args .order) in (
+      order-accepted o _ (c .before .before .before .accept .ensures) (c .before .enum-told .given .1),
+      stretches-counted o _
+          (c .setting-of .ensures .grid),
+    )
 
 refuse-least-requires-2 : tie.Need-refuse-least-requires-2
 refuse-least-requires-2 c κs = search needs
@@ -45,7 +56,8 @@ returns-2 : tie.Need-returns-2
 returns-2 c =
     let s = c .before .before .before .before .before .before .before in
     let o = orderOf (s .args .order) in
-    let ok = order-accepted o _ (c .before .before .before .before .before .before .accept .ensures) (c .before .before .before .before .enum-told .given .1) in
+    let ok = order-accepted o _ (c .before .before .before .before .before .before .accept .ensures)
+    (c .before .before .before .before .enum-told .given .1) in
     least-refused-judged o (s .args .lent) BufferTooShort
     (least-refused-9 o (s .args .lent) ok (ltb-true _ _ (sym (c .before .before .is-short .ensures) ∙ c .before .if1 .taken)))
     _ (c .refuse-least2 .ensures)
@@ -54,8 +66,10 @@ returns-3 : tie.Need-returns-3
 returns-3 c =
     let s = c .before .before .before .before .before .before in
     let o = orderOf (s .args .order) in
-    let ok = order-accepted o _ (c .before .before .before .before .before .accept .ensures) (c .before .before .before .enum-told .given .1) in
-    least-open o (s .args .lent) ok (ltb-false _ _ (sym (c .before .is-short .ensures) ∙ c .if1 .left)) _ (c .before .before .setting-of .ensures)
+    let ok = order-accepted o _ (c .before .before .before .before .before .accept .ensures)
+    (c .before .before .before .enum-told .given .1) in
+    least-open o (s .args .lent) ok (ltb-false _ _ (sym (c .before .is-short .ensures) ∙ c .if1 .left)) _
+    (c .before .before .setting-of .ensures)
 
 pub judge-least-spec : {M : Type 1} → statement M
 judge-least-spec =

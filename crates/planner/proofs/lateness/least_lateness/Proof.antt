@@ -76,7 +76,8 @@ returns-2 c =
     let ok = least-order-good o n _ (j .ensures) is in
     let l = least-told o ok _ (j .ensures .setting-is is) _ (c .before .before .before .before .least-in .ensures) in
     let e = read-least (c .before .before .before .before .least-in .result) (leastLateness o) l (least-in-range o ok) in
-    least-ensured o n _ (j .ensures) is (is-least o ok) (s .args .rows .now) _ _ _ e (written-at e (c .before .before .make-plan .ensures .0))
+    least-ensured o n _ (j .ensures) is (is-least o ok) (s .args .rows .now) _ _ _ e
+    (written-at e (c .before .before .make-plan .ensures .0))
 
 pub least-lateness-spec : {M : Type 1} → statement M
 least-lateness-spec =

@@ -86,16 +86,24 @@ loop-less-2 c = search needs
 
 loop-again-2 : tie.Need-loop-again-2 Inv-loop μ-loop
 loop-again-2 c =
-    let l = c .before .before .before .before .before .before .loop in
-    (search needs, l .inv .1, owed-outside (c .before .before .before .before .before .before .before .before .args .t1) (l .j) (l .r) (l .inv .2) (λ i h. omega arith))
+    let l = c .before .before .before .before .before .before .loop in (
+      search needs,
+      l .inv .1,
+      owed-outside (c .before .before .before .before .before .before .before .before .args .t1) (l .j) (l .r)
+          (l .inv .2) (λ i h. omega arith),
+    )
 
 loop-less-3 : tie.Need-loop-less-3 Inv-loop μ-loop
 loop-less-3 c = search needs
 
 loop-again-3 : tie.Need-loop-again-3 Inv-loop μ-loop
 loop-again-3 c =
-    let l = c .before .before .before .before .before .loop in
-    (search needs, l .inv .1, owed-outside (c .before .before .before .before .before .before .before .args .t1) (l .j) (l .r) (l .inv .2) (λ i h. omega arith))
+    let l = c .before .before .before .before .before .loop in (
+      search needs,
+      l .inv .1,
+      owed-outside (c .before .before .before .before .before .before .before .args .t1) (l .j) (l .r)
+          (l .inv .2) (λ i h. omega arith),
+    )
 
 returns : tie.Need-returns Inv-loop μ-loop
 returns c = let l = c .before .loop in owed-all (c .before .before .before .args .t1) (l .j) (omega arith) (l .r) (l .inv .2)
