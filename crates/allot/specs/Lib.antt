@@ -4,3 +4,4 @@ pub mod Bounds
 pub mod AtTop
 pub mod OrderFlow
 pub mod Feasible
+pub mod Chosen

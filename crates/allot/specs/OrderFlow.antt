@@ -1,5 +1,5 @@
 -- An instance that stands for an order has the order's marks, caps and rooms; so feasible amounts of its flow are feasible
--- for the order, and a cut that violates in its flow violates in the order's.
+-- for the order, a cut that violates in its flow violates in the order's, and its run is the order's.
 use Prim.Native.Nat.{ℕ, zero, suc, _*_, _≤_, _<_, min}
 use mathlib.Core.Path.{_≡_, sym, ap, _∙_}
 use mathlib.Core.Bool.{Bool}
@@ -18,6 +18,8 @@ use Rattle.amounts.specs.Same.{same-violating, same-feasible}
 use Rattle.amounts.specs.Exchange.{flowOf}
 use Rattle.amounts.specs.Profile.{Fine, stretchesOf}
 use Rattle.engine.specs.View.{grid}
+use Rattle.engine.specs.Run.{RunOf}
+use Rattle.engine.specs.RunLaws.{run-carried}
 use Rattle.order.specs.Order.{Order, jobCount, Numbers, jobOf}
 use Rattle.order.specs.Class.{classes, classOf, processorsIn}
 use Rattle.order.specs.Deadline.{deadlineOf}
@@ -109,6 +111,20 @@ module _ (o : Order) (bound : ℤ) where
                 (λ s k b l. room-same s k b (omega arith)) (c .κ) (λ s _. low s)
                 (rw (F .jobs-are, F .stretches-are) at (c .violating));
           }
+
+      -- the instance's run is the order's
+      pub run-same : (a : ℕ → ℕ → ℕ) (r : Bool) → RunOf (flowIn t) (suc (t .classes)) a r →
+          RunOf (flowOf (stretchesOf (jobsFor o bound))) (suc (length (classes o))) a r
+      run-same a r f =
+          run-carried (suc (length (classes o))) (flowIn t) (flowOf (stretchesOf (jobsFor o bound))) a r
+          (record {
+            n-same = F .jobs-are;
+            q-same = F .stretches-are;
+            time-same = F .times-are;
+            class-same = F .job-classes-are;
+            cap-same = cap-same;
+            room-same = λ s k b l. room-same s k b (omega arith);
+          }) (rw (F .classes-are) at f)
 
   -- flat amounts by job number: the number 0 names no job
   pub amounts-by-number : (q : ℕ) (w : List ℕ) → FeasibleFor o bound (byNumber (grid q w)) →
