@@ -13,6 +13,8 @@ use Rattle.amounts.specs.Flow.{Flow}
 use Rattle.amounts.specs.Same.{same-violating, same-feasible}
 use Rattle.engine.specs.View.{grid, row, flowOf, Answer}
 use Rattle.engine.specs.Start.{Given}
+use Rattle.engine.specs.Run.{RunOf}
+use Rattle.engine.specs.RunLaws.{run-carried}
 use Rattle.allot.specs.declared.Instance.{Instance}
 use Rattle.allot.specs.Instances.{lengthIn, capIn, roomIn, flowIn, Sized}
 use Rattle.allot.specs.Tables.{countOf, Rows, Times, Classes}
@@ -106,3 +108,18 @@ module _ (t : Instance) (S : Sized t) (time class cap room : List ℕ) (T : Time
         Answer (flowOf (t .jobs) (t .stretches) m time class cap room) m (grid (t .stretches) w) r →
         Answer (flowIn t) (suc (t .classes)) (grid (t .stretches) w) r
     answered w r f = told w r (rw e at f)
+
+    -- and of its run
+    pub carried : (w : List ℕ) (r : Bool) →
+        RunOf (flowOf (t .jobs) (t .stretches) m time class cap room) m (grid (t .stretches) w) r →
+        RunOf (flowIn t) (suc (t .classes)) (grid (t .stretches) w) r
+    carried w r f =
+        run-carried (suc (t .classes)) seen (flowIn t) (grid (t .stretches) w) r
+        (record {
+          n-same = refl;
+          q-same = refl;
+          time-same = T .each;
+          class-same = C .each;
+          cap-same = A .each;
+          room-same = room-below;
+        }) (rw e at f)

@@ -1,5 +1,5 @@
 -- An instance that stands for an accepted order is small enough for the engine; and where there is no reason against the
--- bound, what the engine answers of it are amounts that are feasible for the order.
+-- bound, what the engine answers of it are amounts that are feasible for the order, those that the order has at the bound.
 use Prim.Native.Nat.{ℕ, suc}
 use mathlib.Core.Path.{_≡_, refl}
 use mathlib.Core.Bool.{Bool, true, false}
@@ -11,6 +11,8 @@ use Rattle.sums.specs.ListLaws.{All-at}
 use Rattle.amounts.specs.Flow.{Cut}
 use Rattle.amounts.specs.Profile.{Fine, Profile, cut-profile}
 use Rattle.engine.specs.View.{grid, Answer}
+use Rattle.engine.specs.Run.{RunOf}
+use Rattle.allot.specs.Chosen.{Chosen}
 use Rattle.order.specs.Order.{Order, noJob}
 use Rattle.order.specs.Class.{classes, processorsTo}
 use Rattle.order.specs.Refusals.{Accepted, boundInRange}
@@ -25,7 +27,7 @@ use Rattle.feasible.specs.Overfull.{profile-overfull}
 use Rattle.allot.specs.declared.Instance.{Instance}
 use Rattle.allot.specs.Instances.{flowIn, Sized, StandsFor, amountIn}
 use Rattle.allot.specs.Bounds.{stretches-few, classes-few, processors-few, mark-small}
-use Rattle.allot.specs.OrderFlow.{mark-same, counts-same, feasible-same, cut-same, amounts-by-number}
+use Rattle.allot.specs.OrderFlow.{mark-same, counts-same, feasible-same, cut-same, run-same, amounts-by-number}
 
 module _ (o : Order) (accepted : Accepted o) (bound : ℤ) where
   -- an instance that stands for an accepted order at a bound in range is small enough
@@ -97,3 +99,9 @@ module _ (o : Order) (accepted : Accepted o) (bound : ℤ) where
     stands-feasible w true f =
         amounts-by-number o bound (t .stretches) w (feasible-same o bound t F (grid (t .stretches) w) f)
     stands-feasible w false c = absurd (no-cut c)
+
+    -- and they are the order's
+    pub stands-chosen : (w : List ℕ) (r : Bool) → Answer (flowIn t) (suc (t .classes)) (grid (t .stretches) w) r →
+        RunOf (flowIn t) (suc (t .classes)) (grid (t .stretches) w) r → Chosen o bound (amountIn (t .stretches) w)
+    stands-chosen w true f run = run-same o bound t F (grid (t .stretches) w) true run
+    stands-chosen w false c run = absurd (no-cut c)

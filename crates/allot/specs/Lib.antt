@@ -5,3 +5,4 @@ pub mod AtTop
 pub mod Holds
 pub mod OrderFlow
 pub mod Feasible
+pub mod Chosen

@@ -1,7 +1,8 @@
 -- An instance that stands for an order holds the numbers of the order's frame; so feasible amounts of its flow are feasible
--- for the order, and a cut that violates in its flow violates in the order's.
+-- for the order, a cut that violates in its flow violates in the order's, and its run is the order's.
 use Prim.Native.Nat.{ℕ, zero, suc, _*_, _≤_, _<_}
 use mathlib.Core.Path.{_≡_, refl, sym}
+use mathlib.Core.Bool.{Bool}
 use mathlib.Core.List.{List}
 use native.Mathlib.Omega.{arith}
 use borrow.Author.Tests.{le-leb}
@@ -13,6 +14,8 @@ use Rattle.amounts.specs.Flow.{Feasible, Cut}
 use Rattle.amounts.specs.Exchange.{flowOf}
 use Rattle.amounts.specs.Profile.{stretchesOf}
 use Rattle.engine.specs.View.{grid}
+use Rattle.engine.specs.Run.{RunOf}
+use Rattle.engine.specs.RunLaws.{run-carried}
 use Rattle.order.specs.Order.{Order, jobCount, Numbers, jobOf}
 use Rattle.order.specs.Class.{classes, processorsIn, processorsTo}
 use Rattle.order.specs.Deadline.{deadlineOf}
@@ -20,6 +23,7 @@ use Rattle.wrap.specs.Stretches.{stretchCount, mark, stretchLength, heldUpTo, F
 use Rattle.wrap.specs.Marks.{mark-zero}
 use Rattle.wrap.specs.Flows.{jobsFor, byNumber}
 use Rattle.wrap.specs.Frame.{lies, capIn as frameCap, openTo}
+use Rattle.wrap.specs.FrameFlow.{flowIn as frameFlow}
 use Rattle.wrap.specs.FrameBase.{baseFrame, open-counts, feasible-out}
 use Rattle.feasible.specs.PlanAmounts.{base-cut}
 use Rattle.allot.specs.declared.Instance.{Instance}
@@ -68,6 +72,20 @@ module _ (o : Order) (bound : ℤ) where
     pub cut-same : Cut (flowIn t) (suc (t .classes)) →
         Cut (flowOf (stretchesOf (jobsFor o bound))) (suc (length (classes o)))
     cut-same c = base-cut o bound (holds-cut o (baseFrame o bound) (flowIn t) (t .classes) holds c)
+
+    -- the instance's run is the order's
+    pub run-same : (a : ℕ → ℕ → ℕ) (r : Bool) → RunOf (flowIn t) (suc (t .classes)) a r →
+        RunOf (frameFlow o (baseFrame o bound)) (suc (length (classes o))) a r
+    run-same a r f =
+        run-carried (suc (length (classes o))) (flowIn t) (frameFlow o (baseFrame o bound)) a r
+        (record {
+          n-same = F .jobs-are;
+          q-same = F .stretches-are;
+          time-same = F .times-are;
+          class-same = F .job-classes-are;
+          cap-same = caps-are;
+          room-same = λ s k b l. rooms-are s k b (omega arith);
+        }) (rw (F .classes-are) at f)
 
   -- flat amounts by job number: the number 0 names no job
   pub amounts-by-number : (q : ℕ) (w : List ℕ) → FeasibleFor o bound (byNumber (grid q w)) →

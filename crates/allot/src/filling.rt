@@ -7,13 +7,15 @@ use super::tables::put_times;
 ghost use Prim.Native.Nat.{suc, _*_, _≤_};
 ghost use lib.ListN.{length};
 ghost use Rattle.engine.specs.View.{grid, Answer};
+ghost use Rattle.engine.specs.Run.{RunOf};
 ghost use Rattle.allot.specs.Instances.{flowIn, Sized};
 
-// Amounts in the lent buffer, a row of as many numbers as there are stretches for each job; or the answer that a cut
-// violates. What the buffer holds behind the jobs' rows is left free, and where a cut violates, all that it holds.
+// The amounts of the instance's run in the lent buffer, a row of as many numbers as there are stretches for each job; or the
+// answer that a cut violates. What the buffer holds behind the jobs' rows is left free.
 pub fn fill_amounts(t: Instance, w: &mut [u32]) -> bool
     requires { ⌜ Sized t × ((suc (t .jobs)) * (t .stretches) ≤ length (now w)) ⌝ }
     ensures { λ r. ⌜ Answer (flowIn t) (suc (t .classes)) (grid (t .stretches) (now (w .exit))) r ⌝ }
+    ensures { λ r. ⌜ RunOf (flowIn t) (suc (t .classes)) (grid (t .stretches) (now (w .exit))) r ⌝ }
 {
     let mut time = [0u32; 49];
     let mut class = [0usize; 49];

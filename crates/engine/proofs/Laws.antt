@@ -2,20 +2,18 @@
 use Prim.Native.Nat.{ℕ, suc, _+_, _-_, _*_, _≤_, _<_}
 use mathlib.Core.Path.{_≡_, refl, sym, ap, subst, _∙_}
 use Rattle.engine.specs.declared.Move.{Move}
-use Rattle.engine.specs.declared.Move.the-variants.{Push, Rise}
 use mathlib.Core.Logic.{_≢_}
 use mathlib.Core.List.{List}
-use mathlib.Core.Bool.{Bool, true, false}
+use mathlib.Core.Bool.{Bool}
 use lib.ListN.{length, getD, set, length-set}
 use lib.Seq.{getD-set-same, getD-set-other}
 use native.Mathlib.Decide.{decLt, ℕ-discrete}
 use native.Mathlib.Omega.{arith}
 use borrow.Author.Count.{below-more}
 use Rattle.engine.specs.Start.{IdleRow}
-use Rattle.engine.specs.View.{Transferred, Lowered, Raised, Least, FirstZero, grid, row, flowOf, fillOf, Found, Stands}
-use Rattle.amounts.specs.State.{Fill, Classed, State, Able, Moved}
+use Rattle.engine.specs.View.{Transferred, Lowered, Raised, Least, FirstZero, grid, Found, Stands}
+use Rattle.amounts.specs.State.{Fill, Barred}
 use Rattle.amounts.specs.Below.{Free}
-use Rattle.amounts.specs.State.{Barred}
 use Rattle.amounts.specs.Flow.{Flow}
 
 -- the two stores of a transfer
@@ -35,7 +33,8 @@ module _ (xs : List ℕ) (from d : ℕ) where
   pub lowered-none : Lowered xs xs from from d
   lowered-none = record { inside = λ k a b. absurd (omega arith); before = λ k a. refl; after = λ k a. refl }
 
-  pub lowered-more : (ys : List ℕ) (k : ℕ) → from ≤ k → k < length ys → d ≤ getD xs k 0 → Lowered xs ys from k d → Lowered xs (set ys k (getD ys k 0 - d)) from (k + 1) d
+  pub lowered-more : (ys : List ℕ) (k : ℕ) → from ≤ k → k < length ys → d ≤ getD xs k 0 → Lowered xs ys from k d →
+      Lowered xs (set ys k (getD ys k 0 - d)) from (k + 1) d
   lowered-more ys k lo hi fit L =
       let v = getD ys k 0 - d in
       record {
@@ -51,7 +50,8 @@ module _ (xs : List ℕ) (from d : ℕ) where
   pub raised-none : Raised xs xs from from d
   raised-none = record { inside = λ k a b. absurd (omega arith); before = λ k a. refl; after = λ k a. refl }
 
-  pub raised-more : (ys : List ℕ) (k : ℕ) → from ≤ k → k < length ys → Raised xs ys from k d → Raised xs (set ys k (getD ys k 0 + d)) from (k + 1) d
+  pub raised-more : (ys : List ℕ) (k : ℕ) → from ≤ k → k < length ys → Raised xs ys from k d →
+      Raised xs (set ys k (getD ys k 0 + d)) from (k + 1) d
   raised-more ys k lo hi L =
       let v = getD ys k 0 + d in
       record {
@@ -65,12 +65,13 @@ module _ (xs : List ℕ) (from d : ℕ) where
       }
 
   -- a least with one entry more: r' is the smaller of r and that entry
-  pub least-more : (k r r' : ℕ) → from ≤ k → r' ≤ r → r' ≤ getD xs k 0 → (0 < r → 0 < getD xs k 0 → 0 < r') → Least xs from k d r → Least xs from (k + 1) d r'
-  least-more k r r' lo a b p L =
+  pub least-more : (k r r' : ℕ) → from ≤ k → r' ≤ r → r' ≤ getD xs k 0 → ((v : ℕ) → v ≤ r → v ≤ getD xs k 0 → v ≤ r') →
+      Least xs from k d r → Least xs from (k + 1) d r'
+  least-more k r r' lo a b g L =
       record {
         most = omega (arith, L .most);
         under = λ i u v. elim (ℕ-discrete i k) [ yes e ↦ rw e b | no e ↦ omega (arith, L .under i u (omega arith)) ];
-        positive = λ z f. p (L .positive z (λ i u v. f i u (omega arith))) (f k lo (omega arith));
+        greatest = λ v z f. g v (L .greatest v z (λ i a b. f i a (omega arith))) (f k lo (omega arith));
       }
 
 -- the first zero of a stretch bounds what is free
@@ -84,7 +85,8 @@ module _ (slack : List ℕ) (s m c t : ℕ) (F : FirstZero slack (s * m + c) (s 
         | no l ↦ omega arith
         | yes l ↦
             let z : s * m + (t - s * m) ≡ t = omega (arith, F .low) in
-            absurd (omega (arith, ap (λ i. getD slack i 0) z, F .zero-at (omega (arith, F .low)), fr (t - s * m) (omega (arith, F .low)) l))
+            let low : c ≤ t - s * m = omega (arith, F .low) in
+            absurd (omega (arith, ap (λ i. getD slack i 0) z, F .zero-at (omega (arith, F .low)), fr (t - s * m) low l))
       ]
 
 -- one stretch more in which nobody can be displaced
@@ -101,20 +103,19 @@ barred-more o x j u s z B new =
     }
 
 -- what the search found, by its answer
-pub found-push : (o : Flow) (x : Fill) (j : ℕ) (r : Move) (s i : ℕ) → Found o x j r → r ≡ Push s i → Able o x j i s × Barred o x j (suc s)
-found-push o x j r s i f e = subst (λ (r : Move). Found o x j r) e f
-
-pub found-rise : (o : Flow) (x : Fill) (j : ℕ) (r : Move) → Found o x j r → r ≡ Rise → Barred o x j 0
-found-rise o x j r f e = subst (λ (r : Move). Found o x j r) e f
+pub found-as : (o : Flow) (x : Fill) (j : ℕ) (r t : Move) → Found o x j r → r ≡ t → Found o x j t
+found-as o x j r t f e = subst (λ (r : Move). Found o x j r) e f
 
 -- a list filled from the front: what holds of each entry below i, and of v, holds of each below i + 1 after v is stored at i
-pub fill-at : (P : ℕ → ℕ → Type 0) (xs : List ℕ) (i v : ℕ) → i < length xs → ((k : ℕ) → k < i → P k (getD xs k 0)) → P i v → (k : ℕ) → k < i + 1 → P k (getD (set xs i v) k 0)
+pub fill-at : (P : ℕ → ℕ → Type 0) (xs : List ℕ) (i v : ℕ) → i < length xs → ((k : ℕ) → k < i → P k (getD xs k 0)) →
+    P i v → (k : ℕ) → k < i + 1 → P k (getD (set xs i v) k 0)
 fill-at P xs i v h old new =
     below-more (λ (k : ℕ). P k (getD (set xs i v) k 0)) i
     (λ k l. rw (getD-set-other xs i k v 0 (λ e. omega arith)) (old k l))
     (rw (getD-set-same xs i v 0 h) new)
 
-pub idle-more : (room xs ys : List ℕ) (n q m u : ℕ) → n * q + u < length ys → IdleRow room xs ys n q m u → IdleRow room xs (set ys (n * q + u) (getD room (u * m + (m - 1)) 0)) n q m (u + 1)
+pub idle-more : (room xs ys : List ℕ) (n q m u : ℕ) → n * q + u < length ys → IdleRow room xs ys n q m u →
+    IdleRow room xs (set ys (n * q + u) (getD room (u * m + (m - 1)) 0)) n q m (u + 1)
 idle-more room xs ys n q m u l R =
     let v : ℕ = getD room (u * m + (m - 1)) 0 in
     record {
@@ -130,5 +131,5 @@ idle-more room xs ys n q m u l R =
 pub from-more : (P : ℕ → Type 0) (i : ℕ) → ((a : ℕ) → i ≤ a → P a) → P (i - 1) → (a : ℕ) → i - 1 ≤ a → P a
 from-more P i old new a l = elim (ℕ-discrete a (i - 1)) [ yes e ↦ rw e new | no e ↦ old a (omega arith) ]
 
-pub stands-none : (h : List ℕ) (n g : ℕ) (r : Bool) → Stands h n g r → r ≡ false → (a : ℕ) → a < n → getD h a 0 ≢ g
-stands-none h n g r s e = subst (λ (r : Bool). Stands h n g r) e s
+pub stands-as : (h : ℕ → ℕ) (n g : ℕ) (r t : Bool) → Stands h n g r → r ≡ t → Stands h n g t
+stands-as h n g r t s e = subst (λ (r : Bool). Stands h n g r) e s

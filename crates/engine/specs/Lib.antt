@@ -1,2 +1,4 @@
 pub mod View
 pub mod Start
+pub mod Run
+pub mod RunLaws

@@ -1,20 +1,18 @@
 -- Flat lists seen as functions, and what the small functions do to them.
-use mathlib.Core.Path.{_≡_, refl, ap, sym, _∙_}
+use mathlib.Core.Path.{_≡_, ap}
 use mathlib.Core.Logic.{_≢_}
-use mathlib.Core.List.{List, []}
+use mathlib.Core.List.{List}
 use mathlib.Core.Bool.{Bool, true, false}
 use Rattle.engine.specs.declared.Move.{Move}
 use Rattle.engine.specs.declared.Move.the-variants.{Push, Rise}
-use Prim.Native.Nat.{ℕ, zero, suc, _+_, _*_, _-_, _^_, _≤_, _<_, min}
+use Prim.Native.Nat.{ℕ, suc, _+_, _*_, _-_, _^_, _≤_, _<_, min}
 use native.Mathlib.Nat.{mul-lt-mul-of-pos-right, mul-le-mul-right, suc-mul}
 use native.Mathlib.Decide.{decLt}
 use native.Mathlib.Omega.{arith}
 use lib.ListN.{length, getD}
-use Rattle.amounts.specs.Flow.{Flow, Feasible}
 use Rattle.sums.specs.Gate.{gate}
-use Rattle.amounts.specs.State.{Fill, Classed, State, measure, Able}
-use Rattle.amounts.specs.State.{Barred}
-use Rattle.amounts.specs.Flow.{Cut}
+use Rattle.amounts.specs.Flow.{Flow, Feasible, Cut}
+use Rattle.amounts.specs.State.{Fill, Classed, State, measure, Able, Barred}
 
 -- entry (j, s) of rows of q
 abbrev pub grid : ℕ → List ℕ → ℕ → ℕ → ℕ
@@ -62,7 +60,7 @@ pub record Raised (xs ys : List ℕ) (from to d : ℕ) : Type 0 where
 pub record Least (xs : List ℕ) (from to d r : ℕ) : Type 0 where
   pub most : r ≤ d
   pub under : (k : ℕ) → from ≤ k → k < to → r ≤ getD xs k 0
-  pub positive : 0 < d → ((k : ℕ) → from ≤ k → k < to → 0 < getD xs k 0) → 0 < r
+  pub greatest : (v : ℕ) → v ≤ d → ((k : ℕ) → from ≤ k → k < to → v ≤ getD xs k 0) → v ≤ r
 
 -- the first entry of from..to that is 0, or to
 pub record FirstZero (xs : List ℕ) (from to r : ℕ) : Type 0 where
@@ -71,28 +69,31 @@ pub record FirstZero (xs : List ℕ) (from to r : ℕ) : Type 0 where
   pub free : (k : ℕ) → from ≤ k → k < r → 0 < getD xs k 0
   pub zero-at : r < to → getD xs r 0 ≡ 0
 
--- what job j can displace: the amounts at up and down, and the slacks of from..to
+-- the most that job j can displace: the amounts at up and down, and the slacks of from..to
 pub record Amount (cap w slack left : List ℕ) (j up down from to r : ℕ) : Type 0 where
   pub left-fits : r ≤ getD left j 0
   pub cap-fits : getD w up 0 + r ≤ getD cap up 0
   pub w-fits : r ≤ getD w down 0
   pub slack-fits : (k : ℕ) → from ≤ k → k < to → r ≤ getD slack k 0
-  pub positive : 0 < getD left j 0 → getD w up 0 < getD cap up 0 → 0 < getD w down 0 → ((k : ℕ) → from ≤ k → k < to → 0 < getD slack k 0) → 0 < r
+  pub greatest : (v : ℕ) → v ≤ getD left j 0 → getD w up 0 + v ≤ getD cap up 0 → v ≤ getD w down 0 →
+      ((k : ℕ) → from ≤ k → k < to → v ≤ getD slack k 0) → v ≤ r
 
 -- d less from class c on, and d more from class e on, in the slacks at base
 pub record Shifted (xs ys : List ℕ) (base c e d : ℕ) : Type 0 where
   pub here : (k : ℕ) → getD ys (base + k) 0 + gate c (suc k) d ≡ getD xs (base + k) 0 + gate e (suc k) d
   pub before : (k : ℕ) → k < base → getD ys k 0 ≡ getD xs k 0
 
-pub record Picked (left : List ℕ) (n r : ℕ) : Type 0 where
+-- the first job with something left, or n
+pub record Picked (left : ℕ → ℕ) (n r : ℕ) : Type 0 where
   pub within : r ≤ n
-  pub active : r < n → 0 < getD left r 0
-  pub done : n ≤ r → (a : ℕ) → a < n → getD left a 0 ≡ 0
+  pub active : r < n → 0 < left r
+  pub first : (a : ℕ) → a < r → left a ≡ 0
 
--- a job with something in s, of a class up to t, one below the height h; past n: there is none
+-- the last job with something in s, of a class up to t, one below the height h; past n: there is none
 pub record Aim (class w height : List ℕ) (n q s t h r : ℕ) : Type 0 where
   pub found : r ≤ n → (0 < getD w (r * q + s) 0) × (getD class r 0 ≤ t) × (h ≡ getD height r 0 + 1)
   pub missing : n < r → (i : ℕ) → i ≤ n → 0 < getD w (i * q + s) 0 → getD class i 0 ≤ t → h ≢ getD height i 0 + 1
+  pub last : (i : ℕ) → r < i → i ≤ n → 0 < getD w (i * q + s) 0 → getD class i 0 ≤ t → h ≢ getD height i 0 + 1
 
 pub record Advanced (o : Flow) (m : ℕ) (x y : Fill) : Type 0 where
   pub state : State o m y
@@ -104,9 +105,9 @@ pub record Pushed (o : Flow) (m : ℕ) (x y : Fill) (j s : ℕ) : Type 0 where
   pub barred : (u : ℕ) → s < u → Barred o x j u → Barred o y j u
 
 -- whether a job stands at the height g
-abbrev pub Stands : List ℕ → ℕ → ℕ → Bool → Type 0
-Stands h n g true = Unit {0}
-Stands h n g false = (a : ℕ) → a < n → getD h a 0 ≢ g
+abbrev pub Stands : (ℕ → ℕ) → ℕ → ℕ → Bool → Type 0
+Stands h n g true = (a : ℕ) × (a < n) × (h a ≡ g)
+Stands h n g false = (a : ℕ) → a < n → h a ≢ g
 
 -- what every step of the engine needs
 pub record Ready (n q m : ℕ) (time class cap room w slack left h : List ℕ) : Type 0 where
@@ -114,9 +115,9 @@ pub record Ready (n q m : ℕ) (time class cap room w slack left h : List ℕ) :
   pub order : Classed (flowOf n q m time class cap room) m
   pub state : State (flowOf n q m time class cap room) m (fillOf q m w slack left h)
 
--- what a search for a step of job j answers
+-- what a search for a step of job j answers: the last stretch where it may displace, and the last job there; or that it rises
 abbrev pub Found : Flow → Fill → ℕ → Move → Type 0
-Found o x j (Push s i) = Able o x j i s × Barred o x j (suc s)
+Found o x j (Push s i) = Able o x j i s × Barred o x j (suc s) × ((a : ℕ) → i < a → ¬ Able o x j a s)
 Found o x j Rise = Barred o x j 0
 
 -- how it ends

@@ -9,11 +9,12 @@ use super::slices::transfer;
 ghost use Prim.Native.Nat.{ℕ, _+_, _^_, _<_, _≤_};
 ghost use lib.ListN.{length, getD};
 ghost use Rattle.engine.specs.View.{Amount, Shifted, Ready, Advanced, Pushed, flowOf, fillOf};
+ghost use Rattle.engine.specs.Run.{Displaced, DischargeRun};
 ghost use Rattle.amounts.specs.State.{Able};
 ghost use mathlib.Core.List.{[]};
 
 pub fn lesser(a: u32, b: u32) -> u32
-    ensures { λ r. ⌜ (r ≤ a) × (r ≤ b) × (0 < a → 0 < b → 0 < r) ⌝ }
+    ensures { λ r. ⌜ (r ≤ a) × (r ≤ b) × ((v : ℕ) → v ≤ a → v ≤ b → v ≤ r) ⌝ }
 {
     if a < b { a } else { b }
 }
@@ -30,7 +31,8 @@ pub fn amount(
     from: usize,
     to: usize,
 ) -> u32
-    requires { ⌜ (j < length (now left)) × (up < length (now cap)) × (up < length (now w)) × (down < length (now w)) × (to ≤ length (now slack)) ⌝ }
+    requires { ⌜ (j < length (now left)) × (up < length (now cap)) × (up < length (now w)) × (down < length (now w))
+        × (to ≤ length (now slack)) ⌝ }
     requires { ⌜ getD (now w) up 0 ≤ getD (now cap) up 0 ⌝ }
     ensures { λ r. ⌜ Amount (now (cap .entry)) (now (w .entry)) (now (slack .entry)) (now (left .entry)) j up down from to r ⌝ }
 {
@@ -76,6 +78,9 @@ pub fn push(
     ensures { λ r. ⌜ Pushed (flowOf n q m (now (time .entry)) (now (class .entry)) (now (cap .entry)) (now (room .entry))) m
         (fillOf q m (now (w .entry)) (now (slack .entry)) (now (left .entry)) (now (height .entry)))
         (fillOf q m (now (w .exit)) (now (slack .exit)) (now (left .exit)) (now (height .entry))) j s ⌝ }
+    ensures { λ r. ⌜ Displaced (flowOf n q m (now (time .entry)) (now (class .entry)) (now (cap .entry)) (now (room .entry))) m
+        (fillOf q m (now (w .entry)) (now (slack .entry)) (now (left .entry)) (now (height .entry)))
+        (fillOf q m (now (w .exit)) (now (slack .exit)) (now (left .exit)) (now (height .entry))) j i s ⌝ }
 {
     let c = class[j];
     let e = class[i];
@@ -106,6 +111,9 @@ pub fn discharge(
     requires { ⌜ Ready n q m (now time) (now class) (now cap) (now room) (now w) (now slack) (now left) (now height) ⌝ }
     requires { ⌜ (j < n) × (0 < getD (now left) j 0) × (getD (now height) j 0 ≤ n) ⌝ }
     ensures { λ r. ⌜ Advanced (flowOf n q m (now (time .entry)) (now (class .entry)) (now (cap .entry)) (now (room .entry))) m
+        (fillOf q m (now (w .entry)) (now (slack .entry)) (now (left .entry)) (now (height .entry)))
+        (fillOf q m (now (w .exit)) (now (slack .exit)) (now (left .exit)) (now (height .exit))) ⌝ }
+    ensures { λ r. ⌜ DischargeRun (flowOf n q m (now (time .entry)) (now (class .entry)) (now (cap .entry)) (now (room .entry))) m j
         (fillOf q m (now (w .entry)) (now (slack .entry)) (now (left .entry)) (now (height .entry)))
         (fillOf q m (now (w .exit)) (now (slack .exit)) (now (left .exit)) (now (height .exit))) ⌝ }
 {

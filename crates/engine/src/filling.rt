@@ -7,9 +7,9 @@ use super::slices::copy;
 use super::slices::put_all;
 ghost use Prim.Native.Nat.{suc, _*_, _<_, _≤_};
 ghost use lib.ListN.{length};
-ghost use Rattle.engine.specs.View.{Ready, Answer, grid, flowOf};
+ghost use Rattle.engine.specs.View.{Sizes, Ready, Answer, grid, flowOf, fillOf};
 ghost use Rattle.engine.specs.Start.{Given, IdleRow, Level};
-ghost use Rattle.engine.specs.View.{Sizes};
+ghost use Rattle.engine.specs.Run.{FillRun, RunOf};
 
 // The idle job has the last room of each stretch.
 pub fn idle_row(room: &[u32], w: &mut [u32], n: usize, q: usize, m: usize)
@@ -36,7 +36,7 @@ pub fn level(height: &mut [usize], n: usize)
     height[n] = 0;
 }
 
-// Fills the amounts: true where nothing is left, and else there is a violating cut.
+// Fills the amounts: true where nothing is left, and else there is a violating cut. Run.antt says in which turns.
 pub fn fill(
     time: &[u32],
     class: &[usize],
@@ -51,7 +51,11 @@ pub fn fill(
     m: usize,
 ) -> bool
     requires { ⌜ Ready n q m (now time) (now class) (now cap) (now room) (now w) (now slack) (now left) (now height) ⌝ }
-    ensures { λ r. ⌜ Answer (flowOf n q m (now (time .entry)) (now (class .entry)) (now (cap .entry)) (now (room .entry))) m (grid q (now (w .exit))) r ⌝ }
+    ensures { λ r. ⌜ Answer (flowOf n q m (now (time .entry)) (now (class .entry)) (now (cap .entry)) (now (room .entry))) m
+        (grid q (now (w .exit))) r ⌝ }
+    ensures { λ r. ⌜ FillRun (flowOf n q m (now (time .entry)) (now (class .entry)) (now (cap .entry)) (now (room .entry))) m
+        (fillOf q m (now (w .entry)) (now (slack .entry)) (now (left .entry)) (now (height .entry)))
+        (fillOf q m (now (w .exit)) (now (slack .exit)) (now (left .exit)) (now (height .exit))) r ⌝ }
 {
     loop {
         let j = pick(left, n);
@@ -71,7 +75,7 @@ pub fn fill(
     }
 }
 
-// Amounts for the jobs, or the answer that there is a violating cut.
+// Amounts for the jobs, those of the flow's run, or the answer that there is a violating cut.
 pub fn solve(
     time: &[u32],
     class: &[usize],
@@ -87,7 +91,10 @@ pub fn solve(
 ) -> bool
     requires { ⌜ Sizes n q m (now time) (now class) (now cap) (now room) (now w) (now slack) (now left) (now height) ⌝ }
     requires { ⌜ Given n q m (now time) (now class) (now room) ⌝ }
-    ensures { λ r. ⌜ Answer (flowOf n q m (now (time .entry)) (now (class .entry)) (now (cap .entry)) (now (room .entry))) m (grid q (now (w .exit))) r ⌝ }
+    ensures { λ r. ⌜ Answer (flowOf n q m (now (time .entry)) (now (class .entry)) (now (cap .entry)) (now (room .entry))) m
+        (grid q (now (w .exit))) r ⌝ }
+    ensures { λ r. ⌜ RunOf (flowOf n q m (now (time .entry)) (now (class .entry)) (now (cap .entry)) (now (room .entry))) m
+        (grid q (now (w .exit))) r ⌝ }
 {
     put_all(w, n * q, 0);
     idle_row(room, w, n, q, m);

@@ -3,14 +3,14 @@ use super::Move;
 use super::slices::first_zero;
 ghost use Prim.Native.Nat.{ℕ, suc, _*_, _<_, _≤_};
 ghost use lib.ListN.{length, getD};
-ghost use Rattle.engine.specs.View.{Picked, Aim, Found, Stands, flowOf, fillOf};
+ghost use Rattle.engine.specs.View.{Picked, Aim, Found, Stands, row, flowOf, fillOf};
 ghost use Rattle.amounts.specs.State.{Barred};
 ghost use mathlib.Core.List.{[]};
 
-// A job with something left, or n.
+// The first job with something left, or n.
 pub fn pick(left: &[u32], n: usize) -> usize
     requires { ⌜ n < length (now left) ⌝ }
-    ensures { λ r. ⌜ Picked (now (left .entry)) n r ⌝ }
+    ensures { λ r. ⌜ Picked (row (now (left .entry))) n r ⌝ }
 {
     let mut a: usize = 0;
     while a < n {
@@ -25,7 +25,7 @@ pub fn pick(left: &[u32], n: usize) -> usize
 // Whether one of the jobs stands at the height g.
 pub fn stands(height: &[usize], n: usize, g: usize) -> bool
     requires { ⌜ n ≤ length (now height) ⌝ }
-    ensures { λ r. ⌜ Stands (now (height .entry)) n g r ⌝ }
+    ensures { λ r. ⌜ Stands (row (now (height .entry))) n g r ⌝ }
 {
     let mut a: usize = 0;
     while a < n {
@@ -37,7 +37,7 @@ pub fn stands(height: &[usize], n: usize, g: usize) -> bool
     false
 }
 
-// A job that one of height h can displace in stretch s, up to the class tight; n + 1 where there is none.
+// The last job that one of height h can displace in stretch s, up to the class tight; n + 1 where there is none.
 pub fn aim(
     class: &[usize],
     w: &[u32],

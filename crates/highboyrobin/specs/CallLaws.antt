@@ -1,6 +1,6 @@
 -- What a call's answer says of every plan: the least lateness answered is least, a 10 means that there is no right plan, a reason
--- is told exactly where there is none, and the check answers 1 exactly for right plans.
-use Prim.Native.Nat.{ℕ, _/_, _≤_}
+-- is told exactly where there is none, and the check answers 1 exactly for right plans. And a call has one outcome.
+use Prim.Native.Nat.{ℕ, _+_, _/_, _≤_}
 use mathlib.Core.Path.{_≡_, refl, sym, ap, _∙_}
 use mathlib.Core.Bool.{Bool, true, false, cond}
 use mathlib.Core.List.{List, [], _∷_, _++_}
@@ -51,8 +51,9 @@ use Rattle.planner.specs.NoPlan.{NoPlan, reason-no-plan, none-where-met}
 use Rattle.planner.specs.Rows.{rowsAsked, bufferRow, isFound, leastRows, earlierRows, planRows}
 use Rattle.planner.specs.Demand.{Demand3}
 use Rattle.planner.specs.DemandMet.{tight-refused, demand-3}
+use Rattle.planner.specs.WrittenOne.{written-one}
 use Rattle.highboyrobin.specs.Results.{answerRow, fileCall}
-use Rattle.highboyrobin.specs.Calls.{leastCall, planCall, reasonCall, reasonNumbers, reasonAnswer, checkCall, checkAnswer}
+use Rattle.highboyrobin.specs.Calls.{leastCall, planCall, PlanBy, reasonCall, reasonNumbers, reasonAnswer, checkCall, checkAnswer}
 
 kind-none : (o : Order) (r : Found Reason) → (getD (reasonNumbers o r) 0 (pos 0) ≡ pos 0) ↔ (isFound r ≡ false)
 kind-none o nothing = (λ e. refl, λ e. refl)
@@ -88,6 +89,17 @@ one-true false e = let z : _≡_ {A = ℕ} 0 1 = cc in absurd (omega arith)
 zero-of : (b : Bool) → ¬ (b ≡ true) → pos (cond b 1 0) ≡ pos 0
 zero-of true h = absurd (h refl)
 zero-of false h = refl
+
+-- rows and answer of hbr_least and hbr_plan are determined by the verdict, the order, the bound and what was lent
+pub plan-by-one : (v : Verdict) (o : Order) (bound : ℤ) (first : List ℤ) (rows rows′ rows″ : List ℕ) (answer answer′ answer″ : List ℤ) →
+    PlanBy v o bound first rows rows′ answer answer′ → PlanBy v o bound first rows rows″ answer answer″ →
+    (rows′ ≡ rows″) × (answer′ ≡ answer″)
+plan-by-one accepted o bound first rows rows′ rows″ answer answer′ answer″ P Q =
+    let same = written-one o bound rows rows′ rows″ (P .count) (Q .count) (P .written) (Q .written) in (
+      same .0,
+      P .answered ∙ ap (λ (n : ℕ). (first ++ (pos n ∷ [])) ++ drop (length first + 1) answer) (same .1) ∙ sym (Q .answered),
+    )
+plan-by-one (refused number job) o bound first rows rows′ rows″ answer answer′ answer″ P Q = (P .0 ∙ sym (Q .0), P .1 ∙ sym (Q .1))
 
 -- a reason is nineteen numbers
 pub numbers-count : (o : Order) (r : Found Reason) → length (reasonNumbers o r) ≡ 19

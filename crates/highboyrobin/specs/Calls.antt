@@ -33,8 +33,7 @@ leastCall file numbers lent = fileCall lent 2 file (leastRows (orderIn file) num
 abbrev pub planCall : List ℕ → ℤ → ℕ → ℕ → List TableRow
 planCall file bound numbers lent = fileCall lent 1 file (planRows (orderIn file) bound numbers)
 
--- a plan was written at a bound, and the answer holds these numbers and then the count of its rows, which depends on amounts
--- that are left free
+-- a plan was written at a bound, and the answer holds these numbers and then the count of its rows
 pub record PlanAnswered (o : Order) (bound : ℤ) (first : List ℤ) (rows rows′ : List ℕ) (answer answer′ : List ℤ) : Type 0 where
   pub count : ℕ
   pub written : Written o bound rows rows′ count

@@ -30,7 +30,6 @@ use Rattle.profile.specs.Least.{leastLateness}
 use Rattle.profile.specs.Reason.{Reason}
 use Rattle.profile.specs.Search.{Found, nothing, found, reasonOf}
 use Rattle.reason.specs.Told.{reasonTold, whyTold}
-use Rattle.wrap.specs.Layout.{layout}
 use Rattle.planner.specs.Rows.{leastRows, planRows}
 use Rattle.planner.specs.Told.{reasonCarried, whyIn, ReasonTold}
 use Rattle.planner.specs.Written.{Written}
@@ -92,8 +91,8 @@ accepted-false v e = sym (ap isRefused e)
 -- the rows written are in the buffer
 pub written-room : {o : Order} {bound : ℤ} {rows rows′ : List ℕ} {count : ℕ} → Written o bound rows rows′ count →
     4 * count ≤ length rows′
-written-room {o} {bound} {rows} w =
-    let plan = layout o bound (w .amounts) in
+written-room {rows = rows} w =
+    let plan = w .plan in
     omega (
       arith,
       w .count-is,
@@ -116,14 +115,13 @@ module _ (o : Order) (rows rows′ : List ℕ) (l : Least) (t : LeastTold o rows
 pub plan-text : (o : Order) (rows rows′ : List ℕ) (z : ℤ) (count : ℕ) → z ≡ leastLateness o →
     Written o (leastLateness o) rows rows′ count → PlanText o (planLines z (tabulate count (rowAt rows′)))
 plan-text o rows rows′ z count e w =
-    let plan : List Row = layout o (leastLateness o) (w .amounts) in
+    let plan : List Row = w .plan in
     let same : tabulate count (rowAt rows′) ≡ plan
     = ap (λ (n : ℕ). tabulate n (rowAt rows′)) (w .count-is)
     ∙ (ap (λ (ns : List ℕ). tabulate (length plan) (rowAt ns)) (w .rows-are) ∙ rows-first plan (drop (4 * length plan) rows)) in
     record {
-      amounts = w .amounts;
-      feasible = w .feasible;
-      right = w .right;
+      plan = plan;
+      plan-of = w .plan-of;
       text-is = ap (λ (y : ℤ). planLines y (tabulate count (rowAt rows′))) e ∙ ap (planLines (leastLateness o)) same;
     }
 

@@ -4,4 +4,5 @@ pub mod SignedLaws
 pub mod Lines
 pub mod LineLaws
 pub mod Programs
+pub mod ProgramLaws
 pub mod Inside

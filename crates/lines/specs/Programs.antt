@@ -10,13 +10,12 @@ use Rattle.order.specs.Order.{Order}
 use Rattle.order.specs.Refusals.{TableRow, Verdict, accepted, refused, judge, fileRow}
 use Rattle.order_file.specs.Bytes.{number4, signed}
 use Rattle.order_file.specs.File.{goodFile, orderIn}
-use Rattle.plan.specs.Plan.{Right}
+use Rattle.plan.specs.Plan.{Row}
 use Rattle.profile.specs.Least.{leastLateness}
 use Rattle.profile.specs.Search.{reasonOf}
-use Rattle.wrap.specs.Layout.{layout}
-use Rattle.wrap.specs.Stretches.{FeasibleFor}
 use Rattle.planner.specs.Rows.{leastRows, planRows}
 use Rattle.planner.specs.Told.{reasonCarried}
+use Rattle.planner.specs.Written.{PlanOf}
 use Rattle.lines.specs.Text.{Put}
 use Rattle.lines.specs.Lines.{refusedLine, planLines, boundLine}
 use Rattle.lines.specs.declared.Output.{Output}
@@ -33,12 +32,11 @@ isRefused (refused refusal carried) = true
 unfoldable pub planOrderRows : List ℕ → List TableRow
 planOrderRows file = fileRow (goodFile file) ∷ leastRows (orderIn file) rowsLent
 
--- the lines of a right plan at the least lateness, which is the layout of feasible amounts; which amounts is left free
+-- the lines of the planner's plan at the least lateness
 pub record PlanText (o : Order) (text : List ℕ) : Type 0 where
-  pub amounts : ℕ → ℕ → ℕ
-  pub feasible : FeasibleFor o (leastLateness o) amounts
-  pub right : Right o (leastLateness o) (layout o (leastLateness o) amounts)
-  pub text-is : text ≡ planLines (leastLateness o) (layout o (leastLateness o) amounts)
+  pub plan : List Row
+  pub plan-of : PlanOf o (leastLateness o) plan
+  pub text-is : text ≡ planLines (leastLateness o) plan
 
 abbrev pub PlanOrderText : Verdict → Order → List ℕ → Type 0
 PlanOrderText accepted o text = PlanText o text

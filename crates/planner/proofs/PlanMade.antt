@@ -1,7 +1,7 @@
--- How a plan is made where there is no reason: the instance's amounts are feasible, their layout has room and is right. The bound
--- is told twice, as it was passed and as the machine reads it back.
+-- How a plan is made where there is no reason: the instance's amounts are the order's and feasible, their layout has room and is
+-- right. The bound is told twice, as it was passed and as the machine reads it back.
 use Prim.Native.Nat.{ℕ, suc, _+_, _*_, _≤_}
-use mathlib.Core.Path.{_≡_, ap, _∙_, subst}
+use mathlib.Core.Path.{_≡_, refl, ap, _∙_, subst}
 use mathlib.Core.Bool.{Bool, true}
 use mathlib.Core.List.{List, _++_}
 use native.Mathlib.Omega.{arith}
@@ -18,8 +18,9 @@ use Rattle.wrap.specs.Layout.{layout}
 use Rattle.wrap.specs.LayoutRight.{layout-right}
 use Rattle.wrap.specs.LayoutOrdered.{layout-count}
 use Rattle.engine.specs.View.{grid, Answer}
+use Rattle.engine.specs.Run.{RunOf}
 use Rattle.allot.specs.Instances.{flowIn, Sized, StandsFor, amountIn}
-use Rattle.allot.specs.Feasible.{stands-sized, stands-feasible}
+use Rattle.allot.specs.Feasible.{stands-sized, stands-feasible, stands-chosen}
 use Rattle.allot.specs.declared.Instance.{Instance}
 use Rattle.planner.specs.Rows.{rowsAsked}
 use Rattle.planner.specs.RowLaws.{asked-few}
@@ -55,21 +56,28 @@ module _ (t : OrderTable) (bound read : ℤ) (same : read ≡ bound) (accepted :
     rows-fit w n h = omega (arith, layout-count (orderOf t) read (amountIn (i .stretches) w))
 
     pub plan-made : NoReason (orderOf t) bound → (w : List ℕ) (r : Bool) →
-        Answer (flowIn i) (suc (i .classes)) (grid (i .stretches) w) r → (entry exit : List ℕ) (count : ℕ) →
+        Answer (flowIn i) (suc (i .classes)) (grid (i .stretches) w) r →
+        RunOf (flowIn i) (suc (i .classes)) (grid (i .stretches) w) r → (entry exit : List ℕ) (count : ℕ) →
         count ≡ length (layout (orderOf t) read (amountIn (i .stretches) w)) →
         exit ≡ numbersOf (layout (orderOf t) read (amountIn (i .stretches) w))
         ++ drop (4 * length (layout (orderOf t) read (amountIn (i .stretches) w))) entry →
         Written (orderOf t) bound entry exit count × (count ≤ 3024)
-    plan-made none w r answer entry exit count e f =
+    plan-made none w r answer run entry exit count e f =
         let a : ℕ → ℕ → ℕ = amountIn (i .stretches) w in
         let feasible = stands-feasible (orderOf t) accepted bound none i at-bound w r answer in (
           record {
-            amounts = a;
-            feasible = feasible;
+            plan = layout (orderOf t) bound a;
+            plan-of =
+                record {
+                  amounts = a;
+                  chosen = stands-chosen (orderOf t) accepted bound none i at-bound w r answer run;
+                  feasible = feasible;
+                  plan-is = refl;
+                  right = layout-right (orderOf t) bound a feasible;
+                };
             rows-are =
                 f ∙ ap (λ (b : ℤ). numbersOf (layout (orderOf t) b a) ++ drop (4 * length (layout (orderOf t) b a)) entry) same;
             count-is = e ∙ ap (λ (b : ℤ). length (layout (orderOf t) b a)) same;
-            right = layout-right (orderOf t) bound a feasible;
           },
           omega (arith, e, layout-count (orderOf t) read a, asked-few (orderOf t) accepted),
         )

@@ -1,5 +1,6 @@
 pub mod Rows
 pub mod Written
+pub mod WrittenOne
 pub mod Told
 pub mod Judged
 pub mod RowLaws

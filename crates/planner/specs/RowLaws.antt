@@ -1,9 +1,11 @@
 -- A plan has at most 3,024 rows.
 use Prim.Native.Nat.{ℕ, _+_, _-_, _≤_}
+use mathlib.Core.Path.{ap}
 use mathlib.Core.List.{List}
 use native.Mathlib.Omega.{arith}
 use native.Mathlib.Nat.{mul-le-mul-left, mul-le-mul-right}
 use lib.IntN.{ℤ}
+use lib.ListN.{length}
 use Rattle.order.specs.Order.{Order, processorCount, jobCount}
 use Rattle.order.specs.Refusals.{Accepted}
 use Rattle.order.specs.RefusalLaws.{accepted-iff}
@@ -28,4 +30,5 @@ asked-few o accepted =
 -- so many rows were written at most
 pub written-few : {o : Order} {bound : ℤ} {entry exit : List ℕ} {count : ℕ} → Accepted o → Written o bound entry exit count →
     count ≤ 3024
-written-few {o} {bound} a w = omega (arith, w .count-is, layout-count o bound (w .amounts), asked-few o a)
+written-few {o} {bound} a w =
+    let p = w .plan-of in omega (arith, w .count-is, ap length (p .plan-is), layout-count o bound (p .amounts), asked-few o a)

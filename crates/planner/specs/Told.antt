@@ -1,5 +1,4 @@
--- What the planner's answers stand for. The number of rows depends on amounts that are left free: it is named, and Written says
--- what holds of it.
+-- What the planner's answers stand for. The number of rows is named here; Written says which it is.
 use Prim.Native.Nat.{ℕ}
 use mathlib.Core.Path.{_≡_}
 use mathlib.Core.Bool.{cond}

@@ -1,5 +1,5 @@
--- What the planner leaves in the lent buffer: the layout of feasible amounts, which is a right plan, and what stood beyond it;
--- where it refuses, what it was lent. Which amounts is left free.
+-- What the planner leaves in the lent buffer: its plan and what stood beyond it; where it refuses, what it was lent. The plan is the
+-- layout of the amounts that the order has at the bound, so it is determined (WrittenOne).
 use Prim.Native.Nat.{ℕ, _*_}
 use mathlib.Core.Path.{_≡_}
 use mathlib.Core.List.{List, _++_}
@@ -11,14 +11,22 @@ use Rattle.plan.specs.Plan.{Row, Right}
 use Rattle.plan.specs.Check.{numbersOf}
 use Rattle.wrap.specs.Stretches.{FeasibleFor}
 use Rattle.wrap.specs.Layout.{layout}
+use Rattle.allot.specs.Chosen.{Chosen}
 
--- a plan at a bound was written: `count` rows
-pub record Written (o : Order) (bound : ℤ) (entry exit : List ℕ) (count : ℕ) : Type 0 where
+-- the planner's plan at a bound
+pub record PlanOf (o : Order) (bound : ℤ) (plan : List Row) : Type 0 where
   pub amounts : ℕ → ℕ → ℕ
+  pub chosen : Chosen o bound amounts
   pub feasible : FeasibleFor o bound amounts
-  pub rows-are : exit ≡ numbersOf (layout o bound amounts) ++ drop (4 * length (layout o bound amounts)) entry
-  pub count-is : count ≡ length (layout o bound amounts)
-  pub right : Right o bound (layout o bound amounts)
+  pub plan-is : plan ≡ layout o bound amounts
+  pub right : Right o bound plan
+
+-- it was written: `count` rows
+pub record Written (o : Order) (bound : ℤ) (entry exit : List ℕ) (count : ℕ) : Type 0 where
+  pub plan : List Row
+  pub plan-of : PlanOf o bound plan
+  pub rows-are : exit ≡ numbersOf plan ++ drop (4 * length plan) entry
+  pub count-is : count ≡ length plan
 
 -- the buffer at exit, by what the table answers
 abbrev pub BufferBy : Verdict → Order → ℤ → List ℕ → List ℕ → ℕ → Type 0

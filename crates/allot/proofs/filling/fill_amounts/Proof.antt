@@ -1,7 +1,7 @@
 use native.Mathlib.Numerals.{add-one}
 use native.Mathlib.Omega.{arith}
 use borrow.Author.Needs.{needs}
-use Rattle.allot.proofs.Carrying.{caps-fit, rooms-fit, given, answered}
+use Rattle.allot.proofs.Carrying.{caps-fit, rooms-fit, given, answered, carried}
 use Rattle.allot.proofs.filling.fill_amounts.Statement.{statement}
 use Rattle.allot.proofs.filling.fill_amounts.Tie as tie
 
@@ -95,10 +95,14 @@ returns c =
     let caps = rooms .before .before .before in
     let classes = caps .before .before .before in
     let times = classes .before .before .before in
-    let start = times .before .before .before in
-    answered (start .args .t) (start .pre .0) _ _ _ _ (times .put-times .ensures) (classes .put-classes .ensures)
-    (caps .put-caps .ensures) (rooms .put-rooms .ensures) _ (add-one _) (solve .last .1 .1 .1 .1 .0) (solve .result)
-    (solve .ensures)
+    let start = times .before .before .before in (
+      answered (start .args .t) (start .pre .0) _ _ _ _ (times .put-times .ensures) (classes .put-classes .ensures)
+          (caps .put-caps .ensures) (rooms .put-rooms .ensures) _ (add-one _) (solve .last .1 .1 .1 .1 .0) (solve .result)
+          (solve .ensures .0),
+      carried (start .args .t) (start .pre .0) _ _ _ _ (times .put-times .ensures) (classes .put-classes .ensures)
+          (caps .put-caps .ensures) (rooms .put-rooms .ensures) _ (add-one _) (solve .last .1 .1 .1 .1 .0) (solve .result)
+          (solve .ensures .1),
+    )
 
 pub fill-amounts-spec : {M : Type 1} → statement M
 fill-amounts-spec =

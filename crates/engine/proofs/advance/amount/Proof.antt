@@ -56,7 +56,7 @@ returns c =
       cap-fits = omega (arith, L .most);
       w-fits = omega (arith, L .most);
       slack-fits = L .under;
-      positive = λ x y z f. L .positive (a2 .2 (a .2 x (omega arith)) z) f;
+      greatest = λ v x y z f. L .greatest v (a2 .2 v (a .2 v x (omega arith)) z) f;
     }
 
 pub amount-spec : {M : Type 1} → statement M

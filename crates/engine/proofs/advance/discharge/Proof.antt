@@ -1,15 +1,10 @@
 use borrow.Author.Needs.{needs}
 use native.Mathlib.Omega.{arith}
-use Prim.Native.Nat.{ℕ, suc, _^_, _≤_, _<_, _+_, _*_}
-use mathlib.Core.Path.{_≡_, _∙_, refl}
-use mathlib.Core.List.{[]}
-use lib.ListN.{length, getD, set, length-set}
-use Rattle.amounts.specs.State.{measure}
-use Rattle.amounts.specs.State.{Barred}
-use Rattle.engine.specs.View.{Ready, flowOf, fillOf}
-use Rattle.amounts.specs.State.{class-top}
-use Rattle.engine.proofs.Laws.{found-push, found-rise}
-use Rattle.engine.proofs.Steps.{Going, going-start, going-push, going-done, going-rise}
+use Prim.Native.Nat.{_^_}
+use Rattle.amounts.specs.State.{measure, class-top}
+use Rattle.engine.specs.View.{fillOf}
+use Rattle.engine.proofs.Laws.{found-as}
+use Rattle.engine.proofs.Steps.{Going, going-start, going-push, going-done, going-rise, run-done, run-rise}
 use Rattle.engine.proofs.advance.discharge.Statement.{statement}
 use Rattle.engine.proofs.advance.discharge.Tie as tie
 use Rattle.engine.proofs.advance.discharge.Reads as reads
@@ -29,7 +24,9 @@ abbrev top : tie.After-find-arg3 Inv-loop μ-loop → tie.Start Inv-loop μ-loop
 top c = c .before .before .before .before .before .before .before .before .before .before .before .before .before .before
 
 loop-holds : tie.Need-loop-holds Inv-loop μ-loop
-loop-holds c = search needs
+loop-holds c =
+    let s = c .before .before .before .before .before .before .before .before in
+    going-start _ _ _ _ _ _ _ _ _ _ _ _ (s .pre .0) (s .pre .1 .1) (s .pre .1 .2)
 
 mul-if1 : tie.Need-mul-if1 Inv-loop μ-loop
 mul-if1 c = search needs
@@ -48,20 +45,30 @@ enum-known-s c = search needs
 
 push-requires : tie.Need-push-requires Inv-loop μ-loop
 push-requires c κs =
-    (c .before .before .before .before .before .before .before .before .before .before .before .before .before .loop .inv .ready, (c .before .before .before .before .before .before .before .before .before .before .before .if1 .taken, found-push _ _ _ _ _ _ (c .before .before .before .before .before .before .before .find .ensures) (c .before .before .before .before .before .s .given .1) .0))
+    let f = c .before .before .before .before .before .before .before in
+    let t = f .before .before .before .before in (
+      t .before .before .loop .inv .ready,
+      (t .if1 .taken, found-as _ _ _ _ _ (f .find .ensures) (c .before .before .before .before .before .s .given .1) .0),
+    )
 
 add-u : tie.Need-add-u Inv-loop μ-loop
-add-u c = omega (arith, found-push _ _ _ _ _ _ (c .before .before .before .before .before .before .before .before .before .before .before .before .before .before .find .ensures) (c .before .before .before .before .before .before .before .before .before .before .before .before .s .given .1) .0 .s-any, top (c .before .before .before .before .before .before .before .before .before .before .before .before .before .before .before) .fits .q)
+add-u c =
+    let g = c .before .before .before .before .before .before .before .before .before .before .before .before in
+    let f = g .before .before in
+    omega (arith, found-as _ _ _ _ _ (f .find .ensures) (g .s .given .1) .0 .s-any, top (f .before) .fits .q)
 
 loop-less : tie.Need-loop-less Inv-loop μ-loop
 loop-less c = search needs
 
 loop-again : tie.Need-loop-again Inv-loop μ-loop
 loop-again c =
-    let f = found-push _ _ _ _ _ _ (c .before .before .before .before .before .before .before .before .before .before .before .before .before .before .find .ensures) (c .before .before .before .before .before .before .before .before .before .before .before .before .s .given .1) in
+    let g = c .before .before .before .before .before .before .before .before .before .before .before .before in
+    let f = g .before .before in
+    let t = f .before .before .before .before in
     let p = c .before .before .before .before .before .before .push in
     let k = p .kept .1 .1 .1 .1 in
-    going-push _ _ _ _ _ _ _ _ _ _ _ _ _ _ _ _ _ (c .before .before .before .before .before .before .before .before .before .before .before .before .before .before .before .before .before .before .before .before .loop .inv) _ _ _ _ (f .0 .s-any) (f .1) (p .ensures) (k .0) (k .1 .0) (k .1 .1 .0)
+    going-push _ _ _ _ _ _ _ _ _ _ _ _ _ _ _ _ _ (t .before .before .loop .inv) _ _ _ _ _ (t .if1 .taken)
+    (found-as _ _ _ _ _ (f .find .ensures) (g .s .given .1)) (p .ensures .0) (k .0) (k .1 .0) (k .1 .1 .0) (p .ensures .1)
 
 enum-told : tie.Need-enum-told Inv-loop μ-loop
 enum-told c = search needs
@@ -96,8 +103,13 @@ same-length-4 c = search needs
 returns : tie.Need-returns Inv-loop μ-loop
 returns c =
     let k = c .before .before .before .before in
-    going-rise _ _ _ _ _ _ _ _ _ _ _ _ _ _ _ _ _ (c .before .before .before .before .before .before .before .before .before .loop .inv) (top k .pre .1 .0) (omega (arith, c .before .before .before .before .before .before .before .before .slice-known5 .given (top k .args .j)))
-    (found-rise _ _ _ _ (c .before .before .before .find .ensures) (c .before .enum-told .given .1))
+    let G = k .before .before .before .before .before .loop .inv in
+    let B = found-as _ _ _ _ _ (c .before .before .before .find .ensures) (c .before .enum-told .given .1) in (
+      going-rise _ _ _ _ _ _ _ _ _ _ _ _ _ _ _ _ _ G (top k .pre .1 .0)
+          (omega (arith, k .before .before .before .before .slice-known5 .given (top k .args .j))) B,
+      run-rise _ _ _ _ _ _ _ _ _ _ _ _ _ _ _ _ _ G (omega (arith, top k .pre .1 .0, G .ready .sizes .s-h))
+          (k .before .before .before .if1 .taken) B,
+    )
 
 same-length-5 : tie.Need-same-length-5 Inv-loop μ-loop
 same-length-5 c = search needs
@@ -112,7 +124,11 @@ same-length-8 : tie.Need-same-length-8 Inv-loop μ-loop
 same-length-8 c = search needs
 
 returns-2 : tie.Need-returns-2 Inv-loop μ-loop
-returns-2 c = going-done _ _ _ _ _ _ _ _ _ _ _ _ _ _ _ _ _ (c .before .before .loop .inv) (omega (arith, c .if1 .left))
+returns-2 c =
+    let G = c .before .before .loop .inv in (
+      going-done _ _ _ _ _ _ _ _ _ _ _ _ _ _ _ _ _ G (omega (arith, c .if1 .left)),
+      run-done _ _ _ _ _ _ _ _ _ _ _ _ _ _ _ _ _ G (omega (arith, c .if1 .left)),
+    )
 
 pub discharge-spec : {M : Type 1} → statement M
 discharge-spec =

@@ -1,7 +1,7 @@
 use Prim.Native.Nat.{ℕ, _+_, _*_, _^_, _<_, _≤_}
 use mathlib.Core.Path.{sym}
 use lib.ListN.{length, getD}
-use Rattle.engine.proofs.Steps.{Places, places, left-fits, raise-fits, pushed}
+use Rattle.engine.proofs.Steps.{Places, places, left-fits, raise-fits, pushed, displaced}
 use borrow.Author.Needs.{needs}
 use native.Mathlib.Omega.{arith}
 use borrow.Author.Needs.{needs}
@@ -75,21 +75,24 @@ transfer-requires c κs =
     let k = c .before .before .before .before .before in
     let p = at k in
     let D = c .before .amount .ensures in
-    ((p .up-w, p .down-w, p .apart), (omega (arith, D .cap-fits, cap-small k (top k .args .j * top k .args .q + top k .args .s)), D .w-fits))
+    let small = cap-small k (top k .args .j * top k .args .q + top k .args .s) in
+    ((p .up-w, p .down-w, p .apart), (omega (arith, D .cap-fits, small), D .w-fits))
 
 transfer-requires-2 : tie.Need-transfer-requires-2
 transfer-requires-2 c κs =
     let k = c .before .before .before .before .before .before .before .before .before in
     let p = at k in
     let D = c .before .before .before .before .before .amount .ensures in
-    ((p .i-left, p .j-left, p .differ), (left-fits _ _ _ _ _ _ _ _ _ _ _ (top k .pre .0) _ _ _ (top k .pre .1 .1) _ D (time-small k), D .left-fits))
+    let fits = left-fits _ _ _ _ _ _ _ _ _ _ _ (top k .pre .0) _ _ _ (top k .pre .1 .1) _ D (time-small k) in
+    ((p .i-left, p .j-left, p .differ), (fits, D .left-fits))
 
 reslack-requires : tie.Need-reslack-requires
 reslack-requires c κs =
     let k = c .before .before .before .before .before .before .before .before .before .before .before .before .before in
     let p = at k in
     let D = c .before .before .before .before .before .before .before .before .before .amount .ensures in
-    ((p .from-slack, p .to-slack), (D .slack-fits, raise-fits _ _ _ _ _ _ _ _ _ _ _ (top k .pre .0) _ _ _ (top k .pre .1 .1) _ D (room-small k)))
+    let fits = raise-fits _ _ _ _ _ _ _ _ _ _ _ (top k .pre .0) _ _ _ (top k .pre .1 .1) _ D (room-small k) in
+    ((p .from-slack, p .to-slack), (D .slack-fits, fits))
 
 same-length : tie.Need-same-length
 same-length c = search needs
@@ -102,9 +105,17 @@ same-length-3 c = search needs
 
 returns : tie.Need-returns
 returns c =
-    let k = c .before .before .before .before .before .before .before .before .before .before .before .before .before .before .before .before in
-    let D = c .before .before .before .before .before .before .before .before .before .before .before .before .amount .ensures in
-    pushed _ _ _ _ _ _ _ _ _ _ _ (top k .pre .0) _ _ _ (top k .pre .1 .1) _ D _ _ _ (top k .pre .1 .0) (c .before .before .before .before .before .before .before .before .before .before .transfer .ensures) (c .before .before .before .before .before .before .transfer2 .ensures) (c .before .before .reslack .ensures)
+    let l = c .before .before .before .before .before .before in
+    let w = l .before .before .before .before in
+    let a = w .before .before in
+    let k = a .before .before .before .before in
+    let D = a .amount .ensures in
+    let W = w .transfer .ensures in
+    let L = l .transfer2 .ensures in
+    let S = c .before .before .reslack .ensures in (
+      pushed _ _ _ _ _ _ _ _ _ _ _ (top k .pre .0) _ _ _ (top k .pre .1 .1) _ D _ _ _ W L S (top k .pre .1 .0),
+      displaced _ _ _ _ _ _ _ _ _ _ _ (top k .pre .0) _ _ _ (top k .pre .1 .1) _ D _ _ _ W L S,
+    )
 
 pub push-spec : {M : Type 1} → statement M
 push-spec =

@@ -1,9 +1,8 @@
 use mathlib.Core.Path.{_∙_}
 use lib.ListN.{length-set}
-use Rattle.engine.proofs.Steps.{begin}
+use Rattle.engine.proofs.Steps.{begin, solved}
 use borrow.Author.Needs.{needs}
 use native.Mathlib.Omega.{arith}
-use borrow.Author.Needs.{needs}
 use Rattle.engine.proofs.filling.solve.Statement.{statement}
 use Rattle.engine.proofs.filling.solve.Tie as tie
 use Rattle.engine.proofs.filling.solve.Reads as reads
@@ -43,14 +42,15 @@ level-requires c κs = search needs
 
 fill-requires : tie.Need-fill-requires
 fill-requires c κs =
-    let p = c .before .before .before .before .before .before .before .before .before .before .before .before .before .before .before .before .before .before .before .before .before .before .before .before .before .before .before .before .before .before .before .before in
-    let i = c .before .before .before .before .before .before .before .before .before .before .before .before .before .before .before .before .before .before .idle-row in
-    let z = c .before .before .before .before .before .before .before .before .before .before .before .before .before .before .before .before .before .before .before .before .before .before .put-all in
-    let s = c .before .before .before .before .before .before .before .before .before .before .before .before .before .before .copy in
-    let l = c .before .before .before .before .before .before .before .before .before .before .copy2 in
-    let h = c .before .before .before .before .before .before .level in
-    begin _ _ _ _ _ _ _ _ _ _ _ _ _ _ _ _ (p .pre .0) (p .pre .1) (z .ensures) (i .ensures) (s .ensures) (l .ensures) (h .ensures)
-    (z .kept .0) (i .kept .1 .0) (s .kept .1 .0) (l .kept .1 .0) (h .kept .0)
+    let h = c .before .before .before .before .before .before in
+    let l = h .before .before .before .before in
+    let s = l .before .before .before .before in
+    let i = s .before .before .before .before in
+    let z = i .before .before .before .before in
+    let p = z .before .before .before .before .before .before .before .before .before .before in
+    begin _ _ _ _ _ _ _ _ _ _ _ _ _ _ _ _ (p .pre .0) (p .pre .1) (z .put-all .ensures) (i .idle-row .ensures) (s .copy .ensures)
+    (l .copy2 .ensures) (h .level .ensures) (l .copy2 .kept .1 .0) (z .put-all .kept .0) (i .idle-row .kept .1 .0)
+    (s .copy .kept .1 .0) (h .level .kept .0)
 
 same-length : tie.Need-same-length
 same-length c = search needs
@@ -59,13 +59,27 @@ same-length-2 : tie.Need-same-length-2
 same-length-2 c = search needs
 
 same-length-3 : tie.Need-same-length-3
-same-length-3 c = (simp length-set at (c .before .before .before .before .before .before .before .before .fill .kept .1 .1 .1 .1 .1 .1 .0)) ∙ c .before .before .before .before .before .before .before .before .before .before .before .before .before .before .before .before .before .before .before .copy2 .kept .1 .0
+same-length-3 c =
+    let f = c .before .before .before .before .before .before .before .before in
+    let l = f .before .before .before .before .before .before .before .before .before .before .before in
+    (simp length-set at (f .fill .kept .1 .1 .1 .1 .1 .1 .0)) ∙ l .copy2 .kept .1 .0
 
 same-length-4 : tie.Need-same-length-4
 same-length-4 c = search needs
 
 returns : tie.Need-returns
-returns c = search needs
+returns c =
+    let f = c .before .before .before .before .before .before .before .before in
+    let h = f .before .before .before .before .before .before .before in
+    let l = h .before .before .before .before in
+    let s = l .before .before .before .before in
+    let i = s .before .before .before .before in
+    let z = i .before .before .before .before in
+    let p = z .before .before .before .before .before .before .before .before .before .before in
+    let run =
+    solved _ _ _ _ _ _ _ _ _ _ _ _ _ _ _ _ (p .pre .0) (p .pre .1) (z .put-all .ensures) (i .idle-row .ensures) (s .copy .ensures)
+    (l .copy2 .ensures) (h .level .ensures) (l .copy2 .kept .1 .0) _ _ (f .fill .ensures .1) in
+    (f .fill .ensures .0, run)
 
 pub solve-spec : {M : Type 1} → statement M
 solve-spec =

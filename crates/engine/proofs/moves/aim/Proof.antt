@@ -23,7 +23,7 @@ add-result : tie.Need-add-result Inv-loop μ-loop
 add-result c = search needs
 
 returns : tie.Need-returns Inv-loop μ-loop
-returns c = record { found = λ a. absurd (omega arith); missing = λ a i b w t. omega arith }
+returns c = record { found = λ a. absurd (omega arith); missing = λ a i b w t. omega arith; last = λ i a b. absurd (omega arith) }
 
 sub-below : tie.Need-sub-below Inv-loop μ-loop
 sub-below c = search needs
@@ -67,28 +67,46 @@ mul-if4-2 c =
 shared-slice-read-if4 : tie.Need-shared-slice-read-if4 Inv-loop μ-loop
 shared-slice-read-if4 c =
     let s = c .before .before .before .before .before .before .before .before .args in
-    omega (arith, in-rows (c .before .before .before .before .before .before .loop .i - 1) (s .q) (s .s) (suc (s .n)) (omega arith) (omega arith))
+    let i = c .before .before .before .before .before .before .loop .i in
+    omega (arith, in-rows (i - 1) (s .q) (s .s) (suc (s .n)) (omega arith) (omega arith))
 
 returns-2 : tie.Need-returns-2 Inv-loop μ-loop
-returns-2 c = search needs
+returns-2 c =
+    let v = c .before .before .before .before .before .before .before .loop .inv in
+    record { found = search needs; missing = λ a. absurd (omega arith); last = λ i a. v .2 i (omega arith) }
 
 loop-less : tie.Need-loop-less Inv-loop μ-loop
 loop-less c = search needs
 
 loop-again : tie.Need-loop-again Inv-loop μ-loop
-loop-again c = (search needs, c .before .before .before .before .before .before .before .loop .inv .1, from-more _ _ (c .before .before .before .before .before .before .before .loop .inv .2) (λ a f g e. omega (arith, c .before .before .before .before .before .before .before .loop .inv .1)))
+loop-again c =
+    let v = c .before .before .before .before .before .before .before .loop .inv in (
+      search needs,
+      v .1,
+      from-more _ _ (v .2) (λ a f g e. omega (arith, v .1)),
+    )
 
 loop-less-2 : tie.Need-loop-less-2 Inv-loop μ-loop
 loop-less-2 c = search needs
 
 loop-again-2 : tie.Need-loop-again-2 Inv-loop μ-loop
-loop-again-2 c = (search needs, c .before .before .before .before .before .loop .inv .1, from-more _ _ (c .before .before .before .before .before .loop .inv .2) (λ a f g e. omega (arith, c .before .before .before .before .before .loop .inv .1)))
+loop-again-2 c =
+    let v = c .before .before .before .before .before .loop .inv in (
+      search needs,
+      v .1,
+      from-more _ _ (v .2) (λ a f g e. omega (arith, v .1)),
+    )
 
 loop-less-3 : tie.Need-loop-less-3 Inv-loop μ-loop
 loop-less-3 c = search needs
 
 loop-again-3 : tie.Need-loop-again-3 Inv-loop μ-loop
-loop-again-3 c = (search needs, c .before .before .before .loop .inv .1, from-more _ _ (c .before .before .before .loop .inv .2) (λ a f g e. omega (arith, c .before .before .before .loop .inv .1)))
+loop-again-3 c =
+    let v = c .before .before .before .loop .inv in (
+      search needs,
+      v .1,
+      from-more _ _ (v .2) (λ a f g e. omega (arith, v .1)),
+    )
 
 add-result-2 : tie.Need-add-result-2 Inv-loop μ-loop
 add-result-2 c = search needs
@@ -96,7 +114,7 @@ add-result-2 c = search needs
 returns-3 : tie.Need-returns-3 Inv-loop μ-loop
 returns-3 c =
     let l = c .before .loop in
-    record { found = λ a. absurd (omega arith); missing = λ a i b. l .inv .2 i (omega arith) b }
+    record { found = λ a. absurd (omega arith); missing = λ a i b. l .inv .2 i (omega arith) b; last = λ i a b. absurd (omega arith) }
 
 pub aim-spec : {M : Type 1} → statement M
 aim-spec =

@@ -113,6 +113,10 @@ returns c =
         lower = omega (arith, f .2);
       },
       rw e at (b .before .loop .inv .1),
+      λ k lk A.
+          c .before .aim .ensures .last k lk (A .i-any) (A .some)
+          (upto-free _ _ _ _ _ (c .before .before .first-zero .ensures) _ (top b .pre .1 .1 .0 k (A .i-any)) (A .free))
+          (omega (arith, A .lower)),
     )
 
 loop-less : tie.Need-loop-less Inv-loop μ-loop
@@ -134,7 +138,8 @@ loop-again-2 : tie.Need-loop-again-2 Inv-loop μ-loop
 loop-again-2 c =
     let b = c .before .before .before in (
       search needs,
-      barred-more _ _ _ _ _ (omega (arith, b .loop-test .taken)) (b .before .loop .inv .1) (λ k lk sp has fr e. omega (arith, sp, c .if1 .left)),
+      barred-more _ _ _ _ _ (omega (arith, b .loop-test .taken)) (b .before .loop .inv .1)
+          (λ k lk sp has fr e. omega (arith, sp, c .if1 .left)),
     )
 
 returns-2 : tie.Need-returns-2 Inv-loop μ-loop

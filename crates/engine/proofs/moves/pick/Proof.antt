@@ -38,7 +38,8 @@ loop-again : tie.Need-loop-again Inv-loop μ-loop
 loop-again c = (search needs, below-more _ _ (c .before .before .before .loop .inv .1) (omega arith))
 
 returns-2 : tie.Need-returns-2 Inv-loop μ-loop
-returns-2 c = record { within = search needs; active = λ a. absurd (omega arith); done = λ a b l. c .before .loop .inv .1 b (omega arith) }
+returns-2 c =
+    record { within = search needs; active = λ a. absurd (omega arith); first = λ b l. c .before .loop .inv .1 b (omega arith) }
 
 pub pick-spec : {M : Type 1} → statement M
 pick-spec =

@@ -38,15 +38,19 @@ loop-again c =
       search needs,
       omega arith,
       ⊎-elim
-          (λ w. least-more _ _ _ _ _ _ (l .inv .0) (omega arith) (omega arith) (λ a b. omega arith) (l .inv .2))
-          (λ w. least-more _ _ _ _ _ _ (l .inv .0) (omega arith) (omega arith) (λ a b. omega arith) (l .inv .2))
+          (λ w. least-more _ _ _ _ _ _ (l .inv .0) (omega arith) (omega arith) (λ v a b. omega arith) (l .inv .2))
+          (λ w. least-more _ _ _ _ _ _ (l .inv .0) (omega arith) (omega arith) (λ v a b. omega arith) (l .inv .2))
           (c .if1 .came),
     )
 
 returns : tie.Need-returns Inv-loop μ-loop
 returns c =
     let L = c .before .loop .inv .2 in
-    record { most = L .most; under = λ k a b. L .under k a (omega arith); positive = λ a f. L .positive a (λ k u v. f k u (omega arith)) }
+    record {
+      most = L .most;
+      under = λ k a b. L .under k a (omega arith);
+      greatest = λ v a f. L .greatest v a (λ k x y. f k x (omega arith));
+    }
 
 pub least-spec : {M : Type 1} → statement M
 least-spec =

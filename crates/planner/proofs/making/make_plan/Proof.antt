@@ -42,10 +42,12 @@ rising-dues-requires c κs =
     fine-of o _ (s .pre .4) (accepted-iff o .0 (s .pre .0))
 
 processor-order-requires : tie.Need-processor-order-requires
-processor-order-requires c κs = counts-few (c .before .before .before .before .before .before .args .order) (c .before .before .before .before .before .before .pre .0) .0
+processor-order-requires c κs =
+    let s = c .before .before .before .before .before .before in counts-few (s .args .order) (s .pre .0) .0
 
 job-order-requires : tie.Need-job-order-requires
-job-order-requires c κs = counts-few (c .before .before .before .before .before .before .before .args .order) (c .before .before .before .before .before .before .before .pre .0) .1
+job-order-requires c κs =
+    let s = c .before .before .before .before .before .before .before in counts-few (s .args .order) (s .pre .0) .1
 
 slice-aggregate-lay-plan : tie.Need-slice-aggregate-lay-plan
 slice-aggregate-lay-plan c = search needs
@@ -79,11 +81,12 @@ same-length c = search needs
 returns : tie.Need-returns
 returns c =
     let s = c .before .before .before .before .before .before .before .before .before .before .before .before .before in
-    let i = c .before .before .before .before .before .before .before .before .before .before .before .instance-of .ensures (orderOf (s .args .order)) (s .pre .0) (s .pre .4) in
+    let told = c .before .before .before .before .before .before .before .before .before .before .before .instance-of .ensures in
+    let i = told (orderOf (s .args .order)) (s .pre .0) (s .pre .4) in
     let l = c .before .before .lay-plan .ensures in
     let f = c .before .before .before .before .before .before .before .before .before .fill-amounts in
     plan-made (s .args .order) _ _ (toZ-ofZ w32 (s .args .bound) (s .fits .bound)) (s .pre .0) (s .pre .1) _ i (s .pre .2)
-    (f .last .1 .0) (f .result) (f .ensures) _ _ _ (l .0) (l .1)
+    (f .last .1 .0) (f .result) (f .ensures .0) (f .ensures .1) _ _ _ (l .0) (l .1)
 
 pub make-plan-spec : {M : Type 1} → statement M
 make-plan-spec =
