@@ -109,7 +109,7 @@ module _ (t : Instance) (S : Sized t) (time class cap room : List ℕ) (T : Time
         Answer (flowIn t) (suc (t .classes)) (grid (t .stretches) w) r
     answered w r f = told w r (rw e at f)
 
-    -- and of its run
+    -- a run over these lists is the instance's
     pub carried : (w : List ℕ) (r : Bool) →
         RunOf (flowOf (t .jobs) (t .stretches) m time class cap room) m (grid (t .stretches) w) r →
         RunOf (flowIn t) (suc (t .classes)) (grid (t .stretches) w) r

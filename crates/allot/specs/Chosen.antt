@@ -1,5 +1,4 @@
--- Which amounts an order has at a bound, by job number: those of its flow's run. They are determined, so far as jobs and stretches
--- go.
+-- The amounts of an order at a bound, by job number: those of its flow's run. So far as jobs and stretches go they are determined.
 use Prim.Native.Nat.{ℕ, zero, suc, _<_}
 use mathlib.Core.Path.{_≡_}
 use mathlib.Core.Bool.{true}
