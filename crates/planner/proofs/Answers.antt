@@ -10,7 +10,21 @@ use lib.IntN.{ℤ, pos, _+ℤ_, _-ℤ_}
 use lib.ListN.{length}
 use Rattle.order.specs.Order.{Order}
 use Rattle.sums.specs.Lists.{All}
-use Rattle.order.specs.Refusals.{limits, clear, TableRow, Verdict, accepted, refused, judge, answerBy, orderRows, boundRow, tightRow, boundInRange, Accepted}
+use Rattle.order.specs.Refusals.{
+  limits,
+  clear,
+  TableRow,
+  Verdict,
+  accepted,
+  refused,
+  judge,
+  answerBy,
+  orderRows,
+  boundRow,
+  tightRow,
+  boundInRange,
+  Accepted,
+}
 use Rattle.order.specs.Class.{classes}
 use Rattle.order.specs.Deadline.{cut}
 use Rattle.order.specs.RefusalLaws.{

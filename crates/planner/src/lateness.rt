@@ -15,7 +15,8 @@ ghost use Rattle.planner.specs.Told.{leastTold, leastCount, LeastIn};
 
 // The least lateness, with a right plan at it in the lent buffer.
 pub fn least_lateness(order: Order, rows: &mut [u32]) -> Least
-    ensures { λ r. ⌜ leastTold r ≡ answerBy (judge (leastRows (orderOf order) (length (now (rows .entry))))) (leastLateness (orderOf order)) ⌝ }
+    ensures { λ r. ⌜ leastTold r
+        ≡ answerBy (judge (leastRows (orderOf order) (length (now (rows .entry))))) (leastLateness (orderOf order)) ⌝ }
     ensures { λ r. ⌜ LeastIn (orderOf order) r ⌝ }
     ensures { λ r. ⌜ BufferBy (judge (leastRows (orderOf order) (length (now (rows .entry))))) (orderOf order)
         (leastLateness (orderOf order)) (now (rows .entry)) (now (rows .exit)) (leastCount r) ⌝ }

@@ -21,19 +21,35 @@ loop-holds : tie.Need-loop-holds Inv-loop μ-loop
 loop-holds c = search needs
 
 mul-w : tie.Need-mul-w Inv-loop μ-loop
-mul-w c = omega (arith, in-rows (c .before .loop .s) (c .before .before .args .m) (c .before .before .args .m - 1) (c .before .before .args .q) (omega arith) (omega arith))
+mul-w c = omega (
+  arith,
+  in-rows (c .before .loop .s) (c .before .before .args .m) (c .before .before .args .m - 1)
+      (c .before .before .args .q) (omega arith) (omega arith),
+)
 
 sub-w : tie.Need-sub-w Inv-loop μ-loop
 sub-w c = search needs
 
 add-w : tie.Need-add-w Inv-loop μ-loop
-add-w c = omega (arith, in-rows (c .before .loop .s) (c .before .before .args .m) (c .before .before .args .m - 1) (c .before .before .args .q) (omega arith) (omega arith))
+add-w c = omega (
+  arith,
+  in-rows (c .before .loop .s) (c .before .before .args .m) (c .before .before .args .m - 1)
+      (c .before .before .args .q) (omega arith) (omega arith),
+)
 
 mul-w-2 : tie.Need-mul-w-2 Inv-loop μ-loop
-mul-w-2 c = omega (arith, in-rows (c .before .loop .s) (c .before .before .args .m) (c .before .before .args .m - 1) (c .before .before .args .q) (omega arith) (omega arith))
+mul-w-2 c = omega (
+  arith,
+  in-rows (c .before .loop .s) (c .before .before .args .m) (c .before .before .args .m - 1) (c .before .before .args .q)
+      (omega arith) (omega arith),
+)
 
 shared-slice-read-w : tie.Need-shared-slice-read-w Inv-loop μ-loop
-shared-slice-read-w c = omega (arith, in-rows (c .before .before .loop .s) (c .before .before .before .args .m) (c .before .before .before .args .m - 1) (c .before .before .before .args .q) (omega arith) (omega arith))
+shared-slice-read-w c = omega (
+  arith,
+  in-rows (c .before .before .loop .s) (c .before .before .before .args .m) (c .before .before .before .args .m - 1)
+      (c .before .before .before .args .q) (omega arith) (omega arith),
+)
 
 mul-w-3 : tie.Need-mul-w-3 Inv-loop μ-loop
 mul-w-3 c = search needs

@@ -43,7 +43,10 @@ loop-again c =
     let l = c .before .before .loop in (
       search needs,
       simp length-set (l .inv .1),
-      record { each = fill-at (λ (k x : ℕ). x ≡ getD (c .before .before .before .args .from .now) k 0) (l .xs) (l .k) _ (omega arith) (l .inv .2 .each) refl },
+      record {
+        each = fill-at (λ (k x : ℕ). x ≡ getD (c .before .before .before .args .from .now) k 0) (l .xs) (l .k) _ (omega arith)
+            (l .inv .2 .each) refl;
+      },
     )
 
 same-length : tie.Need-same-length Inv-loop μ-loop

@@ -35,7 +35,11 @@ slice-read-xs-2 c = search needs
 sub-xs : tie.Need-sub-xs
 sub-xs c =
     let a = c .before .before .args in
-    omega (arith, getD-set-other (a .xs .now) (a .up) (a .down) (getD (a .xs .now) (a .up) 0 + a .d) 0 (λ e. c .before .before .pre .0 .2 (sym e)))
+    omega (
+      arith,
+      getD-set-other (a .xs .now) (a .up) (a .down) (getD (a .xs .now) (a .up) 0 + a .d) 0
+          (λ e. c .before .before .pre .0 .2 (sym e)),
+    )
 
 mul-xs-4 : tie.Need-mul-xs-4
 mul-xs-4 c = search needs
