@@ -198,19 +198,19 @@ module _ (o : Order) (bound : ℤ) (n : ℕ) where
       × (ReasonTold o (reasonCarried (judge (planRows o bound n)) (reasonOf o bound)) r
       × BufferBy (judge (planRows o bound n)) o bound entry exit (rowsOf (r .planned)))
 
-  module _ (r : BoundJudged) (J : JudgedAt o bound n r) where
+  module _ (r : BoundJudged) (judged : JudgedAt o bound n r) where
     -- the reason is handed on as it was judged
     told-on : (p : Planned) → tightnessOf p ≡ tightnessJudged (r .judgement) →
         ReasonTold o (reasonCarried (judge (planRows o bound n)) (reasonOf o bound)) (record { planned = p; dues = r .dues })
     told-on p e =
         let is : whyIn (record { planned = p; dues = r .dues }) ≡ whyJudged r
         = ap (λ (t : Tightness). record { tightness = t; dues = r .dues }) e in
-        (ap whyTold is ∙ J .reason-told, is ∙ J .reason-whole)
+        (ap whyTold is ∙ judged .reason-told, is ∙ judged .reason-whole)
 
     pub refused-ensured : (entry : List ℕ) (rf : Refusal) → r .judgement ≡ Refuse rf →
         Ensured entry entry (record { planned = Refused rf; dues = r .dues })
     refused-ensured entry rf e =
-        let v : refusalTold rf ≡ judge (planRows o bound n) = sym (ap judgedTold e) ∙ J .verdict in (
+        let v : refusalTold rf ≡ judge (planRows o bound n) = sym (ap judgedTold e) ∙ judged .verdict in (
           ap (λ (v : Verdict). answerBy v 0) v,
           (
             told-on (Refused rf) (sym (ap tightnessJudged e)),
@@ -221,7 +221,7 @@ module _ (o : Order) (bound : ℤ) (n : ℕ) where
     pub tight-ensured : (entry : List ℕ) (reason : CodeReason) → r .judgement ≡ Tighten reason →
         Ensured entry entry (record { planned = Tight reason; dues = r .dues })
     tight-ensured entry reason e =
-        let v : refused 10 0 ≡ judge (planRows o bound n) = sym (ap judgedTold e) ∙ J .verdict in (
+        let v : refused 10 0 ≡ judge (planRows o bound n) = sym (ap judgedTold e) ∙ judged .verdict in (
           ap (λ (v : Verdict). answerBy v 0) v,
           (
             told-on (Tight reason) (sym (ap tightnessJudged e)),
@@ -231,7 +231,7 @@ module _ (o : Order) (bound : ℤ) (n : ℕ) where
 
     module _ (e : r .judgement ≡ Open) where
       opened : judge (planRows o bound n) ≡ accepted
-      opened = sym (J .verdict) ∙ ap judgedTold e
+      opened = sym (judged .verdict) ∙ ap judgedTold e
 
       pub rows-ensured : (entry exit : List ℕ) (count : ℕ) → Written o bound entry exit count →
           Ensured entry exit (record { planned = Rows count; dues = r .dues })
@@ -302,11 +302,11 @@ module _ (o : Order) (n : ℕ) where
       (leastTold r ≡ answerBy (judge (leastRows o n)) (leastLateness o))
       × (LeastIn o r × BufferBy (judge (leastRows o n)) o (leastLateness o) entry exit (leastCount r))
 
-  module _ (r : LeastJudged) (J : JudgedLeast o n r) where
+  module _ (r : LeastJudged) (judged : JudgedLeast o n r) where
     pub least-refused : (entry : List ℕ) (rf : Refusal) → r .status ≡ Refuses rf → LeastEnsured entry entry (LeastRefused rf)
     least-refused entry rf e =
         let t = refused-told rf in
-        let v : refusalTold rf ≡ judge (leastRows o n) = sym (ap acceptanceTold e) ∙ J .verdict in (
+        let v : refusalTold rf ≡ judge (leastRows o n) = sym (ap acceptanceTold e) ∙ judged .verdict in (
           rw (t .2, sym v ∙ t .2),
           (
             tt,
@@ -316,7 +316,7 @@ module _ (o : Order) (n : ℕ) where
 
     module _ (e : r .status ≡ Accepts) where
       least-opened : judge (leastRows o n) ≡ accepted
-      least-opened = sym (J .verdict) ∙ ap acceptanceTold e
+      least-opened = sym (judged .verdict) ∙ ap acceptanceTold e
 
       pub least-order-good : Accepted o
       unfolding leastRows
@@ -361,4 +361,4 @@ module _ (o : Order) (a : Accepted o) (t : Setting) (m : Matches o t) where
   least-told z e = e ∙ ap (λ (n : ℕ). pos n -ℤ pos 1000000) (sym (reach-same o t m))
 
 pub judged-at : {o : Order} {bound read : ℤ} {n : ℕ} {r : BoundJudged} → read ≡ bound → JudgedAt o read n r → JudgedAt o bound n r
-judged-at {o} {bound} {read} {n} {r} e J = subst (λ (z : ℤ). JudgedAt o z n r) e J
+judged-at {o} {bound} {read} {n} {r} e judged = subst (λ (z : ℤ). JudgedAt o z n r) e judged
