@@ -6,6 +6,7 @@ pub mod Deadline
 pub mod Refusals
 pub mod Table
 pub mod RefusalLaws
+pub mod EndLaws
 pub mod TableLaws
 pub mod StructLaws
 pub mod SortedLaws
