@@ -1,5 +1,5 @@
 -- Two rows do not overlap exactly if they are apart by their jobs and by their processors.
-use Prim.Native.Nat.{ℕ, _+_, _*_, _/_, _≤_, _<_}
+use Prim.Native.Nat.{ℕ, zero, suc, _+_, _*_, _/_, _≤_, _<_}
 use mathlib.Core.Path.{_≡_, refl, sym, ap, _∙_}
 use mathlib.Core.Bool.{Bool, true, false}
 use mathlib.Core.List.{List}
@@ -30,7 +30,7 @@ module _ (numbers : List ℕ) where
   key-job x = let e : 4 * x + 0 ≡ 4 * x = omega arith in ap (λ (i : ℕ). getD numbers i 0) e
 
   module _ (ranged : Ranged numbers) where
-    pub job-spans : Spans numbers 0
+    job-spans : Spans numbers 0
     job-spans k l = let r = ranged k l in record {
       whole = omega arith;
       forward = r .forward;
@@ -39,7 +39,7 @@ module _ (numbers : List ℕ) where
       few = omega (arith, key-job k, r .a-job);
     }
 
-    pub processor-spans : Spans numbers 1
+    processor-spans : Spans numbers 1
     processor-spans k l = let r = ranged k l in record {
       whole = omega arith;
       forward = r .forward;
@@ -47,6 +47,11 @@ module _ (numbers : List ℕ) where
       some = r .a-processor .0;
       few = omega (arith, r .a-processor);
     }
+
+    pub spans-by : (by : ℕ) → by ≤ 1 → Spans numbers by
+    spans-by zero l = job-spans
+    spans-by (suc zero) l = processor-spans
+    spans-by (suc (suc n)) l = absurd (omega arith)
 
   abbrev noneOverlap : Bool
   noneOverlap = everyTwo noOverlap (rowsOf numbers)

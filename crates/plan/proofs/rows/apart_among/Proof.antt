@@ -3,14 +3,14 @@ use mathlib.Core.Path.{_∙_}
 use native.Mathlib.Omega.{arith}
 use borrow.Author.Tests.{not-true, not-false}
 use borrow.Author.Needs.{needs}
-use Rattle.plan.proofs.Apart.{job-spans, processor-spans, jobs-overlap, processors-decide}
+use Rattle.plan.proofs.Apart.{spans-by, jobs-overlap, processors-decide}
 use Rattle.plan.proofs.rows.apart_among.Statement.{statement}
 use Rattle.plan.proofs.rows.apart_among.Tie as tie
 
 apart-by-requires : tie.Need-apart-by-requires
 apart-by-requires c κs =
     let s = c .before .before .before in
-    (omega arith, omega arith, job-spans (s .args .rows .now) (s .pre .2), s .pre .1)
+    (omega arith, omega arith, spans-by (s .args .rows .now) (s .pre .2) _ (omega arith), s .pre .1)
 
 same-long : tie.Need-same-length
 same-long c = search needs
@@ -23,7 +23,8 @@ returns c =
 apart-by-requires-2 : tie.Need-apart-by-requires-2
 apart-by-requires-2 c κs =
     let s = c .before .before .before .before .before .before .before .before in
-    (omega arith, omega arith, processor-spans (s .args .rows .now) (s .pre .2), c .before .before .before .a .given ∙ s .pre .1)
+    let spans = spans-by (s .args .rows .now) (s .pre .2) in
+    (omega arith, omega arith, spans _ (omega arith), c .before .before .before .a .given ∙ s .pre .1)
 
 same-length-2 : tie.Need-same-length-2
 same-length-2 c = search needs
