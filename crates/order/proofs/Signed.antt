@@ -1,18 +1,18 @@
 -- Signed numbers of 32 bits: what the machine reads back, tests of a range, the sum of a due time and a bound.
-use Prim.Native.Nat.{ℕ, zero, suc, _+_, _-_, _^_, _≤_, _<_}
-use mathlib.Core.Path.{_≡_, refl, sym, ap, _∙_}
-use mathlib.Core.Bool.{Bool, true, false, cond, _&&_}
+use Prim.Native.Nat.{ℕ, _≤_, _<_}
+use mathlib.Core.Path.{_≡_, refl, sym}
+use mathlib.Core.Bool.{true, false, _&&_}
 use native.Mathlib.Omega.{arith}
-use borrow.Author.Tests.{leb-true, ltb-true, ltb-false}
-use lib.Dec.{T, ltb, leb}
+use borrow.Author.Tests.{ltb-true}
+use lib.Dec.{T}
 use lib.IntN.{ℤ, pos, negsuc, natAbs, _+ℤ_}
 use lib.Signed.{mag, leZ, ltZ, nonNeg}
 use mir.Val.{toZ, ofZ, Fits, SFits}
 use mir.ValLaws.{toZ-ofZ}
 use mir.Syntax.{w32}
 use Rattle.order.specs.Refusals.{dueInRange, boundInRange}
-use Rattle.order.specs.RefusalLaws.{both-true}
 use Rattle.order.specs.Deadline.{cut}
+use Rattle.order.specs.EndLaws.{mag-end}
 
 pub read-back : (z : ℤ) → mag z < 2147483648 → toZ w32 (ofZ w32 z) ≡ z
 read-back z h = toZ-ofZ w32 z (record { sfits = h })
@@ -29,21 +29,6 @@ module _ (z lo hi : ℤ) (f : SFits w32 z) where
       let e : leZ lo z ≡ false = rw (toZ-ofZ w32 z f) at h in
       rw e
 
--- a number in range is small
-mag-range : (lo hi : ℕ) (z : ℤ) → (leZ (negsuc lo) z && leZ z (pos hi)) ≡ true → mag z ≤ lo + hi
-mag-range lo hi (pos n) h = omega (arith, leb-true n hi (both-true true (leb n hi) h .1))
-mag-range lo hi (negsuc n) h = omega (arith, leb-true n lo (both-true (leb n lo) true h .0))
-
-mag-sub : (a b : ℕ) (t : Bool) → mag (cond t (negsuc (b - suc a)) (pos (a - b))) ≤ a + b
-mag-sub a b true = omega arith
-mag-sub a b false = omega arith
-
-mag-sum : (x y : ℤ) → mag (x +ℤ y) ≤ mag x + mag y + 1
-mag-sum (pos a) (pos b) = omega arith
-mag-sum (pos a) (negsuc b) = omega (arith, mag-sub a (suc b) (ltb a (suc b)))
-mag-sum (negsuc a) (pos b) = omega (arith, mag-sub b (suc a) (ltb b (suc a)))
-mag-sum (negsuc a) (negsuc b) = omega arith
-
 cut-negative : (z : ℤ) → ltZ z (pos 0) ≡ true → cut z ≡ 0
 cut-negative (pos n) h = absurd (omega (arith, ltb-true n 0 h))
 cut-negative (negsuc n) h = refl
@@ -54,11 +39,8 @@ cut-other (negsuc n) h = let z : _≡_ {A = ℕ} 0 1 = cc in absurd (omega arith
 
 -- the end of a job whose due time and bound are in range
 module _ (due bound : ℤ) (f : SFits w32 due) (g : SFits w32 bound) (d : dueInRange due ≡ true) (b : boundInRange bound ≡ true) where
-  mag-end : mag (due +ℤ bound) ≤ 22000000
-  mag-end = omega (arith, mag-sum due bound, mag-range 999999 1000000 due d, mag-range 9999999 10000000 bound b)
-
   fits-end : SFits w32 (due +ℤ bound)
-  fits-end = record { sfits = omega (arith, mag-end) }
+  fits-end = record { sfits = omega (arith, mag-end due bound d b) }
 
   abbrev read : ℤ
   read = toZ w32 (ofZ w32 due) +ℤ toZ w32 (ofZ w32 bound)
@@ -80,7 +62,7 @@ module _ (due bound : ℤ) (f : SFits w32 due) (g : SFits w32 bound) (d : dueInR
     other = cut-other (due +ℤ bound) (rw back at h)
 
     pub end-casts : T (nonNeg (toZ w32 (ofZ w32 read))) × Fits w32 (natAbs (toZ w32 (ofZ w32 read)))
-    end-casts = rw back (other .0, record { fits = omega (arith, other .2, mag-end) })
+    end-casts = rw back (other .0, record { fits = omega (arith, other .2, mag-end due bound d b) })
 
     pub end-is : natAbs (toZ w32 (ofZ w32 read)) ≡ cut (due +ℤ bound)
     end-is = rw back (other .1)

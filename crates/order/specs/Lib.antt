@@ -7,6 +7,7 @@ pub mod Ends
 pub mod Refusals
 pub mod Table
 pub mod RefusalLaws
+pub mod EndLaws
 pub mod TableLaws
 pub mod StructLaws
 pub mod SortedLaws

@@ -1,12 +1,11 @@
 -- What the tests on a row find: where one fails, a row is not well formed; past them all, it is where it goes forward. And
--- a well-formed row ends by its job's end exactly if it ends by the deadline, and two rows are tested as they stand.
+-- a well-formed row ends by its job's end exactly if it ends by the deadline.
 use Prim.Native.Nat.{ℕ, _-_, _≤_, _<_}
-use mathlib.Core.Path.{_≡_, sym, ap, _∙_}
-use mathlib.Core.Bool.{Bool, true, false, not, _&&_, _||_, and-false, or-true, or-false}
-use mathlib.Core.List.{List}
+use mathlib.Core.Path.{_≡_, sym, _∙_}
+use mathlib.Core.Bool.{true, false, _&&_, and-false}
 use native.Mathlib.Omega.{arith}
-use borrow.Author.Tests.{le-leb, lt-leb, eq-eqb, ne-eqb}
-use lib.Dec.{leb, ltb, eqb}
+use borrow.Author.Tests.{le-leb, lt-leb}
+use lib.Dec.{leb, ltb}
 use lib.IntN.{ℤ, pos, _+ℤ_}
 use lib.ListN.{getD}
 use Rattle.order.specs.Order.{endOf}
@@ -14,10 +13,8 @@ use Rattle.order.specs.Deadline.{cut, cut-le}
 use Rattle.order.specs.Table.{orderOf}
 use Rattle.order.specs.declared.Order.{Order as OrderTable}
 use Rattle.plan.specs.Plan.{Row}
-use Rattle.plan.specs.Check.{rowAt, wellFormed, byEnd, noOverlap}
+use Rattle.plan.specs.Check.{wellFormed, byEnd}
 use Rattle.plan.specs.RuleLaws.{well-formed-iff}
-use Rattle.plan.specs.Inside.{rowOf, pieceAt}
-use Rattle.plan.specs.declared.Piece.{Piece}
 use Rattle.plan.proofs.Orders.{job-count, processor-count, job-of, memory-of}
 
 module _ (t : OrderTable) (r : Row) where
@@ -69,23 +66,3 @@ module _ (t : OrderTable) (r : Row) where
         let some : 1 ≤ r .to = omega (arith, well-formed-iff (orderOf t) r .0 w .forward) in
         rw (e, job-of t (r .job) (its-job .0) (its-job .1))
         (sym (cut-le (getD (t .dues) (r .job - 1) (pos 0) +ℤ bound) (r .to) some))
-
--- two rows share a job or a processor and must be apart in time, or they share neither
-abbrev pub apartInTime : Row → Row → Bool
-apartInTime r s = leb (r .to) (s .from) || leb (s .to) (r .from)
-
-module _ (r s : Row) where
-  pub same-job : r .job ≡ s .job → apartInTime r s ≡ noOverlap r s
-  same-job e = rw (eq-eqb (r .job) (s .job) e)
-
-  pub same-processor : (r .job ≡ s .job → ⊥) → r .processor ≡ s .processor → apartInTime r s ≡ noOverlap r s
-  same-processor n e = rw (ne-eqb (r .job) (s .job) n, eq-eqb (r .processor) (s .processor) e)
-
-  pub neither : (r .job ≡ s .job → ⊥) → (r .processor ≡ s .processor → ⊥) → true ≡ noOverlap r s
-  neither n m = rw (ne-eqb (r .job) (s .job) n, ne-eqb (r .processor) (s .processor) m)
-
--- two rows, read from the numbers
-pub two-rows : (numbers : List ℕ) (k i : ℕ) (a b : Piece) (t : Bool) → a ≡ pieceAt numbers k → b ≡ pieceAt numbers i →
-    t ≡ noOverlap (rowOf a) (rowOf b) → t ≡ noOverlap (rowAt numbers k) (rowAt numbers i)
-two-rows numbers k i a b t e f h =
-    h ∙ ap (λ (p : Piece). noOverlap (rowOf p) (rowOf b)) e ∙ ap (λ (p : Piece). noOverlap (rowAt numbers k) (rowOf p)) f

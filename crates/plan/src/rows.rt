@@ -4,17 +4,17 @@ use super::Piece;
 use super::RowRead;
 use order::Order;
 ghost use mathlib.Core.Path.{_≡_};
-ghost use Prim.Native.Nat.{ℕ, suc, _+_, _-_, _*_, _/_, _%_, _<_, _≤_};
-ghost use mathlib.Core.Bool.{true, _&&_, _||_};
-ghost use lib.Dec.{leb, eqb};
+ghost use Prim.Native.Nat.{suc, _+_, _-_, _*_, _/_, _%_, _<_, _≤_};
+ghost use mathlib.Core.Bool.{true, _&&_};
+ghost use lib.Dec.{eqb};
 ghost use lib.ListN.{length};
-ghost use Rattle.sums.specs.Lists.{only, tabulate};
+ghost use Rattle.sums.specs.Lists.{tabulate};
 ghost use Rattle.order.specs.Order.{jobCount};
 ghost use Rattle.order.specs.Refusals.{Accepted, boundInRange};
 ghost use Rattle.order.specs.Table.{orderOf};
-ghost use Rattle.plan.specs.Plan.{Row, lengthsOf};
-ghost use Rattle.plan.specs.Check.{rowAt, rowsOf, every, everyTwo, wellFormed, byEnd, noOverlap, wholeJob, isRight};
-ghost use Rattle.plan.specs.Inside.{rowOf, pieceAt, rowRead};
+ghost use Rattle.plan.specs.Plan.{Row};
+ghost use Rattle.plan.specs.Check.{rowsOf, every, everyTwo, wellFormed, byEnd, noOverlap, wholeJob, isRight};
+ghost use Rattle.plan.specs.Inside.{rowOf, pieceAt, rowRead, Ranged, EachLength};
 
 // The four numbers of a whole row.
 fn piece_at(rows: &[u32], i: usize) -> Piece
@@ -102,104 +102,68 @@ fn rows_good(order: Order, bound: i32, rows: &[u32]) -> bool
     true
 }
 
-// Whether one row ends before the other begins.
-fn apart(a: Piece, b: Piece) -> bool
-    ensures { λ r. ⌜ r ≡ (leb (a .to) (b .from) || leb (b .to) (a .from)) ⌝ }
+// Whether no two rows overlap that share a job or a processor. A number is lent for each row, to be written over.
+fn apart_among(rows: &[u32], a: &mut [u16]) -> bool
+    requires { ⌜ (length (now rows) ≤ 12096) × (length (now a) ≡ length (now rows) / 4) × Ranged (now rows) ⌝ }
+    ensures { λ r. ⌜ r ≡ everyTwo noOverlap (rowsOf (now (rows .entry))) ⌝ }
 {
-    if a.to <= b.from {
-        return true;
+    if !spans::apart_by(rows, 0, a) {
+        return false;
     }
-    b.to <= a.from
-}
-
-// Whether two rows share neither job nor processor, or do not overlap.
-fn no_overlap(a: Piece, b: Piece) -> bool
-    ensures { λ r. ⌜ r ≡ noOverlap (rowOf a) (rowOf b) ⌝ }
-{
-    if a.job == b.job {
-        return apart(a, b);
-    }
-    if a.processor == b.processor {
-        return apart(a, b);
-    }
-    true
-}
-
-// Whether a row overlaps none of the earlier ones.
-fn clear_of_earlier(rows: &[u32], i: usize) -> bool
-    requires { ⌜ (i < 3024) × (4 * i + 4 ≤ length (now rows)) ⌝ }
-    ensures { λ r. ⌜ r ≡ every (λ (r : Row). noOverlap r (rowAt (now (rows .entry)) i))
-        (tabulate i (rowAt (now (rows .entry)))) ⌝ }
-{
-    let piece = piece_at(rows, i);
-    let mut k: usize = 0;
-    while k < i {
-        if !no_overlap(piece_at(rows, k), piece) {
-            return false;
-        }
-        k += 1;
-    }
-    true
+    spans::apart_by(rows, 1, a)
 }
 
 // Whether no two rows overlap that share a job or a processor.
 fn rows_apart(rows: &[u32]) -> bool
-    requires { ⌜ length (now rows) ≤ 12096 ⌝ }
+    requires { ⌜ (length (now rows) ≤ 12096) × Ranged (now rows) ⌝ }
     ensures { λ r. ⌜ r ≡ everyTwo noOverlap (rowsOf (now (rows .entry))) ⌝ }
 {
     let n = rows.len() / 4;
-    let mut i: usize = 0;
-    while i < n {
-        if !clear_of_earlier(rows, i) {
-            return false;
-        }
-        i += 1;
-    }
-    true
+    let mut a = [0u16; 3024];
+    apart_among(rows, &mut a[..n])
 }
 
-// The length of a row where it is of this job, else 0.
-fn length_for(piece: Piece, job: u32) -> u64
-    ensures { λ r. ⌜ (r ≡ only (eqb (piece .job) job) (piece .to - piece .from)) × (r < 4294967296) ⌝ }
+// The length of a row that goes forward.
+fn length_of(piece: Piece) -> u64
+    requires { ⌜ piece .from < piece .to ⌝ }
+    ensures { λ r. ⌜ (r ≡ piece .to - piece .from) × (r < 4294967296) ⌝ }
 {
-    if piece.job != job {
-        return 0;
-    }
-    if piece.to < piece.from {
-        return 0;
-    }
     (piece.to - piece.from) as u64
 }
 
-// The lengths of a job's rows, added up.
-fn lengths_of(rows: &[u32], job: u32) -> u64
-    requires { ⌜ length (now rows) ≤ 12096 ⌝ }
-    ensures { λ r. ⌜ r ≡ lengthsOf job (rowsOf (now (rows .entry))) ⌝ }
+// The lengths of each job's rows, added up.
+fn job_lengths(rows: &[u32]) -> [u64; 48]
+    requires { ⌜ (length (now rows) ≤ 12096) × Ranged (now rows) ⌝ }
+    ensures { λ r. ⌜ EachLength r (now (rows .entry)) ⌝ }
 {
     let n = rows.len() / 4;
-    let mut total: u64 = 0;
+    let mut totals = [0u64; 48];
     let mut i: usize = 0;
     while i < n {
-        total += length_for(piece_at(rows, i), job);
+        let piece = piece_at(rows, i);
+        let j = (piece.job - 1) as usize;
+        let more = totals[j] + length_of(piece);
+        totals[j] = more;
         i += 1;
     }
-    total
+    totals
 }
 
 // Whether the lengths of each job's rows add up to its time.
 fn jobs_whole(order: Order, rows: &[u32]) -> bool
-    requires { ⌜ (order .jobs ≤ 48) × (length (now rows) ≤ 12096) ⌝ }
+    requires { ⌜ (order .jobs ≤ 48) × (length (now rows) ≤ 12096) × Ranged (now rows) ⌝ }
     ensures { λ r. ⌜ r ≡ every (wholeJob (orderOf order) (rowsOf (now (rows .entry))))
         (tabulate (jobCount (orderOf order)) suc) ⌝ }
 {
+    let totals = job_lengths(rows);
     let n = order.jobs as usize;
     let mut j: usize = 0;
     while j < n {
         let time = order.times[j] as u64;
-        j += 1;
-        if lengths_of(rows, j as u32) != time {
+        if totals[j] != time {
             return false;
         }
+        j += 1;
     }
     true
 }

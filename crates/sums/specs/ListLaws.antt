@@ -76,16 +76,21 @@ module _ {A : Type 0} where
   Pairwise-map R S [] f h = tt
   Pairwise-map R S (x ∷ xs) f h = (All-map (R x) (S x) xs (f x) (h .0), Pairwise-map R S xs f (h .1))
 
-  pub Pairwise-at : (R : A → A → Type 0) (xs : List A) (d : A) → Pairwise R xs → (i k : ℕ) → i < k → k < length xs → R (getD xs i d) (getD xs k d)
+  pub Pairwise-at : (R : A → A → Type 0) (xs : List A) (d : A) → Pairwise R xs → (i k : ℕ) → i < k → k < length xs → R (getD xs i d)
+      (getD xs k d)
   Pairwise-at R [] d h i k l m = absurd (omega arith)
   Pairwise-at R (x ∷ xs) d h i zero l m = absurd (omega arith)
   Pairwise-at R (x ∷ xs) d h zero (suc k) l m = All-at (R x) xs d (h .0) k (le-of-suc-le-suc m)
   Pairwise-at R (x ∷ xs) d h (suc i) (suc k) l m = Pairwise-at R xs d (h .1) i k (le-of-suc-le-suc l) (le-of-suc-le-suc m)
 
-  pub Pairwise-from : (R : A → A → Type 0) (xs : List A) (d : A) → ((i k : ℕ) → i < k → k < length xs → R (getD xs i d) (getD xs k d)) → Pairwise R xs
+  pub Pairwise-from : (R : A → A → Type 0) (xs : List A) (d : A) → ((i k : ℕ) → i < k → k < length xs → R (getD xs i d) (getD xs k d)) →
+      Pairwise R xs
   Pairwise-from R [] d h = tt
-  Pairwise-from R (x ∷ xs) d h =
-      (All-from (R x) xs d (λ k m. h 0 (suc k) (omega arith) (omega arith)), Pairwise-from R xs d (λ i k l m. h (suc i) (suc k) (omega arith) (omega arith)))
+  Pairwise-from R (x ∷ xs) d h = (
+    All-from (R x) xs d (λ k m. h 0 (suc k) (omega arith) (omega arith)),
+    Pairwise-from R xs d
+        (λ i k l m. h (suc i) (suc k) (omega arith) (omega arith)),
+  )
 
   pub length-tabulate : (n : ℕ) (f : ℕ → A) → length (tabulate n f) ≡ n
   length-tabulate zero f = refl

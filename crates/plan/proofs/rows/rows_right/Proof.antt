@@ -1,6 +1,5 @@
 -- The first rule that does not hold decides; the last decides alone.
-use mathlib.Core.Path.{ap, _∙_}
-use borrow.Author.Needs.{needs}
+use mathlib.Core.Path.{sym, ap, _∙_}
 use borrow.Author.Tests.{not-true, not-false}
 use mir.Syntax.{w32}
 use mir.ValLaws.{toZ-ofZ}
@@ -8,6 +7,7 @@ use Rattle.order.specs.Refusals.{boundInRange}
 use Rattle.order.specs.Table.{orderOf}
 use Rattle.plan.proofs.Orders.{few}
 use Rattle.plan.proofs.GoodRows.{good-back}
+use Rattle.plan.proofs.Ranges.{good-ranged}
 use Rattle.plan.proofs.Answers.{bad-rows, overlapping, jobs-decide}
 use Rattle.plan.proofs.rows.rows_right.Statement.{statement}
 use Rattle.plan.proofs.rows.rows_right.Tie as tie
@@ -27,7 +27,12 @@ returns c =
     (not-true _ (c .if1 .taken))
 
 rows-apart-requires : tie.Need-rows-apart-requires
-rows-apart-requires c κs = search needs
+rows-apart-requires c κs =
+    let s = c .before .before .before in
+    let o = orderOf (s .args .order) in
+    let r = s .args .rows .now in
+    let is = c .before .rows-good .ensures ∙ good-back o (s .args .bound) r (s .fits .bound) in
+    (s .pre .2, good-ranged o (s .args .bound) (s .pre .0) (s .pre .1) r (sym is ∙ not-false _ (c .if1 .left)))
 
 returns-2 : tie.Need-returns-2
 returns-2 c =
@@ -41,7 +46,13 @@ returns-2 c =
 jobs-whole-requires : tie.Need-jobs-whole-requires
 jobs-whole-requires c κs =
     let s = c .before .before .before .before .before in
-    (few (s .args .order) (s .pre .0) .1, s .pre .2)
+    let o = orderOf (s .args .order) in
+    let r = s .args .rows .now in
+    let is = c .before .before .before .rows-good .ensures ∙ good-back o (s .args .bound) r (s .fits .bound) in (
+      few (s .args .order) (s .pre .0) .1,
+      s .pre .2,
+      good-ranged o (s .args .bound) (s .pre .0) (s .pre .1) r (sym is ∙ not-false _ (c .before .before .if1 .left)),
+    )
 
 returns-3 : tie.Need-returns-3
 returns-3 c =

@@ -1,0 +1,5 @@
+pub mod Heap
+pub mod Drain
+pub mod Line
+pub mod LineLaws
+pub mod TurnLaws
