@@ -1,4 +1,5 @@
-// What is judged before any row is written: the rows of the table, in its order, and whether there is a reason.
+// What is judged before any row is written: the rows of the table, in its order, and whether there is a reason. It serves this
+// crate alone: the setting is bound only where a plan is to be written.
 use super::BoundJudged;
 use super::Judgement;
 use super::LeastJudged;

@@ -5,7 +5,7 @@ use reason::Reason;
 use reason::Setting;
 
 pub mod bound; // plan_at
-pub mod judging; // what is judged before any row is written
+mod judging; // what is judged before any row is written
 pub mod lateness; // least_lateness
 mod making; // a plan where there is no reason against the bound
 pub mod room; // rows_asked
