@@ -1,23 +1,18 @@
--- The engine's answer about tables that hold a frame's numbers: amounts that are feasible in the frame, or a cut that violates
--- in it, so that no rows are right in it, in any parts of a minute.
+-- Tables that hold a frame's numbers: amounts that are feasible for them are feasible in the frame, and a cut that violates them
+-- violates in it.
 use Prim.Native.Nat.{ℕ, suc, _*_, _≤_, _<_, min}
 use mathlib.Core.Path.{_≡_}
-use mathlib.Core.Bool.{Bool, true, false}
-use mathlib.Core.List.{List}
 use native.Mathlib.Nat.{mul-le-mul-right}
 use native.Mathlib.Omega.{arith}
 use lib.ListN.{length}
 use Rattle.amounts.specs.Flow.{Flow, Feasible, Cut}
 use Rattle.amounts.specs.Same.{same-violating, same-feasible}
-use Rattle.engine.specs.View.{Answer}
 use Rattle.order.specs.Order.{Order, jobCount, jobOf}
 use Rattle.order.specs.Class.{classes, classOf}
-use Rattle.plan.specs.Plan.{Row}
 use Rattle.wrap.specs.HeldInOrder.{class-by-at-most}
 use Rattle.wrap.specs.Flows.{byNumber}
-use Rattle.wrap.specs.Frame.{Frame, lengthIn, capIn, openTo, RightIn, FeasibleIn, Framed}
+use Rattle.wrap.specs.Frame.{Frame, lengthIn, capIn, openTo, FeasibleIn}
 use Rattle.wrap.specs.FrameFlow.{flowIn, open-more, flow-feasible-in}
-use Rattle.feasible.specs.FramePlan.{cut-no-plan}
 use Rattle.allot.specs.AtTop.{feasible-at-top}
 
 -- tables hold a frame's numbers: those of its jobs, stretches and classes
@@ -71,12 +66,3 @@ module _ (o : Order) (f : Frame) (t : Flow) (S : ℕ) (H : Holds o f t S) where
             (λ s k b l. H .rooms-are s k b (omega arith)) (c .κ) (λ s _. low s)
             (rw (H .jobs-are, H .stretches-are) at (c .violating));
       }
-
-  -- what the engine's answer says of the frame
-  abbrev pub Told : (ℕ → ℕ → ℕ) → Bool → Type 0
-  Told w true = FeasibleIn o f (byNumber w)
-  Told w false = (p : ℕ) → 1 ≤ p → (rows : List Row) → ¬ RightIn p o f rows
-
-  pub answer-told : Framed o f → (w : ℕ → ℕ → ℕ) (r : Bool) → Answer t (suc S) w r → Told w r
-  answer-told framed w true F = holds-feasible w F
-  answer-told framed w false c = cut-no-plan o f framed (holds-cut c)
