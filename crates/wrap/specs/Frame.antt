@@ -1,6 +1,7 @@
 -- A frame: marks of time, between which the stretches lie; for each job of an order the interval in which it may run; for each
--- processor the window in which it is open. Document 01's planner is the frame whose jobs are ready at minute 0, whose
--- processors never close, and whose marks are the ends; document 02, §5 gives ready minutes and windows, §13 other ends.
+-- processor the window in which it is open. Document 01's planner is the frame whose jobs are ready at minute 0, whose marks
+-- are 0 and the ends, and whose processors are open to the last of them; document 02, §5 gives ready minutes and windows, §13
+-- other ends.
 use Prim.Native.Nat.{ℕ, zero, suc, _-_, _*_, _≤_, _<_}
 use mathlib.Core.Path.{_≡_}
 use mathlib.Core.Bool.{Bool, cond, _&&_}
