@@ -10,7 +10,8 @@ use lib.IntN.{ℤ, pos, negsuc, _+ℤ_}
 use lib.ListN.{length, length-map}
 use lib.Signed.{leZ, ltZ}
 use Rattle.sums.specs.Lists.{only}
-use Rattle.sums.specs.ListLaws.{All-at, in-All, only-le, total-most}
+use Rattle.sums.specs.Members.{All-at, in-All}
+use Rattle.sums.specs.Totals.{only-le, total-most}
 use Rattle.order.specs.Order.{Job, Order, noJob, processorCount, jobCount, jobOf, endOf}
 use Rattle.order.specs.Sorted.{insert, distinct, dueTimes}
 use Rattle.order.specs.Class.{classes, classFor, processorsTo}

@@ -7,7 +7,7 @@ use mathlib.Core.List.{List}
 use native.Mathlib.Omega.{arith}
 use lib.IntN.{ℤ}
 use lib.ListN.{length}
-use Rattle.sums.specs.ListLaws.{All-at}
+use Rattle.sums.specs.Members.{All-at}
 use Rattle.amounts.specs.Flow.{Cut}
 use Rattle.amounts.specs.Profile.{Fine, Profile, cut-profile}
 use Rattle.engine.specs.View.{grid, Answer}

@@ -13,18 +13,17 @@ use lib.Dec.{eqb, leb}
 use Rattle.sums.specs.Sum.{sum, sum-le, sum-mul}
 use Rattle.sums.specs.Gate.{gate, gate-in, gate-out}
 use Rattle.sums.specs.Lists.{All, Pairwise, total, only}
-use Rattle.sums.specs.ListLaws.{
+use Rattle.sums.specs.Totals.{
   only-cong,
   only-none,
   sum-only-out,
-  All-map,
-  nth-in,
   total-cong,
   total-le,
   total-none,
   sum-total,
   by-number,
 }
+use Rattle.sums.specs.Members.{All-map, nth-in}
 use Rattle.order.specs.Order.{Order, processorCount, jobCount, jobOf, memoryOf}
 use Rattle.order.specs.Class.{classOf}
 use Rattle.order.specs.ClassLaws.{fits-class}

@@ -9,7 +9,8 @@ use borrow.Author.Tests.{eqb-true}
 use lib.Dec.{eqb}
 use lib.IntN.{ℤ}
 use Rattle.sums.specs.Lists.{All, total, only}
-use Rattle.sums.specs.ListLaws.{only-cong, All-map, All-both, All-nth, total-cong}
+use Rattle.sums.specs.Totals.{only-cong, total-cong}
+use Rattle.sums.specs.Members.{All-map, All-both, All-nth}
 use Rattle.order.specs.Order.{Job, Order, jobCount, Numbers, jobOf, endOf, noJob}
 use Rattle.order.specs.Deadline.{deadlineOf}
 use Rattle.order.specs.Refusals.{Accepted}

@@ -14,7 +14,7 @@ use lib.Signed.{_<ℤ_}
 use Rattle.sums.specs.Sum.{sum, sum-cong}
 use Rattle.sums.specs.Gate.{at, at-in, at-out}
 use Rattle.sums.specs.Lists.{only}
-use Rattle.sums.specs.ListLaws.{sum-first, total-places}
+use Rattle.sums.specs.Totals.{sum-first, total-places}
 use Rattle.order.specs.Order.{Job, Order, jobCount, Numbers, jobOf, noJob, endAt, endOf}
 use Rattle.order.specs.Class.{classOf, processorsIn}
 use Rattle.order.specs.Deadline.{cut, deadlineOf}

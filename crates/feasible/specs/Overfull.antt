@@ -12,7 +12,8 @@ use lib.Signed.{_≤ℤ_}
 use Rattle.sums.specs.Sum.{sum, sum-cong}
 use Rattle.sums.specs.Gate.{at}
 use Rattle.sums.specs.Lists.{nth}
-use Rattle.sums.specs.ListLaws.{All-at, All-from, Pairwise-at, Pairwise-from, choose}
+use Rattle.sums.specs.Members.{All-at, All-from, choose}
+use Rattle.sums.specs.Pairs.{Pairwise-at, Pairwise-from}
 use Rattle.order.specs.Order.{Order, jobCount, Numbers, jobOf, endAt, endOf}
 use Rattle.order.specs.Class.{classes, processorsIn}
 use Rattle.order.specs.Deadline.{cut, deadlineOf}

@@ -11,7 +11,8 @@ use lib.Dec.{eqb}
 use borrow.Author.Tests.{eqb-true}
 use Rattle.sums.specs.Sum.{sum}
 use Rattle.sums.specs.Lists.{All, Pairwise, total, only}
-use Rattle.sums.specs.ListLaws.{All-map, Pairwise-map}
+use Rattle.sums.specs.Members.{All-map}
+use Rattle.sums.specs.Pairs.{Pairwise-map}
 use Rattle.plan.specs.Plan.{Row, Apart}
 
 -- how much of the row lies in the stretch from a to b

@@ -6,7 +6,7 @@ use native.Mathlib.Omega.{arith}
 use native.Mathlib.Decide.{decLt}
 use lib.IntN.{ℤ}
 use Rattle.sums.specs.Gate.{gate, gate-in, gate-out}
-use Rattle.sums.specs.ListLaws.{only-le}
+use Rattle.sums.specs.Totals.{only-le}
 use Rattle.order.specs.Order.{Order, jobCount, jobOf}
 use Rattle.order.specs.Class.{processorsTo}
 use Rattle.order.specs.Deadline.{deadlineOf}

@@ -8,7 +8,7 @@ use native.Mathlib.Omega.{arith}
 use borrow.Author.Tests.{lt-ltb, le-ltb, eq-eqb, ne-eqb}
 use lib.IntN.{ℤ, pos}
 use lib.ListN.{length, drop}
-use Rattle.sums.specs.ListLaws.{length-tabulate}
+use Rattle.sums.specs.Places.{length-tabulate}
 use Rattle.order.specs.Order.{Order, processorCount, jobCount}
 use Rattle.order.specs.Refusals.{limits, Verdict, accepted, refused, judge, answerBy, roomRow, countRows, orderRows}
 use Rattle.order.specs.RefusalLaws.{judge-accepted, counts-in-limits}

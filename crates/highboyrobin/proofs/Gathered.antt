@@ -6,7 +6,7 @@ use native.Mathlib.Omega.{arith}
 use lib.IntN.{ℤ, pos}
 use lib.ListN.{length, getD}
 use Rattle.sums.specs.Lists.{tabulate}
-use Rattle.sums.specs.ListLaws.{tabulate-cong, tabulate-getD}
+use Rattle.sums.specs.Places.{tabulate-cong, tabulate-getD}
 use Rattle.order.specs.StructLaws.{same-order, same-job}
 use Rattle.order.specs.Table.{orderOf, jobAt}
 use Rattle.order.specs.declared.Order.{Order as OrderTable}

@@ -6,7 +6,7 @@ use mathlib.Core.List.{[], _∷_, _++_}
 use native.Mathlib.Omega.{arith}
 use lib.IntN.{ℤ}
 use lib.ListN.{length}
-use Rattle.sums.specs.ListLaws.{All-nth}
+use Rattle.sums.specs.Members.{All-nth}
 use Rattle.order.specs.Order.{Order, noJob}
 use Rattle.order.specs.Refusals.{limits, accepted, refused, judge, orderRows, boundRow, boundInRange, Accepted}
 use Rattle.order.specs.RefusalLaws.{accepted-iff, judge-accepted-append}

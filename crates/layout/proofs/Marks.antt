@@ -8,7 +8,8 @@ use lib.IntN.{pos}
 use lib.ListN.{length, getD, length-map, length-reverse}
 use lib.Signed.{ltZ}
 use Rattle.sums.specs.Lists.{All}
-use Rattle.sums.specs.ListLaws.{All-map, All-at, All-reverse}
+use Rattle.sums.specs.Members.{All-map, All-at}
+use Rattle.sums.specs.Reversed.{All-reverse}
 use Rattle.order.specs.Order.{Job, Order, jobCount}
 use Rattle.order.specs.Sorted.{insert, distinct, dueTimes}
 use Rattle.order.specs.SortedLaws.{ltZ-strict, distinct-all}

@@ -12,7 +12,8 @@ use lib.ListN.{length, getD, take, drop, length-append}
 use mir.Val.{toZ, ofZ}
 use mir.ValLaws.{toZ-ofZ}
 use mir.Syntax.{w32}
-use Rattle.sums.specs.ListLaws.{All-at, length-tabulate, getD-tabulate, take-tabulate}
+use Rattle.sums.specs.Members.{All-at}
+use Rattle.sums.specs.Places.{length-tabulate, getD-tabulate, take-tabulate}
 use Rattle.order.specs.Order.{Order, jobOf}
 use Rattle.order.specs.Sorted.{processorOrder, jobOrder}
 use Rattle.order.specs.Deadline.{cut}

@@ -8,7 +8,7 @@ use lib.IntN.{ℤ, pos}
 use lib.ListN.{length, getD, take, length-append}
 use lib.Seq.{take-all, take-suc}
 use Rattle.sums.specs.Lists.{tabulate}
-use Rattle.sums.specs.ListLaws.{tabulate-more, tabulate-cong}
+use Rattle.sums.specs.Places.{tabulate-more, tabulate-cong}
 use Rattle.plan.specs.Plan.{Row}
 use Rattle.plan.specs.Check.{numbersOf, rowAt, rowsOf}
 use Rattle.plan.specs.NumberLaws.{rows-of-numbers, length-numbers}

@@ -14,7 +14,9 @@ use lib.ListN.{length, getD}
 use Rattle.sums.specs.Sum.{sum}
 use native.Mathlib.Decide.{ℕ-discrete}
 use Rattle.sums.specs.Lists.{All, In, Pairwise, total, only, nth}
-use Rattle.sums.specs.ListLaws.{All-map, All-at, All-in, in-All, in-at, at-in, Pairwise-at, total-cong, sum-total}
+use Rattle.sums.specs.Members.{All-map, All-at, All-in, in-All, in-at, at-in}
+use Rattle.sums.specs.Pairs.{Pairwise-at}
+use Rattle.sums.specs.Totals.{total-cong, sum-total}
 use Rattle.order.specs.Order.{Job, Order, processorCount, jobCount, Numbers, jobOf, memoryOf, Fits}
 use Rattle.order.specs.Sorted.{distinct}
 use Rattle.order.specs.SortedLaws.{ltb-strict, distinct-falls, in-distinct, distinct-in}

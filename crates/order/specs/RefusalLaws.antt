@@ -13,7 +13,8 @@ use lib.ListN.{length, getD}
 use lib.IntN.{ℤ, pos, negsuc}
 use lib.Signed.{leZ, _≤ℤ_}
 use Rattle.sums.specs.Lists.{All, nth, tabulate}
-use Rattle.sums.specs.ListLaws.{All-map, All-from, length-tabulate, getD-tabulate}
+use Rattle.sums.specs.Members.{All-map, All-from}
+use Rattle.sums.specs.Places.{length-tabulate, getD-tabulate}
 use Rattle.order.specs.Order.{Job, Order, Numbers, Fits, processorCount, jobCount, memoryOf}
 use Rattle.order.specs.Refusals.{
   Limits,

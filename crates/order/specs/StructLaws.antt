@@ -5,7 +5,7 @@ use mathlib.Core.List.{List}
 use native.Mathlib.Omega.{arith}
 use lib.IntN.{ℤ}
 use lib.ListN.{getD}
-use Rattle.sums.specs.ListLaws.{length-tabulate, getD-tabulate, tabulate-cong, tabulate-getD}
+use Rattle.sums.specs.Places.{length-tabulate, getD-tabulate, tabulate-cong, tabulate-getD}
 use Rattle.order.specs.Order.{Job, Order, noJob, processorCount, jobCount}
 use Rattle.order.specs.Refusals.{Accepted}
 use Rattle.order.specs.RefusalLaws.{accepted-iff}

@@ -6,7 +6,7 @@ use native.Mathlib.Omega.{arith}
 use lib.IntN.{ℤ, pos}
 use lib.ListN.{getD, take, drop}
 use Rattle.sums.specs.Lists.{tabulate}
-use Rattle.sums.specs.ListLaws.{length-tabulate}
+use Rattle.sums.specs.Places.{length-tabulate}
 use Rattle.order.specs.Order.{Job, noJob}
 use Rattle.order.specs.Table.{tableOf}
 use Rattle.order.specs.declared.Order.{Order as OrderTable}

@@ -6,7 +6,7 @@ use native.Mathlib.Omega.{arith}
 use lib.ListN.{getD, take, drop}
 use lib.Seq.{getD-take, getD-drop}
 use Rattle.sums.specs.Lists.{tabulate}
-use Rattle.sums.specs.ListLaws.{tabulate-cong, getD-tabulate-map}
+use Rattle.sums.specs.Places.{tabulate-cong, getD-tabulate-map}
 use Rattle.order_file.specs.Bytes.{number4}
 use Rattle.order_file.specs.Inside.{paddedTo}
 

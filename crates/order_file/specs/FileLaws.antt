@@ -7,7 +7,7 @@ use native.Mathlib.Nat.{le-of-suc-le-suc}
 use lib.ListN.{length, getD}
 use lib.Signed.{mag}
 use Rattle.sums.specs.Lists.{All, tabulate}
-use Rattle.sums.specs.ListLaws.{tabulate-more}
+use Rattle.sums.specs.Places.{tabulate-more}
 use Rattle.order.specs.Order.{Job, noJob}
 use Rattle.order.specs.StructLaws.{same-job}
 use Rattle.order_file.specs.Bytes.{number4, bytes4, signed, pattern}

@@ -7,7 +7,7 @@ use native.Mathlib.Nat.{le-of-suc-le-suc}
 use native.Mathlib.Numerals.{add-one}
 use lib.ListN.{getD, set, replicate}
 use Rattle.sums.specs.Lists.{tabulate}
-use Rattle.sums.specs.ListLaws.{tabulate-cong, getD-tabulate}
+use Rattle.sums.specs.Places.{tabulate-cong, getD-tabulate}
 use Rattle.order_file.specs.Inside.{paddedTo}
 
 module _ {A : Type 0} where

@@ -12,7 +12,8 @@ use lib.ListN.{length, getD, take, drop, length-append}
 use lib.Seq.{take-at}
 use lib.Signed.{mag, _≤ℤ_}
 use Rattle.sums.specs.Lists.{All, tabulate}
-use Rattle.sums.specs.ListLaws.{All-map, All-both, tabulate-cong, tabulate-getD}
+use Rattle.sums.specs.Members.{All-map, All-both}
+use Rattle.sums.specs.Places.{tabulate-cong, tabulate-getD}
 use Rattle.order.specs.Order.{Job, Order, noJob, processorCount, jobCount}
 use Rattle.order.specs.Refusals.{limits, TableRow, Verdict, accepted, refused, judge, orderRows, Accepted, shortestFile, longestFile}
 use Rattle.order.specs.RefusalLaws.{Acceptable, accepted-iff, both-true, judge-refused-append}

@@ -12,7 +12,8 @@ use lib.ListN.{length, getD, set, replicate, getD-replicate}
 use lib.Seq.{getD-set-same, getD-set-other}
 use Rattle.sums.specs.Sum.{sum}
 use Rattle.sums.specs.Lists.{only}
-use Rattle.sums.specs.ListLaws.{getD-tabulate, total-tabulate}
+use Rattle.sums.specs.Places.{getD-tabulate}
+use Rattle.sums.specs.Totals.{total-tabulate}
 use Rattle.order.specs.Order.{noJob}
 use Rattle.order.specs.Table.{jobAt, orderOf}
 use Rattle.order.specs.declared.Order.{Order as OrderTable}

@@ -9,7 +9,8 @@ use lib.Signed.{mag}
 use mir.Val.{toZ, ofZ, SFits}
 use mir.ValLaws.{toZ-ofZ}
 use mir.Syntax.{w32}
-use Rattle.sums.specs.ListLaws.{All-at, length-tabulate, getD-tabulate}
+use Rattle.sums.specs.Members.{All-at}
+use Rattle.sums.specs.Places.{length-tabulate, getD-tabulate}
 use Rattle.order.specs.Order.{Job, noJob, jobCount, processorCount, jobOf, memoryOf}
 use Rattle.order.specs.Deadline.{cut}
 use Rattle.order.specs.Refusals.{Accepted, dueInRange}

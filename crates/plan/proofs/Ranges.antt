@@ -9,7 +9,7 @@ use lib.Dec.{eqb}
 use lib.IntN.{ℤ, pos, negsuc, _+ℤ_}
 use lib.ListN.{length}
 use lib.Signed.{mag, leZ}
-use Rattle.sums.specs.ListLaws.{All-nth}
+use Rattle.sums.specs.Members.{All-nth}
 use Rattle.order.specs.Order.{Order, noJob, jobOf, endOf}
 use Rattle.order.specs.Refusals.{Accepted, boundInRange, dueInRange}
 use Rattle.order.specs.RefusalLaws.{both-true, accepted-iff, true-leZ}

@@ -11,7 +11,7 @@ use lib.Dec.{eqb}
 use lib.IntN.{ℤ}
 use lib.ListN.{length}
 use Rattle.sums.specs.Lists.{tabulate}
-use Rattle.sums.specs.ListLaws.{All-at}
+use Rattle.sums.specs.Members.{All-at}
 use Rattle.order.specs.Order.{Order, jobCount, jobOf, noJob}
 use Rattle.order.specs.Refusals.{limits, orderRows, boundRow, rowsToCheckRow, judge, accepted, Accepted, boundInRange}
 use Rattle.order.specs.Refusals.{answer, answerBy}

@@ -8,7 +8,9 @@ use native.Mathlib.Omega.{arith}
 use native.Mathlib.Nat.{le-of-suc-le-suc}
 use lib.ListN.{getD}
 use Rattle.sums.specs.Lists.{All, Pairwise, tabulate}
-use Rattle.sums.specs.ListLaws.{All-at, Pairwise-at, length-tabulate, getD-tabulate}
+use Rattle.sums.specs.Members.{All-at}
+use Rattle.sums.specs.Pairs.{Pairwise-at}
+use Rattle.sums.specs.Places.{length-tabulate, getD-tabulate}
 use Rattle.order.specs.RefusalLaws.{both-true}
 use Rattle.plan.specs.Check.{every, everyTwo}
 

@@ -5,7 +5,7 @@ use mathlib.Core.Path.{_≡_, refl, ap, _∙_}
 use mathlib.Core.List.{List, [], _∷_}
 use native.Mathlib.Omega.{arith}
 use lib.ListN.{length, getD}
-use Rattle.sums.specs.ListLaws.{tabulate-cong}
+use Rattle.sums.specs.Places.{tabulate-cong}
 use Rattle.plan.specs.Plan.{Row}
 use Rattle.plan.specs.Check.{numbersOf, rowAt, rowsOf}
 

@@ -10,7 +10,8 @@ use lib.Dec.{leb, ltb, eqb}
 use lib.IntN.{ℤ, pos, negsuc, negℤ, _*ℤ_}
 use lib.Signed.{_≤ℤ_}
 use Rattle.sums.specs.Lists.{tabulate}
-use Rattle.sums.specs.ListLaws.{All-map, All-both, Pairwise-map, Pairwise-both}
+use Rattle.sums.specs.Members.{All-map, All-both}
+use Rattle.sums.specs.Pairs.{Pairwise-map, Pairwise-both}
 use Rattle.order.specs.Order.{Order, processorCount, jobCount, Numbers, jobOf, memoryOf, endOf}
 use Rattle.order.specs.RefusalLaws.{both-true, leZ-true, true-leZ}
 use Rattle.plan.specs.Plan.{Row, WellFormed, Apart, lengthsOf, Right}

@@ -8,7 +8,7 @@ use native.Mathlib.Omega.{arith}
 use native.Mathlib.Nat.{mul-le-mul-left, mul-le-mul-right}
 use lib.IntN.{ℤ}
 use lib.ListN.{length, drop}
-use Rattle.sums.specs.ListLaws.{length-tabulate}
+use Rattle.sums.specs.Places.{length-tabulate}
 use Rattle.order.specs.Refusals.{Accepted, boundInRange}
 use Rattle.order.specs.Table.{orderOf, jobAt}
 use Rattle.order.specs.declared.Order.{Order as OrderTable}

@@ -11,7 +11,8 @@ use lib.ListN.{length, getD}
 use mir.Syntax.{w32}
 use mir.Val.{toZ, ofZ, SFits}
 use mir.ValLaws.{toZ-ofZ}
-use Rattle.sums.specs.ListLaws.{All-at, length-tabulate}
+use Rattle.sums.specs.Members.{All-at}
+use Rattle.sums.specs.Places.{length-tabulate}
 use Rattle.order.specs.Order.{Order, jobCount, jobOf, noJob, endOf}
 use Rattle.order.specs.Sorted.{dueTimes}
 use Rattle.order.specs.Class.{classes}

@@ -12,7 +12,8 @@ use lib.IntN.{ℤ}
 use lib.ListN.{length, getD}
 use Rattle.sums.specs.Sum.{sum}
 use Rattle.sums.specs.Lists.{All, In, only}
-use Rattle.sums.specs.ListLaws.{at-in, total-ge, in-All}
+use Rattle.sums.specs.Members.{at-in, in-All}
+use Rattle.sums.specs.Totals.{total-ge}
 use Rattle.order.specs.Order.{Order}
 use Rattle.order.specs.Sorted.{dueTimes}
 use Rattle.order.specs.Class.{classes, classFor, processorsIn, processorsTo}

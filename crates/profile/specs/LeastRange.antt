@@ -13,7 +13,8 @@ use lib.ListN.{length}
 use lib.Signed.{_≤ℤ_}
 use Rattle.sums.specs.Sum.{sum}
 use Rattle.sums.specs.Lists.{All, In, only}
-use Rattle.sums.specs.ListLaws.{All-map, All-both, All-at, only-le, total-most}
+use Rattle.sums.specs.Members.{All-map, All-both, All-at}
+use Rattle.sums.specs.Totals.{only-le, total-most}
 use Rattle.order.specs.Order.{Job, Order, jobCount, Numbers, noJob, jobOf}
 use Rattle.order.specs.Sorted.{dueTimes}
 use Rattle.order.specs.Class.{classes, classOf, processorsIn, processorsTo}

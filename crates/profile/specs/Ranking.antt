@@ -11,19 +11,8 @@ use lib.IntN.{ℤ}
 use lib.ListN.{length}
 use lib.Signed.{ltZ, _≤ℤ_, _<ℤ_, ≤ℤ-refl, <ℤ-irrefl, clashℤ}
 use Rattle.sums.specs.Lists.{All, In, Pairwise}
-use Rattle.sums.specs.ListLaws.{
-  All-map,
-  All-in,
-  in-All,
-  Pairwise-map,
-  in-append,
-  in-left,
-  in-right,
-  Pairwise-append,
-  in-map,
-  map-in,
-  Pairwise-of-map,
-}
+use Rattle.sums.specs.Members.{All-map, All-in, in-All, in-append, in-left, in-right, in-map, map-in}
+use Rattle.sums.specs.Pairs.{Pairwise-map, Pairwise-append, Pairwise-of-map}
 use Rattle.order.specs.Whole.{ltZ-true, <ℤ-≤ℤ, ≤ℤ-<ℤ-trans}
 use Rattle.profile.specs.Profile.{Earlier, RanksBefore}
 use Rattle.profile.specs.Search.{choices, ranked}

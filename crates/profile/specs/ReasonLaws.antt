@@ -11,7 +11,7 @@ use lib.IntN.{ℤ, pos}
 use lib.ListN.{length, getD}
 use lib.Signed.{ltZ, _<ℤ_}
 use Rattle.sums.specs.Lists.{All}
-use Rattle.sums.specs.ListLaws.{All-map, All-at, All-from}
+use Rattle.sums.specs.Members.{All-map, All-at, All-from}
 use Rattle.order.specs.Order.{Job, Order, jobCount, Numbers, noJob, jobOf, endOf}
 use Rattle.order.specs.Refusals.{clear, holds, first, firstAfter}
 use Rattle.order.specs.RefusalLaws.{first-at, first-none}

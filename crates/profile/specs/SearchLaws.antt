@@ -10,7 +10,8 @@ use lib.IntN.{ℤ}
 use lib.ListN.{length}
 use lib.Signed.{ltZ, <ℤ-irrefl}
 use Rattle.sums.specs.Lists.{In, Pairwise}
-use Rattle.sums.specs.ListLaws.{All-map, All-in, Pairwise-map, in-at, at-in, in-map, map-in}
+use Rattle.sums.specs.Members.{All-map, All-in, in-at, at-in, in-map, map-in}
+use Rattle.sums.specs.Pairs.{Pairwise-map}
 use Rattle.order.specs.Order.{Job, Order, jobCount, Numbers, noJob, jobOf, endAt, endOf}
 use Rattle.order.specs.Sorted.{dueTimes}
 use Rattle.order.specs.SortedLaws.{ltZ-strict, distinct-falls, in-distinct, distinct-in}

@@ -10,7 +10,7 @@ use lib.IntN.{ℤ, pos, _+ℤ_, _-ℤ_, -ℤ-+ℤ-cancel}
 use lib.ListN.{length, getD}
 use lib.Signed.{_≤ℤ_, _<ℤ_, clashℤ}
 use Rattle.sums.specs.Lists.{All, In}
-use Rattle.sums.specs.ListLaws.{All-map, All-both, All-at, at-in, in-All}
+use Rattle.sums.specs.Members.{All-map, All-both, All-at, at-in, in-All}
 use Rattle.order.specs.Order.{Job, Order, jobCount, Numbers, noJob, jobOf, endOf}
 use Rattle.order.specs.Sorted.{dueTimes}
 use Rattle.order.specs.Class.{classes, processorsTo}

@@ -14,7 +14,8 @@ use lib.ListN.{length}
 use lib.Signed.{leZ, _≤ℤ_, _<ℤ_}
 use Rattle.sums.specs.Sum.{sum}
 use Rattle.sums.specs.Lists.{All, total, only}
-use Rattle.sums.specs.ListLaws.{All-map, total-cong}
+use Rattle.sums.specs.Members.{All-map}
+use Rattle.sums.specs.Totals.{total-cong}
 use Rattle.order.specs.Order.{Job, Order, endAt, endOf}
 use Rattle.order.specs.Class.{classOf, processorsIn, processorsTo}
 use Rattle.order.specs.Deadline.{cut}

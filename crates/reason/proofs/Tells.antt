@@ -8,7 +8,7 @@ use borrow.Author.Tests.{lt-ltb, le-ltb}
 use lib.IntN.{ℤ, pos}
 use lib.ListN.{length, getD, replicate}
 use Rattle.sums.specs.Lists.{tabulate}
-use Rattle.sums.specs.ListLaws.{tabulate-cong, tabulate-getD}
+use Rattle.sums.specs.Places.{tabulate-cong, tabulate-getD}
 use Rattle.order.specs.Refusals.{Finding, clear, first}
 use Rattle.order.specs.Table.{findingOf}
 use Rattle.profile.specs.Search.{nothing, found}

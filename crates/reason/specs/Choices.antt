@@ -8,7 +8,7 @@ use native.Mathlib.Omega.{arith}
 use lib.IntN.{ℤ}
 use lib.ListN.{length}
 use Rattle.sums.specs.Lists.{All}
-use Rattle.sums.specs.ListLaws.{All-map, All-append}
+use Rattle.sums.specs.Members.{All-map, All-append}
 use Rattle.profile.specs.Search.{Found, nothing, found, choices, ranked, firstSuch}
 use Rattle.profile.specs.Least.{largest}
 use Rattle.tables.specs.Places.{profiles, ranking}

@@ -10,7 +10,8 @@ use lib.Dec.{eqb}
 use lib.ListN.{length, getD}
 use Rattle.sums.specs.Sum.{sum, sum-cong}
 use Rattle.sums.specs.Lists.{In, total, only, tabulate}
-use Rattle.sums.specs.ListLaws.{only-le, at-in, total-tabulate}
+use Rattle.sums.specs.Totals.{only-le, total-tabulate}
+use Rattle.sums.specs.Members.{at-in}
 use Rattle.order.specs.Order.{Order, Job, processorCount}
 use Rattle.order.specs.Class.{classes, lastThatSuffices, classFor, classOf, processorsIn}
 use Rattle.order.specs.ClassLaws.{class-in-memories, class-of-memory, classes-fall}

@@ -12,16 +12,9 @@ use lib.IntN.{ℤ, pos}
 use lib.ListN.{length, getD}
 use lib.Signed.{ltZ}
 use Rattle.sums.specs.Lists.{All, In, Pairwise, tabulate}
-use Rattle.sums.specs.ListLaws.{
-  All-map,
-  All-in,
-  in-at,
-  at-in,
-  Pairwise-at,
-  length-tabulate,
-  getD-tabulate,
-  tabulate-cong,
-}
+use Rattle.sums.specs.Members.{All-map, All-in, in-at, at-in}
+use Rattle.sums.specs.Pairs.{Pairwise-at}
+use Rattle.sums.specs.Places.{length-tabulate, getD-tabulate, tabulate-cong}
 use Rattle.order.specs.Order.{Order, Job, jobOf, noJob}
 use Rattle.order.specs.Sorted.{distinct, dueTimes}
 use Rattle.order.specs.SortedLaws.{ltb-strict, ltZ-strict, distinct-falls, in-distinct, distinct-in}

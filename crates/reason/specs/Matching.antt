@@ -9,7 +9,9 @@ use lib.IntN.{ℤ, pos}
 use lib.ListN.{length, getD}
 use Rattle.sums.specs.Sum.{sum, sum-cong}
 use Rattle.sums.specs.Lists.{total, only}
-use Rattle.sums.specs.ListLaws.{All-at, All-map, tabulate-getD, total-tabulate, length-tabulate, getD-tabulate}
+use Rattle.sums.specs.Members.{All-at, All-map}
+use Rattle.sums.specs.Places.{tabulate-getD, length-tabulate, getD-tabulate}
+use Rattle.sums.specs.Totals.{total-tabulate}
 use Rattle.order.specs.Order.{Order, Job, jobCount, jobOf, noJob}
 use Rattle.order.specs.Class.{classes, classOf, processorsIn, processorsTo}
 use Rattle.order.specs.RefusalLaws.{Acceptable}

@@ -5,7 +5,8 @@ use mathlib.Core.Bool.{true}
 use native.Mathlib.Omega.{arith}
 use lib.IntN.{pos}
 use lib.ListN.{getD}
-use Rattle.sums.specs.ListLaws.{All-at, length-tabulate, getD-tabulate}
+use Rattle.sums.specs.Members.{All-at}
+use Rattle.sums.specs.Places.{length-tabulate, getD-tabulate}
 use Rattle.order.specs.Order.{Job, noJob}
 use Rattle.order.specs.Refusals.{Accepted, dueInRange}
 use Rattle.order.specs.RefusalLaws.{accepted-iff}

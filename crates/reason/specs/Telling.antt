@@ -11,7 +11,7 @@ use lib.IntN.{ℤ, pos, negsuc, _+ℤ_}
 use lib.ListN.{length, getD, length-map}
 use lib.Signed.{ltZ}
 use Rattle.sums.specs.Lists.{All, In, tabulate}
-use Rattle.sums.specs.ListLaws.{All-map, All-at, All-in, All-from}
+use Rattle.sums.specs.Members.{All-map, All-at, All-in, All-from}
 use Rattle.order.specs.Order.{Order, Job, jobCount, jobOf, noJob, endOf}
 use Rattle.order.specs.Sorted.{dueTimes}
 use Rattle.order.specs.SortedLaws.{ltZ-strict, distinct-in}

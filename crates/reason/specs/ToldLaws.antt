@@ -5,7 +5,7 @@ use mathlib.Core.List.{List}
 use native.Mathlib.Omega.{arith}
 use lib.IntN.{ℤ, pos}
 use lib.ListN.{length}
-use Rattle.sums.specs.ListLaws.{take-tabulate}
+use Rattle.sums.specs.Places.{take-tabulate}
 use Rattle.order.specs.Order.{Order}
 use Rattle.order.specs.Class.{classes}
 use Rattle.profile.specs.Reason.{Reason as TightReason, overEnd, stairs}

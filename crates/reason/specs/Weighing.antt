@@ -12,7 +12,8 @@ use lib.IntN.{ℤ, pos, _+ℤ_}
 use lib.ListN.{length}
 use Rattle.sums.specs.Sum.{sum}
 use Rattle.sums.specs.Lists.{All, only}
-use Rattle.sums.specs.ListLaws.{All-map, total-cong}
+use Rattle.sums.specs.Members.{All-map}
+use Rattle.sums.specs.Totals.{total-cong}
 use Rattle.order.specs.Order.{Order, Job, endAt, endOf}
 use Rattle.order.specs.Class.{classOf, processorsIn, processorsTo}
 use Rattle.order.specs.Refusals.{dueInRange}

@@ -7,7 +7,7 @@ use native.Mathlib.Nat.{mul-le-mul}
 use lib.Dec.{eqb}
 use lib.ListN.{getD}
 use Rattle.sums.specs.Sum.{sum}
-use Rattle.sums.specs.ListLaws.{only-le}
+use Rattle.sums.specs.Totals.{only-le}
 use Rattle.profile.specs.Least.{most}
 use Rattle.tables.specs.Places.{best}
 use Rattle.tables.specs.Tables.{Small, RowOf}

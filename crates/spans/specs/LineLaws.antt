@@ -11,7 +11,9 @@ use borrow.Author.Tests.{leb-true, le-leb, lt-leb}
 use lib.Dec.{leb}
 use lib.ListN.{length, getD}
 use Rattle.sums.specs.Lists.{All, Pairwise}
-use Rattle.sums.specs.ListLaws.{All-at, All-from, Pairwise-at, Pairwise-from, length-tabulate, getD-tabulate}
+use Rattle.sums.specs.Members.{All-at, All-from}
+use Rattle.sums.specs.Pairs.{Pairwise-at, Pairwise-from}
+use Rattle.sums.specs.Places.{length-tabulate, getD-tabulate}
 use Rattle.sums.specs.Rearranged.{Rearranged, rearranged-length, rearranged-all, rearranged-two}
 use Rattle.spans.specs.Heap.{at, Rising}
 use Rattle.spans.specs.Line.{keyOf, startOf, stopOf, Span, Spans, Apart, AllApart, clear, upTo}

@@ -1,5 +1,9 @@
 pub mod Sum
 pub mod Gate
 pub mod Lists
-pub mod ListLaws
+pub mod Members
+pub mod Places
+pub mod Pairs
+pub mod Totals
+pub mod Reversed
 pub mod Rearranged

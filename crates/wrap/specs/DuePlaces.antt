@@ -11,19 +11,9 @@ use lib.IntN.{ℤ, pos, negsuc}
 use lib.ListN.{length, getD, length-reverse}
 use lib.Signed.{ltZ, leZ}
 use Rattle.sums.specs.Lists.{In, Pairwise, total, only}
-use Rattle.sums.specs.ListLaws.{
-  All-map,
-  All-at,
-  in-All,
-  in-at,
-  at-in,
-  All-reverse,
-  in-reverse,
-  map-in,
-  in-map,
-  total-none,
-  total-reverse,
-}
+use Rattle.sums.specs.Members.{All-map, All-at, in-All, in-at, at-in, map-in, in-map}
+use Rattle.sums.specs.Reversed.{All-reverse, in-reverse, total-reverse}
+use Rattle.sums.specs.Totals.{total-none}
 use Rattle.order.specs.Order.{Job, Order, noJob, jobCount, jobOf, endAt, endOf}
 use Rattle.order.specs.Sorted.{dueTimes}
 use Rattle.order.specs.SortedLaws.{ltZ-strict, in-distinct, distinct-in}

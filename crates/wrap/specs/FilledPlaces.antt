@@ -9,7 +9,7 @@ use native.Mathlib.Nat.{le-of-suc-le-suc, lt-of-mul-lt-mul-right}
 use borrow.Author.Tests.{eq-eqb, ne-eqb}
 use lib.ListN.{length, getD}
 use Rattle.sums.specs.Lists.{All, Pairwise}
-use Rattle.sums.specs.ListLaws.{All-map, All-both, All-at, All-from}
+use Rattle.sums.specs.Members.{All-map, All-both, All-at, All-from}
 use Rattle.plan.specs.Plan.{Row}
 use Rattle.wrap.specs.Layout.{Share}
 use Rattle.wrap.specs.Filled.{Filled, no-processor, no-share, ends-before, ends-there, goes-on}

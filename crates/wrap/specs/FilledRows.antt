@@ -9,7 +9,8 @@ use native.Mathlib.Omega.{arith}
 use lib.Dec.{eqb}
 use lib.ListN.{length}
 use Rattle.sums.specs.Lists.{All, Pairwise, total, only}
-use Rattle.sums.specs.ListLaws.{All-map, total-le, only-le, in-All}
+use Rattle.sums.specs.Members.{All-map, in-All}
+use Rattle.sums.specs.Totals.{total-le, only-le}
 use Rattle.plan.specs.Plan.{Row, Apart, lengthsOf}
 use Rattle.wrap.specs.Layout.{Share}
 use Rattle.wrap.specs.Filled.{Filled, no-processor, no-share, ends-before, ends-there, goes-on}

@@ -13,7 +13,7 @@ use lib.Signed.{_≤ℤ_}
 use Rattle.sums.specs.Sum.{sum, sum-cong}
 use Rattle.sums.specs.Gate.{gate, gate-in, gate-out, gate-≤}
 use Rattle.sums.specs.Lists.{only}
-use Rattle.sums.specs.ListLaws.{All-at, nth-in}
+use Rattle.sums.specs.Members.{All-at, nth-in}
 use Rattle.order.specs.Order.{Order, noJob, jobCount, Numbers, jobOf, memoryOf, endOf}
 use Rattle.order.specs.Class.{classOf, classes, processorsIn, processorsTo}
 use Rattle.order.specs.ClassLaws.{class-some, class-at-most}

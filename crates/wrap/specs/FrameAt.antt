@@ -7,7 +7,7 @@ use native.Mathlib.Omega.{arith}
 use lib.IntN.{ℤ, pos, _*ℤ_}
 use lib.Signed.{_≤ℤ_}
 use Rattle.sums.specs.Lists.{All}
-use Rattle.sums.specs.ListLaws.{All-map, All-both}
+use Rattle.sums.specs.Members.{All-map, All-both}
 use Rattle.order.specs.Order.{Order, jobOf, endOf}
 use Rattle.order.specs.Deadline.{deadlineOf}
 use Rattle.order.specs.Ends.{≤-mul-cut, mul-cut-≤}

@@ -10,7 +10,8 @@ use native.Mathlib.Decide.{decLe, decLt}
 use lib.Dec.{leb}
 use lib.IntN.{ℤ}
 use Rattle.sums.specs.Lists.{total, only}
-use Rattle.sums.specs.ListLaws.{All-map, All-both, in-All, only-le, total-numbers}
+use Rattle.sums.specs.Members.{All-map, All-both, in-All}
+use Rattle.sums.specs.Totals.{only-le, total-numbers}
 use Rattle.order.specs.Order.{Order, jobCount, Numbers, jobOf}
 use Rattle.order.specs.Sorted.{processorOrder, jobOrder}
 use Rattle.order.specs.Class.{classFor, processorsTo}

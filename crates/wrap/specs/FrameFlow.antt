@@ -12,7 +12,8 @@ use lib.Dec.{leb}
 use lib.ListN.{length}
 use Rattle.sums.specs.Sum.{sum, sum-cong}
 use Rattle.sums.specs.Lists.{only}
-use Rattle.sums.specs.ListLaws.{All-map, in-All, nth-in, total-le, total-none}
+use Rattle.sums.specs.Members.{All-map, in-All, nth-in}
+use Rattle.sums.specs.Totals.{total-le, total-none}
 use Rattle.order.specs.Order.{Order, jobCount, Numbers, jobOf, memoryOf}
 use Rattle.order.specs.Class.{classes, classOf}
 use Rattle.order.specs.ClassLaws.{class-of-processor}

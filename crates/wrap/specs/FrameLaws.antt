@@ -11,19 +11,9 @@ use lib.Dec.{leb}
 use lib.ListN.{length, getD, length-append}
 use Rattle.sums.specs.Sum.{sum}
 use Rattle.sums.specs.Lists.{All, Pairwise, total, only}
-use Rattle.sums.specs.ListLaws.{
-  All-map,
-  All-append,
-  All-in,
-  in-All,
-  Pairwise-map,
-  Pairwise-append,
-  only-le,
-  total-append,
-  total-le,
-  total-ones,
-  total-tabulate,
-}
+use Rattle.sums.specs.Members.{All-map, All-append, All-in, in-All}
+use Rattle.sums.specs.Pairs.{Pairwise-map, Pairwise-append}
+use Rattle.sums.specs.Totals.{only-le, total-append, total-le, total-ones, total-tabulate}
 use Rattle.order.specs.Order.{Order, processorCount, Numbers, memoryOf}
 use Rattle.order.specs.Sorted.{processorOrder}
 use Rattle.order.specs.Class.{classFor}

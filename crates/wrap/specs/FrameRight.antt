@@ -13,17 +13,9 @@ use lib.Dec.{leb, eqb}
 use lib.ListN.{length, getD}
 use Rattle.sums.specs.Sum.{sum-cong}
 use Rattle.sums.specs.Lists.{All, Pairwise, total, only}
-use Rattle.sums.specs.ListLaws.{
-  All-map,
-  All-both,
-  in-All,
-  nth-in,
-  only-le,
-  Pairwise-map,
-  Pairwise-with,
-  total-cong,
-  total-tabulate,
-}
+use Rattle.sums.specs.Members.{All-map, All-both, in-All, nth-in}
+use Rattle.sums.specs.Totals.{only-le, total-cong, total-tabulate}
+use Rattle.sums.specs.Pairs.{Pairwise-map, Pairwise-with}
 use Rattle.order.specs.Order.{Order, jobCount, processorCount, Numbers, jobOf, memoryOf, Fits}
 use Rattle.order.specs.Sorted.{processorOrder, jobOrder}
 use Rattle.order.specs.Class.{classes, classOf}

@@ -9,7 +9,9 @@ use lib.Dec.{leb, eqb}
 use lib.ListN.{length}
 use Rattle.sums.specs.Sum.{sum, sum-ge, sum-only}
 use Rattle.sums.specs.Lists.{Pairwise, total, only}
-use Rattle.sums.specs.ListLaws.{in-All, only-le, Pairwise-map, total-le, total-ones, total-tabulate}
+use Rattle.sums.specs.Members.{in-All}
+use Rattle.sums.specs.Totals.{only-le, total-le, total-ones, total-tabulate}
+use Rattle.sums.specs.Pairs.{Pairwise-map}
 use Rattle.order.specs.Order.{Order, jobCount, processorCount, Numbers, jobOf}
 use Rattle.order.specs.Sorted.{jobOrder}
 use Rattle.order.specs.Class.{classes, classFor, classOf, processorsTo}

@@ -6,7 +6,7 @@ use mathlib.Core.List.{List}
 use lib.IntN.{ℤ}
 use lib.ListN.{length}
 use Rattle.sums.specs.Lists.{Pairwise}
-use Rattle.sums.specs.ListLaws.{Pairwise-map}
+use Rattle.sums.specs.Pairs.{Pairwise-map}
 use Rattle.order.specs.Order.{Order, processorCount, jobCount}
 use Rattle.plan.specs.Plan.{Row}
 use Rattle.wrap.specs.Stretches.{stretchCount}

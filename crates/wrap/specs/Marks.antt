@@ -12,7 +12,9 @@ use lib.IntN.{ℤ, pos, negsuc, _+ℤ_}
 use lib.ListN.{getD, length-reverse}
 use lib.Signed.{ltZ}
 use Rattle.sums.specs.Lists.{Pairwise}
-use Rattle.sums.specs.ListLaws.{Pairwise-reverse, Pairwise-at, getD-map}
+use Rattle.sums.specs.Reversed.{Pairwise-reverse}
+use Rattle.sums.specs.Pairs.{Pairwise-at}
+use Rattle.sums.specs.Places.{getD-map}
 use Rattle.order.specs.Order.{Order, endAt}
 use Rattle.order.specs.Sorted.{dueTimes}
 use Rattle.order.specs.SortedLaws.{ltZ-strict, distinct-falls}

@@ -10,7 +10,7 @@ use borrow.Author.Tests.{ltb-true, ltb-false, le-leb}
 use lib.Dec.{leb, ltb}
 use lib.ListN.{length}
 use Rattle.sums.specs.Lists.{All, Pairwise, total, only}
-use Rattle.sums.specs.ListLaws.{All-map, All-both}
+use Rattle.sums.specs.Members.{All-map, All-both}
 use Rattle.wrap.specs.Layout.{Share, sharesOf}
 use Rattle.wrap.specs.FilledPlaces.{Roomy}
 

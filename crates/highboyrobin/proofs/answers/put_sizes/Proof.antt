@@ -1,6 +1,6 @@
 use mathlib.Core.Path.{sym, ap}
 use lib.IntN.{pos}
-use Rattle.sums.specs.ListLaws.{length-tabulate}
+use Rattle.sums.specs.Places.{length-tabulate}
 use Rattle.order.specs.StructLaws.{counts-few}
 use mathlib.Core.Path.{_∙_}
 use mir.ValLaws.{toZ-ofZ}

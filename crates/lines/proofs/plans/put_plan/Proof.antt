@@ -3,7 +3,7 @@ use native.Mathlib.Omega.{arith}
 use borrow.Author.Needs.{needs}
 use mir.Syntax.{w32}
 use mir.ValLaws.{toZ-ofZ}
-use Rattle.sums.specs.ListLaws.{length-tabulate}
+use Rattle.sums.specs.Places.{length-tabulate}
 use Rattle.plan.specs.Check.{rowAt}
 use Rattle.lines.specs.Lines.{leastLine, endLine, planLines}
 use Rattle.lines.specs.TextLaws.{put-both, put-as}

@@ -6,7 +6,7 @@ use lib.Dec.{eqb}
 use lib.ListN.{getD}
 use Rattle.sums.specs.Sum.{sum}
 use Rattle.sums.specs.Lists.{only}
-use Rattle.sums.specs.ListLaws.{only-le}
+use Rattle.sums.specs.Totals.{only-le}
 use Rattle.tables.specs.NumberLaws.{sum-none, sum-more}
 use Rattle.reason.proofs.class.count_in.Statement.{statement}
 use Rattle.reason.proofs.class.count_in.Tie as tie

@@ -4,7 +4,7 @@ use mathlib.Core.List.{List}
 use native.Mathlib.Omega.{arith}
 use borrow.Author.Needs.{needs}
 use lib.ListN.{getD}
-use Rattle.sums.specs.ListLaws.{length-tabulate}
+use Rattle.sums.specs.Places.{length-tabulate}
 use Rattle.order.specs.RefusalLaws.{accepted-iff}
 use Rattle.order.specs.Table.{orderOf}
 use Rattle.reason.specs.Downwards.{DistinctOf}
