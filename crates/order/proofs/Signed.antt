@@ -10,6 +10,7 @@ use lib.Signed.{mag, leZ, ltZ, nonNeg}
 use mir.Val.{toZ, ofZ, Fits, SFits}
 use mir.ValLaws.{toZ-ofZ}
 use mir.Syntax.{w32}
+use Rattle.order.specs.Order.{endAt}
 use Rattle.order.specs.Refusals.{dueInRange, boundInRange}
 use Rattle.order.specs.Deadline.{cut}
 use Rattle.order.specs.EndLaws.{mag-end}
@@ -39,30 +40,31 @@ cut-other (negsuc n) h = let z : _≡_ {A = ℕ} 0 1 = cc in absurd (omega arith
 
 -- the end of a job whose due time and bound are in range
 module _ (due bound : ℤ) (f : SFits w32 due) (g : SFits w32 bound) (d : dueInRange due ≡ true) (b : boundInRange bound ≡ true) where
-  fits-end : SFits w32 (due +ℤ bound)
+  fits-end : SFits w32 (endAt bound due)
   fits-end = record { sfits = omega (arith, mag-end due bound d b) }
 
   abbrev read : ℤ
   read = toZ w32 (ofZ w32 due) +ℤ toZ w32 (ofZ w32 bound)
 
-  read-is : read ≡ due +ℤ bound
+  read-is : read ≡ endAt bound due
+  unfolding endAt
   read-is = rw (toZ-ofZ w32 due f, toZ-ofZ w32 bound g)
 
   pub end-fits : SFits w32 read
   end-fits = rw read-is fits-end
 
-  back : toZ w32 (ofZ w32 read) ≡ due +ℤ bound
-  back = rw read-is (toZ-ofZ w32 (due +ℤ bound) fits-end)
+  back : toZ w32 (ofZ w32 read) ≡ endAt bound due
+  back = rw read-is (toZ-ofZ w32 (endAt bound due) fits-end)
 
-  pub end-negative : ltZ (toZ w32 (ofZ w32 read)) (pos 0) ≡ true → 0 ≡ cut (due +ℤ bound)
-  end-negative h = sym (cut-negative (due +ℤ bound) (rw back at h))
+  pub end-negative : ltZ (toZ w32 (ofZ w32 read)) (pos 0) ≡ true → 0 ≡ cut (endAt bound due)
+  end-negative h = sym (cut-negative (endAt bound due) (rw back at h))
 
   module _ (h : ltZ (toZ w32 (ofZ w32 read)) (pos 0) ≡ false) where
-    other : T (nonNeg (due +ℤ bound)) × (natAbs (due +ℤ bound) ≡ cut (due +ℤ bound)) × (natAbs (due +ℤ bound) ≤ mag (due +ℤ bound))
-    other = cut-other (due +ℤ bound) (rw back at h)
+    other : T (nonNeg (endAt bound due)) × (natAbs (endAt bound due) ≡ cut (endAt bound due)) × (natAbs (endAt bound due) ≤ mag (endAt bound due))
+    other = cut-other (endAt bound due) (rw back at h)
 
     pub end-casts : T (nonNeg (toZ w32 (ofZ w32 read))) × Fits w32 (natAbs (toZ w32 (ofZ w32 read)))
     end-casts = rw back (other .0, record { fits = omega (arith, other .2, mag-end due bound d b) })
 
-    pub end-is : natAbs (toZ w32 (ofZ w32 read)) ≡ cut (due +ℤ bound)
+    pub end-is : natAbs (toZ w32 (ofZ w32 read)) ≡ cut (endAt bound due)
     end-is = rw back (other .1)

@@ -4,10 +4,12 @@ pub mod Sorted
 pub mod Class
 pub mod Deadline
 pub mod Ends
+pub mod Lead
 pub mod Refusals
 pub mod Table
 pub mod RefusalLaws
 pub mod EndLaws
+pub mod LeadLaws
 pub mod TableLaws
 pub mod StructLaws
 pub mod SortedLaws

@@ -43,7 +43,7 @@ abbrev pub Fits : Job → ℕ → Type 0
 Fits job memory = job .need ≤ memory
 
 -- "A job's end is its due time plus the bound." The bound may be any whole number, in the bound's range or not.
-abbrev pub endAt : ℤ → ℤ → ℤ
+unfoldable pub endAt : ℤ → ℤ → ℤ
 endAt bound due = due +ℤ bound
 
 unfoldable pub endOf : ℤ → Job → ℤ

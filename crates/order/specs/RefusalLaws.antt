@@ -201,7 +201,7 @@ pub both-true : (a b : Bool) → (a && b) ≡ true → (a ≡ true) × (b ≡ tr
 both-true true b e = (refl, e)
 both-true false b e = let z : _≡_ {A = ℕ} 0 1 = cc in absurd (omega arith)
 
-true-both : (a b : Bool) → a ≡ true → b ≡ true → (a && b) ≡ true
+pub true-both : (a b : Bool) → a ≡ true → b ≡ true → (a && b) ≡ true
 true-both a b e f = rw (e, f)
 
 pub leZ-true : (a b : ℤ) → leZ a b ≡ true → a ≤ℤ b
@@ -313,6 +313,11 @@ accepted-of o a =
 -- an order is accepted exactly if it is acceptable
 pub accepted-iff : (o : Order) → Accepted o ↔ Acceptable o
 accepted-iff o = (acceptable-of o, accepted-of o)
+
+-- its due times are in range
+pub dues-in-range : (o : Order) → Acceptable o → All (λ (job : Job). dueInRange (job .due) ≡ true) (o .jobs)
+dues-in-range o a =
+    All-map _ _ (o .jobs) (λ (job : Job) h. true-both _ _ (true-leZ _ _ (h .0)) (true-leZ _ _ (h .1))) (a .dues)
 
 -- the same of a list that is given by its places
 module _ {A : Type 0} (test : A → Bool) (n : ℕ) (f : ℕ → A) where

@@ -1,5 +1,4 @@
--- Laws of the whole numbers: their order is total, and adding the same number to both sides keeps it and tells it. So ends,
--- "due time plus the bound", are ordered as the due times are.
+-- Laws of the whole numbers: their order is total, and adding the same number to both sides keeps it and tells it.
 use Prim.Native.Nat.{ℕ, zero, suc, _+_, _-_, _≤_, _<_}
 use mathlib.Core.Path.{_≡_, refl, sym, ap, _∙_, subst, subst₂}
 use mathlib.Core.Bool.{Bool, true, false}
@@ -139,3 +138,23 @@ add-lt-of a b c h = elim (le-or-lt b a) [ inr l ↦ l | inl l ↦ clashℤ h (ad
 -- and two numbers are one if the sums are
 pub add-cancel : (a b c : ℤ) → a +ℤ c ≡ b +ℤ c → a ≡ b
 add-cancel a b c e = sym (+ℤ-negℤ-cancel a c) ∙ (ap (λ (z : ℤ). z -ℤ c) e ∙ +ℤ-negℤ-cancel b c)
+
+-- what is left of a number cut off at 0 after a natural one is taken away
+pub cut-less : (z : ℤ) (n : ℕ) → cut z ≡ cut (z +ℤ pos n) - n
+cut-less (pos a) n = omega arith
+cut-less (negsuc a) n =
+    elim (decLt n (suc a)) [
+      | yes h ↦ rw (subℕ-neg n (suc a) h) (omega arith)
+      | no h ↦ rw (subℕ-pos n (suc a) (omega arith)) (omega arith)
+    ]
+
+-- one test is another where what they ask is the same
+pub ltZ-is-ltb : (x y : ℤ) (a b : ℕ) → (x <ℤ y) ↔ (a < b) → ltZ x y ≡ ltb a b
+ltZ-is-ltb x y a b h =
+    elim (decLt a b) [
+      | yes l ↦ true-ltZ x y (h .1 l) ∙ sym (lt-ltb a b l)
+      | no l ↦ elim (le-or-lt y x) [
+        | inl g ↦ false-ltZ x y g ∙ sym (le-ltb a b (omega arith))
+        | inr g ↦ absurd (l (h .0 g))
+      ]
+    ]

@@ -2,13 +2,13 @@
 // `deadline` serves the crates above and has a `requires`.
 ghost use mathlib.Core.Path.{_≡_};
 ghost use mathlib.Core.Bool.{true};
-ghost use lib.IntN.{_+ℤ_};
+ghost use Rattle.order.specs.Order.{endAt};
 ghost use Rattle.order.specs.Refusals.{dueInRange, boundInRange};
 ghost use Rattle.order.specs.Deadline.{cut};
 
 pub fn deadline(due: i32, bound: i32) -> u32
     requires { ⌜ (dueInRange due ≡ true) × (boundInRange bound ≡ true) ⌝ }
-    ensures { λ r. ⌜ r ≡ cut (due +ℤ bound) ⌝ }
+    ensures { λ r. ⌜ r ≡ cut (endAt bound due) ⌝ }
 {
     let end = due + bound;
     if end < 0 {

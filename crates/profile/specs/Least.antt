@@ -1,57 +1,44 @@
--- The least lateness as a formula. With lead = 1,000,000 - due and reach = bound + 1,000,000, a profile of k classes is
--- overfull exactly if its weight, which does not mention the bound, exceeds the processors of its classes times the reach.
-use Prim.Native.Nat.{ℕ, zero, suc, _+_, _-_, _*_, _/_, max}
-use mathlib.Core.List.{List, [], _∷_, map}
+-- The least lateness as a formula. With `top` a minute that no due time exceeds, a profile of k classes is overfull exactly if its
+-- weight, which does not mention the bound, exceeds the processors of its classes times the reach.
+use Prim.Native.Nat.{ℕ, suc, _+_, _-_, _*_, max}
+use mathlib.Core.List.{List, [], _∷_}
 use lib.Dec.{eqb}
-use lib.IntN.{ℤ, pos, _-ℤ_}
+use lib.IntN.{ℤ}
 use lib.ListN.{length}
 use Rattle.sums.specs.Lists.{total, only}
+use Rattle.sums.specs.Most.{largest, most, ceiling}
 use Rattle.order.specs.Order.{Job, Order}
 use Rattle.order.specs.Class.{classes, classOf, processorsIn, processorsTo}
-use Rattle.order.specs.Deadline.{cut}
 use Rattle.order.specs.Sorted.{dueTimes}
+use Rattle.order.specs.Lead.{lead, boundAt, lastDue}
 use Rattle.profile.specs.Search.{choices}
 
--- how long before minute 1,000,000 a due time lies
-abbrev pub lead : ℤ → ℕ
-lead due = cut (pos 1000000 -ℤ due)
-
 -- what a job owes at a lead
-abbrev pub owedAt : ℕ → Job → ℕ
-owedAt g job = job .time - (g - lead (job .due))
+abbrev pub owedAt : ℤ → ℕ → Job → ℕ
+owedAt top g job = job .time - (g - lead top (job .due))
 
 -- what class k weighs at a lead: the minutes owed by its jobs, and its processors times the lead
-unfoldable pub weightAt : Order → ℕ → ℕ → ℕ
-weightAt o k g = total (o .jobs) (λ (job : Job). only (eqb (classOf o job) k) (owedAt g job)) + processorsIn o k * g
+unfoldable pub weightAt : ℤ → Order → ℕ → ℕ → ℕ
+weightAt top o k g = total (o .jobs) (λ (job : Job). only (eqb (classOf o job) k) (owedAt top g job)) + processorsIn o k * g
 
 -- what a profile weighs, from class k on
-unfoldable pub weightFrom : Order → ℕ → List ℤ → ℕ
-weightFrom o k [] = 0
-weightFrom o k (due ∷ dues) = weightAt o k (lead due) + weightFrom o (suc k) dues
-
--- the largest value on a list
-unfoldable pub largest : {A : Type 0} → (A → ℕ) → List A → ℕ
-largest f [] = 0
-largest f (x ∷ xs) = max (f x) (largest f xs)
+unfoldable pub weightFrom : ℤ → Order → ℕ → List ℤ → ℕ
+weightFrom top o k [] = 0
+weightFrom top o k (due ∷ dues) = weightAt top o k (lead top due) + weightFrom top o (suc k) dues
 
 -- the heaviest profile of k classes
-unfoldable pub heaviest : Order → ℕ → ℕ
-heaviest o k = largest (weightFrom o 1) (choices k (dueTimes o))
-
--- a / b, rounded up
-abbrev pub ceiling : ℕ → ℕ → ℕ
-ceiling a b = (a + (b - 1)) / b
-
--- the largest of f 0 .. f (n - 1)
-unfoldable pub most : ℕ → (ℕ → ℕ) → ℕ
-most zero f = 0
-most (suc n) f = max (most n f) (f n)
+unfoldable pub heaviest : ℤ → Order → ℕ → ℕ
+heaviest top o k = largest (weightFrom top o 1) (choices k (dueTimes o))
 
 -- the least reach at which every job has its time by its end and no profile is overfull
-unfoldable pub leastReach : Order → ℕ
-leastReach o =
-    max (largest (λ (job : Job). job .time + lead (job .due)) (o .jobs))
-    (most (length (classes o)) (λ k. ceiling (heaviest o (suc k)) (processorsTo o (suc k))))
+unfoldable pub leastReach : ℤ → Order → ℕ
+leastReach top o =
+    max (largest (λ (job : Job). job .time + lead top (job .due)) (o .jobs))
+    (most (length (classes o)) (λ k. ceiling (heaviest top o (suc k)) (processorsTo o (suc k))))
+
+-- its bound, whatever `top` is; that of an accepted order
+abbrev pub leastFrom : ℤ → Order → ℤ
+leastFrom top o = boundAt top (leastReach top o)
 
 unfoldable pub leastLateness : Order → ℤ
-leastLateness o = pos (leastReach o) -ℤ pos 1000000
+leastLateness o = leastFrom lastDue o

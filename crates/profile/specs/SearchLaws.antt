@@ -16,7 +16,8 @@ use Rattle.order.specs.Order.{Job, Order, jobCount, Numbers, noJob, jobOf, endA
 use Rattle.order.specs.Sorted.{dueTimes}
 use Rattle.order.specs.SortedLaws.{ltZ-strict, distinct-falls, in-distinct, distinct-in}
 use Rattle.order.specs.Class.{classes}
-use Rattle.order.specs.Whole.{ltZ-true, true-ltZ, add-le, add-le-of, add-cancel}
+use Rattle.order.specs.EndLaws.{end-le, end-le-of, end-cancel}
+use Rattle.order.specs.Whole.{ltZ-true, true-ltZ}
 use Rattle.profile.specs.Profile.{owedFrom, onHandFrom, Profile, Overfull, RanksBefore, FirstOverfull}
 use Rattle.profile.specs.Search.{ranked, Found, nothing, found, firstSuch, isOverfull, firstOverfull}
 use Rattle.profile.specs.Ranking.{Falls, Chosen, ranked-in, ranked-sorted, ranks-once, ranks-not-itself}
@@ -82,9 +83,9 @@ module _ (o : Order) (bound : ℤ) where
   pub profile-chosen : (dues : List ℤ) → Profile o bound dues → Chosen (dueTimes o) dues
   unfolding endOf
   profile-chosen dues p = record {
-    never-rise = Pairwise-map _ _ dues (λ (d e : ℤ) h. add-le-of e d bound h) (p .never-rise);
+    never-rise = Pairwise-map _ _ dues (λ (d e : ℤ) h. end-le-of bound e d h) (p .never-rise);
     members = All-map _ _ dues
-        (λ (d : ℤ) h. subst (λ (z : ℤ). In z (dueTimes o)) (sym (add-cancel d (jobOf o (h .0) .due) bound (h .2)))
+        (λ (d : ℤ) h. subst (λ (z : ℤ). In z (dueTimes o)) (sym (end-cancel bound d (jobOf o (h .0) .due) (h .2)))
         (due-in o (h .0) (h .1))) (p .of-jobs);
   }
 
@@ -92,7 +93,7 @@ module _ (o : Order) (bound : ℤ) where
   unfolding endOf
   chosen-profile dues l c = record {
     of-classes = l;
-    never-rise = Pairwise-map _ _ dues (λ (d e : ℤ) h. add-le e d bound h) (c .never-rise);
+    never-rise = Pairwise-map _ _ dues (λ (d e : ℤ) h. end-le bound e d h) (c .never-rise);
     of-jobs = All-map _ _ dues
         (λ (d : ℤ) h. let j = in-due o d h in (j .0, j .1, ap (endAt bound) (j .2))) (c .members);
   }

@@ -8,8 +8,8 @@ use mathlib.Core.Logic.{_↔_}
 use native.Mathlib.Omega.{arith}
 use native.Mathlib.Decide.{decLe}
 use borrow.Author.Tests.{le-leb, lt-leb}
-use lib.Dec.{eqb}
-use lib.IntN.{ℤ, pos, negℤ, _+ℤ_, _-ℤ_, +ℤ-comm, +ℤ-idl, +ℤ-invr}
+use lib.Dec.{ltb, eqb}
+use lib.IntN.{ℤ, pos, _-ℤ_}
 use lib.ListN.{length}
 use lib.Signed.{leZ, _≤ℤ_, _<ℤ_}
 use Rattle.sums.specs.Sum.{sum}
@@ -19,38 +19,12 @@ use Rattle.sums.specs.Totals.{total-cong}
 use Rattle.order.specs.Order.{Job, Order, endAt, endOf}
 use Rattle.order.specs.Class.{classOf, processorsIn, processorsTo}
 use Rattle.order.specs.Deadline.{cut}
-use Rattle.order.specs.Whole.{pos-lt, pos-minus, cut-minus, le-cut, le-gap, add-swap, add-le, add-le-of, add-cancel}
+use Rattle.order.specs.Lead.{lead}
+use Rattle.order.specs.LeadLaws.{end-reach}
+use Rattle.order.specs.Whole.{pos-lt, pos-minus, cut-minus, ltZ-is-ltb}
 use Rattle.profile.specs.Profile.{owed, classOwes, owedFrom, onHandFrom, minutesOwed, minutesOnHand}
-use Rattle.profile.specs.Least.{lead, owedAt, weightAt, weightFrom}
-
--- the reach of a bound: 1,000,000 more, 0 where that is negative
-abbrev pub reachOf : ℤ → ℕ
-reachOf bound = cut (bound +ℤ pos 1000000)
-
--- a due time and its lead come to 1,000,000, an end and its lead to the reach
-due-lead : (due : ℤ) → due ≤ℤ pos 1000000 → due +ℤ pos (lead due) ≡ pos 1000000
-due-lead due h =
-    let g = le-gap due (pos 1000000) h in
-    ap (λ (n : ℕ). due +ℤ pos n) (ap (λ (z : ℤ). cut (z -ℤ due)) (sym (g .1)) ∙ ap cut (rest (g .0))) ∙ g .1
-  where
-    -- due + n less due is n
-    rest : (n : ℕ) → (due +ℤ pos n) -ℤ due ≡ pos n
-    rest n = add-swap due (pos n) (negℤ due) ∙ (ap (λ (z : ℤ). z +ℤ pos n) (+ℤ-invr due) ∙ +ℤ-idl (pos n))
-
-end-lead : (bound due : ℤ) → due ≤ℤ pos 1000000 → endAt bound due +ℤ pos (lead due) ≡ bound +ℤ pos 1000000
-end-lead bound due h =
-    add-swap due bound (pos (lead due)) ∙ (ap (λ (z : ℤ). z +ℤ bound) (due-lead due h) ∙ +ℤ-comm (pos 1000000) bound)
-
--- a job is in time exactly if its time and its lead are at most the reach
-pub in-time-reach : (bound due : ℤ) (time : ℕ) → due ≤ℤ pos 1000000 → 1 ≤ time →
-    (pos time ≤ℤ endAt bound due) ↔ (time + lead due ≤ reachOf bound)
-in-time-reach bound due time h t =
-    let c = le-cut (bound +ℤ pos 1000000) (time + lead due) (omega arith) in (
-      λ l. c .0 (subst (λ (z : ℤ). pos (time + lead due) ≤ℤ z) (end-lead bound due h)
-          (add-le (pos time) (endAt bound due) (pos (lead due)) l)),
-      λ l. add-le-of (pos time) (endAt bound due) (pos (lead due))
-          (subst (λ (z : ℤ). pos (time + lead due) ≤ℤ z) (sym (end-lead bound due h)) (c .1 l)),
-    )
+use Rattle.profile.specs.Search.{isOverfull}
+use Rattle.profile.specs.Least.{owedAt, weightAt, weightFrom}
 
 -- minutes owed between two naturals
 owed-between : (time a b : ℕ) → cond (leZ (pos a) (pos b)) time (cut (pos time -ℤ (pos a -ℤ pos b))) ≡ time - (a - b)
@@ -60,31 +34,29 @@ owed-between time a b =
       | no h ↦ rw (lt-leb a b (omega arith), pos-minus a b (omega arith)) (cut-minus time (a - b))
     ]
 
--- a due time at most 1,000,000 whose end is not negative
-pub record Reached (reach : ℕ) (due : ℤ) : Type 0 where
-  pub at-most : due ≤ℤ pos 1000000
-  pub within : lead due ≤ reach
+-- a due time that `top` does not precede and whose end is not negative
+pub record Reached (top : ℤ) (reach : ℕ) (due : ℤ) : Type 0 where
+  pub at-most : due ≤ℤ top
+  pub within : lead top due ≤ reach
 
-module _ (bound : ℤ) (reach : ℕ) (e : bound +ℤ pos 1000000 ≡ pos reach) where
+module _ (top bound : ℤ) (reach : ℕ) (e : endAt bound top ≡ pos reach) where
   -- an end is the reach less the lead
-  pub end-is : (due : ℤ) → Reached reach due → endAt bound due ≡ pos (reach - lead due)
-  end-is due h =
-      add-cancel (endAt bound due) (pos (reach - lead due)) (pos (lead due))
-      (end-lead bound due (h .at-most) ∙ (e ∙ ap pos (omega (arith, h .within))))
+  end-is : (due : ℤ) → Reached top reach due → endAt bound due ≡ pos (reach - lead top due)
+  end-is due h = end-reach top bound due (h .at-most) reach e (h .within)
 
   -- what a job owes depends on the leads alone
-  pub owed-is : (due : ℤ) (job : Job) → Reached reach due → Reached reach (job .due) →
-      owed bound (endAt bound due) job ≡ owedAt (lead due) job
+  pub owed-is : (due : ℤ) (job : Job) → Reached top reach due → Reached top reach (job .due) →
+      owed bound (endAt bound due) job ≡ owedAt top (lead top due) job
   unfolding owed endOf
   owed-is due job h k =
       rw (end-is due h, end-is (job .due) k)
-      (owed-between (job .time) (reach - lead (job .due)) (reach - lead due)
+      (owed-between (job .time) (reach - lead top (job .due)) (reach - lead top due)
       ∙ ap (λ (x : ℕ). job .time - x) (omega (arith, h .within, k .within)))
 
-  module _ (o : Order) (jobs : All (λ (job : Job). Reached reach (job .due)) (o .jobs)) where
-    class-owes : (k : ℕ) (due : ℤ) → Reached reach due →
+  module _ (o : Order) (jobs : All (λ (job : Job). Reached top reach (job .due)) (o .jobs)) where
+    class-owes : (k : ℕ) (due : ℤ) → Reached top reach due →
         classOwes o bound k (endAt bound due)
-        ≡ total (o .jobs) (λ (job : Job). only (eqb (classOf o job) k) (owedAt (lead due) job))
+        ≡ total (o .jobs) (λ (job : Job). only (eqb (classOf o job) k) (owedAt top (lead top due) job))
     unfolding classOwes
     class-owes k due h =
         total-cong (o .jobs) _ _
@@ -96,17 +68,17 @@ module _ (bound : ℤ) (reach : ℕ) (e : bound +ℤ pos 1000000 ≡ pos reach) 
       hand : ℕ
       on-hand : onHandFrom o bound (suc i) dues ≡ pos hand
       balance : processorsTo o (i + length dues) * reach + owedFrom o bound (suc i) dues
-          ≡ processorsTo o i * reach + hand + weightFrom o (suc i) dues
+          ≡ processorsTo o i * reach + hand + weightFrom top o (suc i) dues
 
-    balanced : (i : ℕ) (dues : List ℤ) → All (Reached reach) dues → Balance i dues
+    balanced : (i : ℕ) (dues : List ℤ) → All (Reached top reach) dues → Balance i dues
     unfolding owedFrom onHandFrom weightFrom weightAt processorsTo sum
     balanced i [] h = record { hand = 0; on-hand = refl; balance = let z : i + 0 ≡ i = omega arith in rw z (omega arith) }
     balanced i (d ∷ ds) h =
         let b = balanced (suc i) ds (h .1) in
         let z : i + suc (length ds) ≡ suc i + length ds = omega arith in
-        let f : (reach - lead d) + lead d ≡ reach = omega (arith, h .0 .within) in
+        let f : (reach - lead top d) + lead top d ≡ reach = omega (arith, h .0 .within) in
         record {
-          hand = processorsIn o (suc i) * (reach - lead d) + b .hand;
+          hand = processorsIn o (suc i) * (reach - lead top d) + b .hand;
           on-hand = rw (end-is d (h .0), b .on-hand);
           balance = omega (
             arith,
@@ -118,9 +90,9 @@ module _ (bound : ℤ) (reach : ℕ) (e : bound +ℤ pos 1000000 ≡ pos reach) 
         }
 
     -- the minutes owed exceed those on hand exactly if the weight exceeds the processors times the reach
-    pub exceeds-weight : (dues : List ℤ) → All (Reached reach) dues →
+    pub exceeds-weight : (dues : List ℤ) → All (Reached top reach) dues →
         (minutesOnHand o bound dues <ℤ pos (minutesOwed o bound dues))
-        ↔ (processorsTo o (length dues) * reach < weightFrom o 1 dues)
+        ↔ (processorsTo o (length dues) * reach < weightFrom top o 1 dues)
     unfolding processorsTo sum
     exceeds-weight dues h =
         let b = balanced 0 dues h in
@@ -135,3 +107,10 @@ module _ (bound : ℤ) (reach : ℕ) (e : bound +ℤ pos 1000000 ≡ pos reach) 
           λ l. subst (λ (x : ℤ). x <ℤ pos (minutesOwed o bound dues)) (sym (b .on-hand))
               (q .1 (omega (arith, b .balance, ap (λ (x : ℕ). processorsTo o x * reach) z))),
         )
+
+    -- the signed test of document 01 is the test of the weight
+    pub overfull-weighs : (dues : List ℤ) → All (Reached top reach) dues →
+        isOverfull o bound dues ≡ ltb (processorsTo o (length dues) * reach) (weightFrom top o 1 dues)
+    overfull-weighs dues h =
+        ltZ-is-ltb (minutesOnHand o bound dues) (pos (minutesOwed o bound dues)) (processorsTo o (length dues) * reach)
+        (weightFrom top o 1 dues) (exceeds-weight dues h)

@@ -7,3 +7,5 @@ pub mod Pairs
 pub mod Totals
 pub mod Reversed
 pub mod Rearranged
+pub mod Most
+pub mod Arrays
