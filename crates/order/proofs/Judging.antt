@@ -1,17 +1,14 @@
 -- How acceptance puts its answer together: the counts decide alone where they refuse, else the first bad job does.
-use Prim.Native.Nat.{ℕ, zero, suc, _≤_, _<_}
-use mathlib.Core.Path.{_≡_, refl, sym, ap, _∙_}
-use mathlib.Core.Bool.{Bool, not}
-use mathlib.Core.List.{List, [], _∷_, _++_}
-use native.Mathlib.Omega.{arith}
+use Prim.Native.Nat.{ℕ, _≤_, _<_}
+use mathlib.Core.Path.{_≡_, sym, ap, _∙_}
+use mathlib.Core.Bool.{not}
+use mathlib.Core.List.{List, _++_}
 use lib.ListN.{getD}
 use Rattle.sums.specs.Places.{length-tabulate}
 use Rattle.order.specs.Order.{Job, Order}
 use Rattle.order.specs.Refusals.{
   limits,
-  clear,
   TableRow,
-  Verdict,
   accepted,
   refused,
   judge,
@@ -25,7 +22,7 @@ use Rattle.order.specs.Refusals.{
 }
 use Rattle.order.specs.RefusalLaws.{judge-refused-append, judge-accepted-append, counts-in-limits}
 use Rattle.order.specs.TableLaws.{refused-told}
-use Rattle.order.specs.Table.{jobAt, orderOf, findingOf, refusalTold, acceptanceTold}
+use Rattle.order.specs.Table.{jobAt, orderOf, findingOf, acceptanceTold}
 use Rattle.order.specs.declared.Order.{Order as OrderTable}
 use Rattle.order.specs.declared.Refusal.{Refusal}
 use Rattle.order.specs.declared.Acceptance.{Acceptance}

@@ -1,14 +1,14 @@
 -- What the tests of acceptance find: a time in and out of range, and the job that is counted from 1.
 use Prim.Native.Nat.{ℕ, zero, suc, _+_, _≤_, _<_}
-use mathlib.Core.Path.{_≡_, refl, sym, ap, _∙_}
-use mathlib.Core.Bool.{Bool, true, false, not, _&&_, and-false}
+use mathlib.Core.Path.{_≡_, refl, sym}
+use mathlib.Core.Bool.{Bool, true, false, not, and-false}
 use native.Mathlib.Omega.{arith}
 use native.Mathlib.Numerals.{add-one}
 use borrow.Author.Tests.{le-leb, lt-leb}
 use lib.Dec.{leb}
 use lib.ListN.{getD}
 use Rattle.order.specs.Order.{Job}
-use Rattle.order.specs.Refusals.{Finding, clear, holds, first, fitsSome, timeInRange}
+use Rattle.order.specs.Refusals.{clear, holds, first, fitsSome, timeInRange}
 use Rattle.order.specs.Table.{findingOf, jobAt, orderOf}
 use Rattle.order.specs.RefusalLaws.{first-tabulate, none-tabulate, fitsSome-tabulate, fitsNone-tabulate}
 use Rattle.order.specs.declared.Order.{Order as OrderTable}

@@ -1,7 +1,7 @@
 -- Document 01, "Why a bound is too tight": "Sort the distinct memories downwards: class 1 is the largest. A job belongs
 -- to the last class whose memory still suffices."
-use Prim.Native.Nat.{ℕ, zero, suc}
-use mathlib.Core.Bool.{Bool, cond}
+use Prim.Native.Nat.{ℕ, suc}
+use mathlib.Core.Bool.{cond}
 use mathlib.Core.List.{List, [], _∷_}
 use lib.Dec.{leb, ltb, eqb}
 use Rattle.order.specs.Sorted.{distinct}

@@ -1,27 +1,25 @@
 -- Classes as facts: a job fits a processor exactly if the processor's class is not beyond the job's; the processors of a
 -- class are those with its memory; a need of 0 belongs to the last class.
-use Prim.Native.Nat.{ℕ, zero, suc, _+_, _≤_, _<_}
-use mathlib.Core.Path.{_≡_, refl, sym, ap, _∙_}
+use Prim.Native.Nat.{ℕ, zero, suc, _≤_, _<_}
+use mathlib.Core.Path.{_≡_, refl, ap, _∙_}
 use mathlib.Core.Bool.{Bool, true, false, cond}
 use mathlib.Core.List.{List, [], _∷_}
-use mathlib.Core.Logic.{_⊎_, inl, inr, _↔_}
+use mathlib.Core.Logic.{_↔_}
 use native.Mathlib.Omega.{arith}
 use native.Mathlib.Nat.{le-of-suc-le-suc}
 use native.Mathlib.Decide.{decLe, decLt}
-use borrow.Author.Tests.{leb-true, leb-false, le-leb, lt-leb, ltb-true, eqb-true, eqb-false, eq-eqb, ne-eqb}
+use borrow.Author.Tests.{leb-true, leb-false, le-leb, lt-leb, ltb-true, eq-eqb, ne-eqb}
 use lib.Dec.{leb, ltb, eqb}
 use lib.ListN.{length, getD}
 use Rattle.sums.specs.Sum.{sum}
 use native.Mathlib.Decide.{ℕ-discrete}
-use Rattle.sums.specs.Lists.{All, In, Pairwise, total, only, nth}
-use Rattle.sums.specs.Members.{All-map, All-at, All-in, in-All, in-at, at-in}
+use Rattle.sums.specs.Lists.{In, total, only, nth}
+use Rattle.sums.specs.Members.{in-All, in-at, at-in}
 use Rattle.sums.specs.Pairs.{Pairwise-at}
-use Rattle.sums.specs.Totals.{total-cong, sum-total}
-use Rattle.order.specs.Order.{Job, Order, processorCount, jobCount, Numbers, jobOf, memoryOf, Fits}
-use Rattle.order.specs.Sorted.{distinct}
-use Rattle.order.specs.SortedLaws.{ltb-strict, distinct-falls, in-distinct, distinct-in}
-use Rattle.order.specs.Class.{classes, lastThatSuffices, classFor, classOf, memoryOfClass, processorsIn, processorsTo}
-use Rattle.order.specs.RefusalLaws.{Acceptable}
+use Rattle.sums.specs.Totals.{only-le, total-cong, total-ge, total-most, sum-total}
+use Rattle.order.specs.Order.{Order, processorCount}
+use Rattle.order.specs.SortedLaws.{ltb-strict, distinct-falls, in-distinct, distinct-in, distinct-length}
+use Rattle.order.specs.Class.{classes, lastThatSuffices, classFor, memoryOfClass, processorsIn, processorsTo}
 
 -- the classes' memories fall
 pub classes-fall : (o : Order) (i k : ℕ) → i < k → k < length (classes o) → getD (classes o) k 0 < getD (classes o) i 0
@@ -176,3 +174,50 @@ unfolding processorsTo processorsIn
 processorsTo-is o k =
     sum-total k (o .memories) (λ i m. only (eqb (classFor o m) (suc i)) 1)
     ∙ total-cong (o .memories) _ _ (in-All _ (o .memories) (λ m i. only-class (classFor o m) k (class-of-processor o m i .0)))
+
+module _ (o : Order) where
+  -- each class has a processor
+  pub processorsIn-some : (k : ℕ) → k < length (classes o) → 1 ≤ processorsIn o (suc k)
+  unfolding processorsIn
+  processorsIn-some k l =
+      let i = class-in-memories o (getD (classes o) k 0) (at-in (classes o) 0 k l) in
+      let c = class-of-memory o (getD (classes o) k 0) i in
+      let e : classFor o (getD (classes o) k 0) ≡ suc k = omega (arith, c .2, same (c .0) (c .1) (c .3)) in
+      omega (
+        arith,
+        total-ge (o .memories) (λ m. only (eqb (classFor o m) (suc k)) 1) (getD (classes o) k 0) i,
+        ap (λ b. only b 1) (eq-eqb _ _ e),
+      )
+    where
+      same : (n : ℕ) → n < length (classes o) → getD (classes o) n 0 ≡ getD (classes o) k 0 → n ≡ k
+      same n m e =
+          elim (decLt n k) [
+            | yes h ↦ absurd (omega (arith, classes-fall o n k h l))
+            | no h ↦
+                elim (decLt k n) [
+                  | yes g ↦ absurd (omega (arith, classes-fall o k n g m))
+                  | no g ↦ omega arith
+                ]
+          ]
+
+  pub processorsTo-some : (k : ℕ) → k < length (classes o) → 1 ≤ processorsTo o (suc k)
+  unfolding processorsTo sum
+  processorsTo-some k l = omega (arith, processorsIn-some k l)
+
+  -- no more classes than processors, and no more processors in a class, or in the first classes, than there are
+  pub classes-few : length (classes o) ≤ processorCount o
+  unfolding classes
+  classes-few = distinct-length ltb (o .memories)
+
+  pub processorsTo-few : (k : ℕ) → processorsTo o k ≤ processorCount o
+  processorsTo-few k =
+      omega (
+        arith,
+        processorsTo-is o k,
+        total-most (o .memories) (λ m. only (leb (classFor o m) k) 1) 1
+            (in-All _ (o .memories) (λ m i. only-le (leb (classFor o m) k) 1)),
+      )
+
+  pub processorsIn-few : (k : ℕ) → processorsIn o (suc k) ≤ processorCount o
+  unfolding processorsTo sum
+  processorsIn-few k = omega (arith, processorsTo-few (suc k))

@@ -1,14 +1,15 @@
 -- Laws of leads and reaches: a due time that `top` does not precede is told by its lead, later due times have smaller leads, an end is
 -- the reach less the lead.
-use Prim.Native.Nat.{ℕ, suc, _+_, _-_, _≤_, _<_}
+use Prim.Native.Nat.{ℕ, zero, suc, _+_, _-_, _≤_, _<_}
 use mathlib.Core.Path.{_≡_, sym, ap, _∙_, subst}
 use mathlib.Core.Bool.{true}
 use mathlib.Core.Logic.{_↔_, inl, inr}
 use native.Mathlib.Omega.{arith}
-use borrow.Author.Tests.{leb-true}
+use native.Mathlib.Decide.{decLt}
+use borrow.Author.Tests.{leb-true, lt-ltb, le-ltb}
 use lib.Dec.{leb, ltb}
 use lib.IntN.{ℤ, pos, negsuc, negℤ, _+ℤ_, _-ℤ_, +ℤ-assoc, +ℤ-idl, +ℤ-invr, -ℤ-+ℤ-cancel}
-use lib.Signed.{leZ, ltZ, _≤ℤ_, _<ℤ_}
+use lib.Signed.{mag, leZ, ltZ, _≤ℤ_, _<ℤ_}
 use Rattle.sums.specs.Members.{All-map}
 use Rattle.order.specs.Order.{Job, Order, endAt}
 use Rattle.order.specs.Deadline.{cut}
@@ -45,6 +46,12 @@ module _ (top : ℤ) where
 
   due-lead : (due : ℤ) → due ≤ℤ top → due +ℤ pos (lead top due) ≡ top
   due-lead due h = let g = le-gap due top h in ap (λ (n : ℕ). due +ℤ pos n) (lead-is due (g .0) (g .1)) ∙ g .1
+
+  -- nothing is cut off of it
+  pub lead-whole : (due : ℤ) → due ≤ℤ top → top -ℤ due ≡ pos (lead top due)
+  lead-whole due h =
+      let g = le-gap due top h in
+      ap (λ (z : ℤ). z -ℤ due) (sym (g .1)) ∙ (rest-of due (g .0) ∙ ap pos (sym (lead-is due (g .0) (g .1))))
 
   -- a lead comes back from its due time, and a due time from its lead
   pub lead-due : (g : ℕ) → lead top (dueAt top g) ≡ g
@@ -134,6 +141,23 @@ due-by-last due h = leZ-true due lastDue (both-true (leZ (negsuc 999999) due) (l
 pub lead-most : (due : ℤ) → dueInRange due ≡ true → lead lastDue due ≤ 2000000
 lead-most (pos n) h = omega (arith, cut-minus 1000000 n)
 lead-most (negsuc n) h = omega (arith, leb-true n 999999 (both-true (leb n 999999) true h .0))
+
+-- the due time of a small lead, and the bound of a small reach, fit a machine number
+pub due-small : (g : ℕ) → g ≤ 2000000 → mag (dueAt lastDue g) < 2147483648
+due-small zero h = omega arith
+due-small (suc g) h =
+    elim (decLt 1000000 (suc g)) [
+      | yes l ↦ rw (lt-ltb 1000000 (suc g) l) (omega arith)
+      | no l ↦ rw (le-ltb 1000000 (suc g) (omega arith)) (omega arith)
+    ]
+
+pub bound-small : (n : ℕ) → n ≤ 640000000 → mag (boundAt lastDue n) < 2147483648
+unfolding endAt
+bound-small n h =
+    elim (decLt n 1000000) [
+      | yes l ↦ rw (lt-ltb n 1000000 l) (omega arith)
+      | no l ↦ rw (le-ltb n 1000000 (omega arith)) (omega arith)
+    ]
 
 pub reach-most : (bound : ℤ) → boundInRange bound ≡ true → reachAt lastDue bound ≤ 11000000
 unfolding endAt

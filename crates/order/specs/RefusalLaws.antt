@@ -4,11 +4,11 @@ use Prim.Native.Nat.{ℕ, zero, suc, _+_, _≤_, _<_}
 use mathlib.Core.Path.{_≡_, refl, sym, ap, _∙_}
 use mathlib.Core.Bool.{Bool, true, false, cond, not, _&&_}
 use mathlib.Core.List.{List, [], _∷_, _++_}
-use mathlib.Core.Logic.{_↔_, _⊎_, inl, inr}
+use mathlib.Core.Logic.{_↔_}
 use native.Mathlib.Omega.{arith}
 use native.Mathlib.Nat.{le-of-suc-le-suc}
-use borrow.Author.Tests.{leb-true, le-leb, ltb-true, ltb-false, lt-ltb, le-ltb, eqb-true, eqb-false, eq-eqb, ne-eqb}
-use lib.Dec.{T, leb, ltb, eqb}
+use borrow.Author.Tests.{leb-true, le-leb, ltb-false, le-ltb, eqb-false, ne-eqb}
+use lib.Dec.{T, leb}
 use lib.ListN.{length, getD}
 use lib.IntN.{ℤ, pos, negsuc}
 use lib.Signed.{leZ, _≤ℤ_}
@@ -17,7 +17,6 @@ use Rattle.sums.specs.Members.{All-map, All-from}
 use Rattle.sums.specs.Places.{length-tabulate, getD-tabulate}
 use Rattle.order.specs.Order.{Job, Order, Numbers, Fits, processorCount, jobCount, memoryOf}
 use Rattle.order.specs.Refusals.{
-  Limits,
   limits,
   Finding,
   clear,
@@ -31,12 +30,10 @@ use Rattle.order.specs.Refusals.{
   whole,
   firstAfter,
   first,
-  timeInRange,
   dueInRange,
   fitsSome,
   row,
   countRows,
-  jobRows,
   orderRows,
   Accepted,
 }

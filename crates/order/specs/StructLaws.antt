@@ -1,14 +1,16 @@
 -- A struct made of an order stands for that order; the counts of an accepted one are within the limits.
-use Prim.Native.Nat.{ℕ, _≤_}
+use Prim.Native.Nat.{ℕ, _≤_, _<_}
 use mathlib.Core.Path.{_≡_, _∙_}
+use mathlib.Core.Bool.{true}
 use mathlib.Core.List.{List}
 use native.Mathlib.Omega.{arith}
-use lib.IntN.{ℤ}
+use lib.IntN.{ℤ, pos}
 use lib.ListN.{getD}
 use Rattle.sums.specs.Places.{length-tabulate, getD-tabulate, tabulate-cong, tabulate-getD}
 use Rattle.order.specs.Order.{Job, Order, noJob, processorCount, jobCount}
-use Rattle.order.specs.Refusals.{Accepted}
-use Rattle.order.specs.RefusalLaws.{accepted-iff}
+use Rattle.sums.specs.Members.{All-at}
+use Rattle.order.specs.Refusals.{Accepted, dueInRange}
+use Rattle.order.specs.RefusalLaws.{accepted-iff, dues-in-range}
 use Rattle.order.specs.Table.{orderOf, tableOf, jobAt}
 use Rattle.order.specs.declared.Order.{Order as OrderTable}
 
@@ -37,10 +39,22 @@ tableOf-orderOf o few-processors few-jobs =
     (getD-tabulate 48 (λ j. getD (o .jobs) j noJob .need) _ j (omega arith)))
     ∙ tabulate-getD (o .jobs) noJob)
 
--- the counts of an accepted struct
-pub counts-few : (t : OrderTable) → Accepted (orderOf t) → (t .processors ≤ 16) × (t .jobs ≤ 48)
-counts-few t accepted =
-    let a = accepted-iff (orderOf t) .0 accepted in (
-      omega (arith, a .few-processors, length-tabulate (t .processors) (λ i. getD (t .memories) i 0)),
-      omega (arith, a .few-jobs, length-tabulate (t .jobs) (jobAt t)),
-    )
+-- what is known of the struct of an accepted order: its counts, and the due time at each place
+module _ (t : OrderTable) (a : Accepted (orderOf t)) where
+  pub few-jobs : t .jobs ≤ 48
+  few-jobs = omega (arith, accepted-iff (orderOf t) .0 a .few-jobs, length-tabulate (t .jobs) (jobAt t))
+
+  pub few-processors : t .processors ≤ 16
+  few-processors =
+      omega (
+        arith,
+        accepted-iff (orderOf t) .0 a .few-processors,
+        length-tabulate (t .processors) (λ i. getD (t .memories) i 0),
+      )
+
+  pub due-in-range-at : (j : ℕ) → j < t .jobs → dueInRange (getD (t .dues) j (pos 0)) ≡ true
+  due-in-range-at j l =
+      rw (getD-tabulate (t .jobs) (jobAt t) noJob j l) at
+      (All-at (λ (job : Job). dueInRange (job .due) ≡ true) (orderOf t .jobs) noJob
+      (dues-in-range (orderOf t) (accepted-iff (orderOf t) .0 a))
+      j (rw length-tabulate l))

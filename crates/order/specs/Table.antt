@@ -1,11 +1,10 @@
 -- What the code's values stand for: the order of its struct, the number of each refusal and what it carries.
 use Prim.Native.Nat.{ℕ, zero, suc}
-use mathlib.Core.List.{List}
-use lib.IntN.{ℤ, pos}
-use lib.ListN.{length, getD}
+use lib.IntN.{pos}
+use lib.ListN.{getD}
 use Rattle.sums.specs.Lists.{tabulate}
 use Rattle.order.specs.Order.{Job, Order, noJob, processorCount, jobCount}
-use Rattle.order.specs.Refusals.{Limits, limits, Finding, clear, holds, Verdict, accepted, refused}
+use Rattle.order.specs.Refusals.{limits, Finding, clear, holds, Verdict, accepted, refused}
 use Rattle.order.specs.declared.Order.{Order as OrderTable}
 use Rattle.order.specs.declared.Refusal.{Refusal}
 use Rattle.order.specs.declared.Refusal.the-variants.{

@@ -48,11 +48,12 @@ use Rattle.profile.specs.ReasonLaws.{NoReason, reason-none}
 use Rattle.profile.specs.Search.{Found, nothing, found, reasonOf}
 use Rattle.reason.specs.Told.{sixteen, whyOf, whyTold}
 use Rattle.reason.specs.ToldLaws.{why-told}
-use Rattle.reason.specs.Settings.{Matches, toldOf, reachOf}
+use Rattle.reason.specs.Settings.{toldOf, reachOf}
+use Rattle.table.specs.Tabled.{Tabled}
+use Rattle.table.specs.declared.Table.{Table}
 use Rattle.reason.specs.Matching.{reach-same}
 use Rattle.reason.specs.Telling.{told-is}
 use Rattle.reason.specs.declared.Reason.{Reason as CodeReason}
-use Rattle.reason.specs.declared.Setting.{Setting}
 use Rattle.reason.specs.declared.Tightness.{Tightness}
 use Rattle.reason.specs.declared.Tightness.the-variants.{Tight as TooTight, Met}
 use Rattle.reason.specs.declared.Why.{Why}
@@ -109,7 +110,7 @@ not-found nothing e = refl
 not-found (found r) e = let z : _≡_ {A = ℕ} 0 1 = cc in absurd (omega arith)
 
 -- a setting has room for sixteen classes
-pub classes-few : (o : Order) {t : Setting} → Matches o t → length (classes o) ≤ 16
+pub classes-few : (o : Order) {t : Table} → Tabled o t → length (classes o) ≤ 16
 classes-few o m = omega (arith, m .classed, m .few-classes)
 
 -- the verdicts, row by row
@@ -160,7 +161,7 @@ module _ (o : Order) (bound : ℤ) (n : ℕ) where
         setting-is = λ h. let z : _≡_ {A = ℕ} 0 1 = cc (sym e ∙ h) in absurd (omega arith);
       }
 
-  module _ (ok : Accepted o) (in-range : boundInRange bound ≡ true) (room : rowsAsked o ≤ n / 4) (t : Setting) (m : Matches o t)
+  module _ (ok : Accepted o) (in-range : boundInRange bound ≡ true) (room : rowsAsked o ≤ n / 4) (t : Table) (m : Tabled o t)
       (w : Why) (f : w ≡ whyOf o (reasonOf o bound)) where
     pub tight-judged : (r : CodeReason) → w .tightness ≡ TooTight r →
         JudgedAt o bound n (record { judgement = Tighten r; dues = w .dues; setting = t })
@@ -285,7 +286,7 @@ module _ (o : Order) (n : ℕ) where
     least-refused-9 h =
         sym (judge-accepted-append (orderRows limits o) (bufferRow o n ∷ []) ok ∙ rw (lt-ltb (n / 4) (rowsAsked o) h))
 
-    pub least-open : rowsAsked o ≤ n / 4 → (t : Setting) → Matches o t → JudgedLeast o n (record { status = Accepts; setting = t })
+    pub least-open : rowsAsked o ≤ n / 4 → (t : Table) → Tabled o t → JudgedLeast o n (record { status = Accepts; setting = t })
     unfolding leastRows judge
     least-open room t m =
         record {
@@ -349,7 +350,7 @@ pub written-at : {o : Order} {bound read : ℤ} {entry exit : List ℕ} {count :
 written-at {o} {bound} {read} {entry} {exit} {count} e w = subst (λ (z : ℤ). Written o z entry exit count) e w
 
 -- what a setting of the order tells is told of the order
-module _ (o : Order) (a : Accepted o) (t : Setting) (m : Matches o t) where
+module _ (o : Order) (a : Accepted o) (t : Table) (m : Tabled o t) where
   pub reason-told : (bound read : ℤ) → read ≡ bound → (reach : ℕ) → reach ≡ cut (pos 1000000 +ℤ read) → (w : Why) →
       w ≡ toldOf t reach → w ≡ whyOf o (reasonOf o bound)
   reason-told bound read same reach e w h =

@@ -18,17 +18,18 @@ use Rattle.order.specs.Sorted.{dueTimes}
 use Rattle.order.specs.Class.{classes}
 use Rattle.order.specs.Deadline.{cut, deadlineOf}
 use Rattle.order.specs.Refusals.{Accepted}
-use Rattle.order.specs.RefusalLaws.{Acceptable, accepted-iff}
+use Rattle.order.specs.RefusalLaws.{Acceptable, accepted-iff, dues-in-range}
 use Rattle.order.specs.Table.{orderOf, jobAt}
 use Rattle.order.specs.declared.Order.{Order as OrderTable}
-use Rattle.profile.specs.Least.{lead}
-use Rattle.tables.specs.Tables.{RowOf}
-use Rattle.reason.specs.Settings.{dueAt, downTo, GridOf, Matches}
+use Rattle.order.specs.Lead.{lead, dueAt}
+use Rattle.sums.specs.Arrays.{RowOf}
+use Rattle.sums.specs.Lists.{downTo}
+use Rattle.table.specs.Tabled.{GridOf, Tabled}
+use Rattle.table.specs.declared.Members.{Members}
+use Rattle.table.specs.declared.Table.{Table}
 use Rattle.order.specs.Whole.{cut-minus}
 use Rattle.reason.specs.LeadLaws.{due-lead}
-use Rattle.reason.specs.GridLaws.{length-down, dues-in-range}
-use Rattle.reason.specs.declared.Members.{Members}
-use Rattle.reason.specs.declared.Setting.{Setting}
+use Rattle.table.specs.GridLaws.{length-down}
 use Rattle.wrap.specs.Stretches.{stretchCount, mark}
 use Rattle.wrap.specs.Marks.{mark-is}
 use Rattle.allot.specs.Instances.{StandsFor}
@@ -94,7 +95,7 @@ module _ (o : Order) (m : Members) (g : GridOf o m) where
       record { at = λ s l. h s (omega (arith, stretches-counted, g .few)) ∙ sym (due-up s l) }
 
 -- the instance of a setting at a bound
-module _ (o : Order) (bound : ℤ) (a : Acceptable o) (t : Setting) (m : Matches o t) where
+module _ (o : Order) (bound : ℤ) (a : Acceptable o) (t : Table) (m : Tabled o t) where
   deadline-of-lead : (j : ℕ) → j < jobCount o →
       cut (pos 1000000 +ℤ bound) - getD (t .leads) j 0 ≡ deadlineOf bound (jobOf o (suc j))
   unfolding deadlineOf endOf

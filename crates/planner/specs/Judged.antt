@@ -8,7 +8,7 @@ use Rattle.order.specs.Refusals.{Verdict, accepted, refused, judge}
 use Rattle.order.specs.Table.{refusalTold, acceptanceTold}
 use Rattle.order.specs.declared.Acceptance.the-variants.{Accepted as Accepts}
 use Rattle.profile.specs.Search.{reasonOf}
-use Rattle.reason.specs.Settings.{Matches}
+use Rattle.table.specs.Tabled.{Tabled}
 use Rattle.reason.specs.Told.{whyOf, whyTold}
 use Rattle.reason.specs.declared.Tightness.{Tightness}
 use Rattle.reason.specs.declared.Tightness.the-variants.{Tight as TooTight, Met}
@@ -38,9 +38,9 @@ pub record JudgedAt (o : Order) (bound : ℤ) (lent : ℕ) (r : BoundJudged) : T
   pub verdict : judgedTold (r .judgement) ≡ judge (planRows o bound lent)
   pub reason-told : whyTold (whyJudged r) ≡ reasonCarried (judge (planRows o bound lent)) (reasonOf o bound)
   pub reason-whole : whyJudged r ≡ whyOf o (reasonCarried (judge (planRows o bound lent)) (reasonOf o bound))
-  pub setting-is : r .judgement ≡ Open → Matches o (r .setting)
+  pub setting-is : r .judgement ≡ Open → Tabled o (r .setting)
 
 -- for the least lateness
 pub record JudgedLeast (o : Order) (lent : ℕ) (r : LeastJudged) : Type 0 where
   pub verdict : acceptanceTold (r .status) ≡ judge (leastRows o lent)
-  pub setting-is : r .status ≡ Accepts → Matches o (r .setting)
+  pub setting-is : r .status ≡ Accepts → Tabled o (r .setting)

@@ -15,13 +15,13 @@ ghost use lib.ListN.{length};
 ghost use Rattle.order.specs.Refusals.{Accepted, boundInRange};
 ghost use Rattle.order.specs.Table.{orderOf};
 ghost use Rattle.profile.specs.ReasonLaws.{NoReason};
-ghost use Rattle.reason.specs.Settings.{Matches};
+ghost use Rattle.table.specs.Tabled.{Tabled};
 ghost use Rattle.planner.specs.Rows.{rowsAsked};
 ghost use Rattle.planner.specs.Written.{Written};
 
 pub fn make_plan(order: Order, t: Setting, bound: i32, rows: &mut [u32]) -> usize
     requires { ⌜ Accepted (orderOf order) × (boundInRange bound ≡ true) × NoReason (orderOf order) bound
-        × (4 * rowsAsked (orderOf order) ≤ length (now rows)) × Matches (orderOf order) t ⌝ }
+        × (4 * rowsAsked (orderOf order) ≤ length (now rows)) × Tabled (orderOf order) t ⌝ }
     ensures { λ r. ⌜ Written (orderOf order) bound (now (rows .entry)) (now (rows .exit)) r × (r ≤ 3024) ⌝ }
 {
     let instance = instance_of(t, bound);

@@ -10,8 +10,9 @@ ghost use lib.IntN.{pos};
 ghost use lib.ListN.{getD};
 ghost use Rattle.order.specs.Refusals.{Accepted, boundInRange};
 ghost use Rattle.order.specs.Order.{Order};
-ghost use Rattle.tables.specs.Tables.{RowOf};
-ghost use Rattle.reason.specs.Settings.{dueAt, Fine, Matches};
+ghost use Rattle.sums.specs.Arrays.{RowOf};
+ghost use Rattle.order.specs.Lead.{dueAt};
+ghost use Rattle.table.specs.Tabled.{Fine, Tabled};
 ghost use Rattle.allot.specs.Instances.{StandsFor};
 ghost use Rattle.layout.specs.Lent.{Rising};
 
@@ -55,7 +56,7 @@ fn dues_at(leads: [u32; 48]) -> [i32; 48]
 // The instance at a bound of an order that this setting is of.
 pub fn instance_of(t: Setting, bound: i32) -> Instance
     requires { ⌜ boundInRange bound ≡ true ⌝ }
-    ensures { λ r. ⌜ ((o : Order) → Accepted o → Matches o t → StandsFor o bound r) ⌝ }
+    ensures { λ r. ⌜ ((o : Order) → Accepted o → Tabled o t → StandsFor o bound r) ⌝ }
 {
     let reach = deadline(1000000, bound);
     let times = t.times;
@@ -78,7 +79,7 @@ pub fn instance_of(t: Setting, bound: i32) -> Instance
 // The distinct due times of an order that this setting is of, upwards.
 pub fn rising_dues(t: Setting) -> [i32; 48]
     requires { ⌜ Fine t ⌝ }
-    ensures { λ r. ⌜ ((o : Order) → Matches o t → Rising o r) ⌝ }
+    ensures { λ r. ⌜ ((o : Order) → Tabled o t → Rising o r) ⌝ }
 {
     let leads = t.grid;
     dues_at(leads)

@@ -27,7 +27,8 @@ use Rattle.profile.specs.Search.{choices}
 use Rattle.profile.specs.Least.{owedAt, weightAt, weightFrom, heaviest, leastReach, leastLateness}
 use Rattle.profile.specs.Ranking.{choices-in}
 use Rattle.profile.specs.SearchLaws.{dueTimes-fall, in-due}
-use Rattle.profile.specs.LeastLaws.{heaviest-le, processorsIn-some, processorsTo-some}
+use Rattle.order.specs.ClassLaws.{processorsIn-some, processorsTo-some}
+use Rattle.profile.specs.LeastLaws.{heaviest-le}
 
 module _ (o : Order) (a : Acceptable o) where
   due-lead-most : (d : ℤ) → In d (dueTimes o) → lead lastDue d ≤ 2000000

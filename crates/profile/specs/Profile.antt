@@ -1,7 +1,7 @@
 -- Document 01, "Why a bound is too tight": minutes owed, minutes on hand, and the overfull staircase. The field's word for
 -- document 01's staircase is profile. A profile is given by the due times of the jobs whose ends are its times: those of
 -- class 1, of class 2, .. of class k.
-use Prim.Native.Nat.{ℕ, zero, suc, _+_, _≤_, _<_}
+use Prim.Native.Nat.{ℕ, suc, _+_, _≤_, _<_}
 use mathlib.Core.Path.{_≡_}
 use mathlib.Core.Bool.{cond}
 use mathlib.Core.List.{List, [], _∷_}

@@ -27,7 +27,8 @@ use Rattle.profile.specs.Least.{weightFrom, heaviest, leastReach, leastF
 use Rattle.profile.specs.Ranking.{choices-in}
 use Rattle.profile.specs.SearchLaws.{dueTimes-fall, in-due, profile-chosen, chosen-profile, overfull-some}
 use Rattle.profile.specs.ReasonLaws.{NoReason, in-time-all, reason-found, reason-none}
-use Rattle.profile.specs.LeastLaws.{heaviest-le, le-heaviest, processorsTo-some}
+use Rattle.order.specs.ClassLaws.{processorsTo-some}
+use Rattle.profile.specs.LeastLaws.{heaviest-le, le-heaviest}
 use Rattle.profile.specs.Weights.{Reached, exceeds-weight, overfull-weighs}
 
 module _ (top : ℤ) (o : Order) (a : Workable top o) (bound : ℤ) where

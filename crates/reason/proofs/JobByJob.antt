@@ -8,18 +8,18 @@ use native.Mathlib.Decide.{ℕ-discrete}
 use borrow.Author.Tests.{eq-eqb, ne-eqb}
 use lib.ListN.{length, getD, set, replicate, getD-replicate}
 use lib.Seq.{getD-set-same, getD-set-other}
-use Rattle.sums.specs.Sum.{sum}
-use Rattle.tables.specs.Tables.{RowOf}
-use Rattle.tables.specs.NumberLaws.{sum-none, sum-more, sum-most}
-use Rattle.reason.specs.Settings.{owedBy, owes, minutesAt, Fine}
+use Rattle.sums.specs.Sum.{sum, sum-none, sum-more, sum-most}
+use Rattle.sums.specs.Arrays.{RowOf}
+use Rattle.table.specs.Tabled.{Fine}
+use Rattle.table.specs.declared.Table.{Table}
+use Rattle.reason.specs.Asked.{owedBy, owes, minutesAt}
 use Rattle.reason.specs.WeightLaws.{owes-le}
-use Rattle.reason.specs.declared.Setting.{Setting}
 
 -- row i holds what the first j jobs owe of class i + 1
-abbrev pub Owed : Setting → ℕ → List (List ℕ) → Type 0
+abbrev pub Owed : Table → ℕ → List (List ℕ) → Type 0
 Owed t j r = (i : ℕ) → i < 16 → RowOf (λ d. sum j (owes t (suc i) d)) 48 (getD r i [])
 
-pub owed-none : (t : Setting) → Owed t 0 (replicate 16 (replicate 48 0))
+pub owed-none : (t : Table) → Owed t 0 (replicate 16 (replicate 48 0))
 owed-none t i l =
     record {
       at = λ d h.
@@ -28,12 +28,12 @@ owed-none t i l =
     }
 
 -- no sum is so large that a job more does not fit
-pub owed-small : (t : Setting) → Fine t → (j : ℕ) → j < t .n → (r : List (List ℕ)) → Owed t j r → (i d : ℕ) → i < 16 → d < 48 →
+pub owed-small : (t : Table) → Fine t → (j : ℕ) → j < t .n → (r : List (List ℕ)) → Owed t j r → (i d : ℕ) → i < 16 → d < 48 →
     getD (getD r i []) d 0 ≤ 4700000
 owed-small t f j l r o i d h k =
     omega (arith, o i h .at d k, sum-most j 100000 (owes t (suc i) d) (λ a b. owes-le t f (suc i) d a (omega arith)), f .jobs)
 
-module _ (t : Setting) (j : ℕ) where
+module _ (t : Table) (j : ℕ) where
   abbrev class : ℕ
   class = getD (t .classes) j 0
 
@@ -71,7 +71,7 @@ module _ (t : Setting) (j : ℕ) where
     ]
 
 -- after all jobs
-pub owed-all : (t : Setting) (j : ℕ) → j ≡ t .n → (r : List (List ℕ)) → Owed t j r → (i : ℕ) → i < 16 →
+pub owed-all : (t : Table) (j : ℕ) → j ≡ t .n → (r : List (List ℕ)) → Owed t j r → (i : ℕ) → i < 16 →
     RowOf (minutesAt t (suc i)) 48 (getD r i [])
 unfolding minutesAt
 owed-all t j e r o i l = record { at = λ d h. o i l .at d h ∙ ap (λ (x : ℕ). sum x (owes t (suc i) d)) e }

@@ -12,16 +12,19 @@ use Rattle.sums.specs.Places.{tabulate-cong, tabulate-getD}
 use Rattle.order.specs.Refusals.{Finding, clear, first}
 use Rattle.order.specs.Table.{findingOf}
 use Rattle.profile.specs.Search.{nothing, found}
-use Rattle.tables.specs.Places.{FoundPlaces, firstOverfullAt, pad}
-use Rattle.tables.specs.PlacesLaws.{ranking-falls, getD-pad, pad-below}
-use Rattle.tables.specs.Tables.{stopAt}
-use Rattle.tables.specs.declared.Outcome.the-variants.{Places, Nothing as Nowhere}
-use Rattle.tables.specs.declared.Stop.{Stop}
+use Rattle.stairs.specs.Places.{FoundPlaces, firstOverfullAt}
+use Rattle.sums.specs.Arrays.{pad, getD-pad}
+use Rattle.table.specs.Tabled.{Fine}
+use Rattle.order.specs.Lead.{dueAt, lastDue}
+use Rattle.table.specs.declared.Table.{Table}
+use Rattle.stairs.specs.PlacesLaws.{ranking-falls, pad-below}
+use Rattle.stairs.specs.Tables.{stopAt}
+use Rattle.stairs.specs.declared.Outcome.the-variants.{Places, Nothing as Nowhere}
+use Rattle.stairs.specs.declared.Stop.{Stop}
 use Rattle.reason.specs.Told.{sixteen}
-use Rattle.reason.specs.Settings.{Fine, firstOf, late, dueAt, dueOr, toldAt, toldBy, toldOf}
+use Rattle.reason.specs.Asked.{firstOf, late, dueOr, toldAt, toldBy, toldOf}
 use Rattle.reason.specs.declared.Reason.the-variants.{Job, Stairs}
 use Rattle.reason.specs.declared.Tightness.the-variants.{Tight, Met}
-use Rattle.reason.specs.declared.Setting.{Setting}
 
 module _ (f : ℕ → ℤ) where
   map-at : (ds : List ℕ) (i : ℕ) → i < length ds → getD (map f ds) i (pos 0) ≡ f (getD ds i 0)
@@ -36,16 +39,16 @@ module _ (f : ℕ → ℤ) where
 
 -- the due times of the places, and 0 beyond
 due-or-map : (grid ds : List ℕ) (i : ℕ) → length ds ≤ 16 →
-    dueOr grid (pad 16 ds) (length ds) i ≡ getD (map (λ d. dueAt (getD grid d 0)) ds) i (pos 0)
+    dueOr grid (pad 16 ds) (length ds) i ≡ getD (map (λ d. dueAt lastDue (getD grid d 0)) ds) i (pos 0)
 due-or-map grid ds i l =
     elim (decLt i (length ds)) [
       | yes h ↦
-          rw (lt-ltb i (length ds) h, getD-pad 16 i ds h l) (sym (map-at (λ d. dueAt (getD grid d 0)) ds i h))
-      | no h ↦ rw (le-ltb i (length ds) (omega arith)) (sym (map-beyond (λ d. dueAt (getD grid d 0)) ds i (omega arith)))
+          rw (lt-ltb i (length ds) h, getD-pad 16 i ds h l) (sym (map-at (λ d. dueAt lastDue (getD grid d 0)) ds i h))
+      | no h ↦ rw (le-ltb i (length ds) (omega arith)) (sym (map-beyond (λ d. dueAt lastDue (getD grid d 0)) ds i (omega arith)))
     ]
 
 -- where a profile was found
-pub record Hit (t : Setting) (reach : ℕ) (w : Stop) (k : ℕ) : Type 0 where
+pub record Hit (t : Table) (reach : ℕ) (w : Stop) (k : ℕ) : Type 0 where
   pub ds : List ℕ
   pub is : firstOf t reach ≡ found ds
   pub count : length ds ≡ k
@@ -53,7 +56,7 @@ pub record Hit (t : Setting) (reach : ℕ) (w : Stop) (k : ℕ) : Type 0 where
   pub few : k ≤ 16
   pub below : (i : ℕ) → i < k → getD (w .at) i 0 < 48
 
-pub hit-of : (t : Setting) (reach : ℕ) → Fine t → (w : Stop) (k : ℕ) → w ≡ stopAt (firstOf t reach) → w .outcome ≡ Places k →
+pub hit-of : (t : Table) (reach : ℕ) → Fine t → (w : Stop) (k : ℕ) → w ≡ stopAt (firstOf t reach) → w .outcome ≡ Places k →
     Hit t reach w k
 unfolding stopAt firstOf firstOverfullAt
 hit-of t reach fine w k e r = go (firstOf t reach) refl e
@@ -79,7 +82,7 @@ hit-of t reach fine w k e r = go (firstOf t reach) refl e
               ));
         }
 
-module _ (t : Setting) (reach j : ℕ) (e : findingOf j ≡ first (late t reach) (tabulate (t .n) (λ j. j))) where
+module _ (t : Table) (reach j : ℕ) (e : findingOf j ≡ first (late t reach) (tabulate (t .n) (λ j. j))) where
   -- a job was found
   pub tell-late : 0 < j → record { tightness = Tight (Job j (getD (t .times) (j - 1) 0)); dues = replicate 16 (pos 0) } ≡ toldOf t reach
   unfolding toldOf
@@ -107,13 +110,13 @@ module _ (t : Setting) (reach j : ℕ) (e : findingOf j ≡ first (late t reach)
         (length r ≡ 16) × ((i : ℕ) → i < 16 → getD r i (pos 0) ≡ dueOr (t .grid) (w .at) k i) →
         record { tightness = Tight (Stairs k); dues = r } ≡ toldOf t reach
     tell-stairs w k x r f =
-        let d : r ≡ sixteen (map (λ d. dueAt (getD (t .grid) d 0)) (x .ds))
+        let d : r ≡ sixteen (map (λ d. dueAt lastDue (getD (t .grid) d 0)) (x .ds))
         = sym (ap (λ (n : ℕ). tabulate n (λ i. getD r i (pos 0))) (sym (f .0)) ∙ tabulate-getD r (pos 0))
-        ∙ tabulate-cong 16 (λ i. getD r i (pos 0)) (λ i. getD (map (λ d. dueAt (getD (t .grid) d 0)) (x .ds)) i (pos 0))
+        ∙ tabulate-cong 16 (λ i. getD r i (pos 0)) (λ i. getD (map (λ d. dueAt lastDue (getD (t .grid) d 0)) (x .ds)) i (pos 0))
         (λ i l.
         f .1 i l ∙ (rw (x .at, ← x .count) (due-or-map (t .grid) (x .ds) i (omega (arith, x .count, x .few))))) in
         ap (λ (l : List ℤ). record { tightness = Tight (Stairs k); dues = l }) d
-        ∙ (ap (λ (n : ℕ). record { tightness = Tight (Stairs n); dues = sixteen (map (λ d. dueAt (getD (t .grid) d 0)) (x .ds)) })
+        ∙ (ap (λ (n : ℕ). record { tightness = Tight (Stairs n); dues = sixteen (map (λ d. dueAt lastDue (getD (t .grid) d 0)) (x .ds)) })
         (sym (x .count))
         ∙ (ap (toldAt t) (sym (x .is)) ∙ by-profile))
 

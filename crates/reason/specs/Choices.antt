@@ -7,13 +7,12 @@ use mathlib.Core.List.{List, [], _∷_, _++_, map}
 use native.Mathlib.Omega.{arith}
 use lib.IntN.{ℤ}
 use lib.ListN.{length}
-use Rattle.sums.specs.Lists.{All}
+use Rattle.sums.specs.Lists.{All, downTo}
 use Rattle.sums.specs.Members.{All-map, All-append}
 use Rattle.profile.specs.Search.{Found, nothing, found, choices, ranked, firstSuch}
-use Rattle.profile.specs.Least.{largest}
-use Rattle.tables.specs.Places.{profiles, ranking}
-use Rattle.tables.specs.PlacesLaws.{Below}
-use Rattle.reason.specs.Settings.{downTo}
+use Rattle.sums.specs.Most.{largest}
+use Rattle.stairs.specs.Places.{profiles, ranking}
+use Rattle.stairs.specs.PlacesLaws.{Below}
 
 -- images of lists
 module _ {A B : Type 0} (g : A → B) where

@@ -1,15 +1,7 @@
 pub mod Told
-pub mod Downwards
-pub mod Settings
+pub mod Asked
 pub mod WeightLaws
-pub mod SameMembers
-pub mod FallingLaws
-pub mod LeadLaws
-pub mod ClassRows
-pub mod GridLaws
-pub mod StructLaws
 pub mod Choices
-pub mod Weighing
 pub mod Matching
 pub mod Telling
 pub mod ToldLaws

@@ -1,4 +1,4 @@
--- What is told of a setting is document 01's reason: the same job is over its end, and where none is, the same profile is
+-- What is told of a table is document 01's reason: the same job is over its end, and where none is, the same profile is
 -- the first overfull one.
 use Prim.Native.Nat.{ℕ, zero, suc, _+_, _*_, _≤_, _<_}
 use mathlib.Core.Path.{_≡_, refl, sym, ap, _∙_, subst}
@@ -7,31 +7,30 @@ use mathlib.Core.List.{List, [], _∷_, map}
 use native.Mathlib.Omega.{arith}
 use borrow.Author.Tests.{ltb-false}
 use lib.Dec.{ltb}
-use lib.IntN.{ℤ, pos, negsuc, _+ℤ_}
+use lib.IntN.{ℤ, pos}
 use lib.ListN.{length, getD, length-map}
 use lib.Signed.{ltZ}
 use Rattle.sums.specs.Lists.{All, In, tabulate}
-use Rattle.sums.specs.Members.{All-map, All-at, All-in, All-from}
+use Rattle.sums.specs.Members.{All-map, All-at, All-from}
 use Rattle.order.specs.Order.{Order, Job, jobCount, jobOf, noJob, endOf}
 use Rattle.order.specs.Sorted.{dueTimes}
-use Rattle.order.specs.SortedLaws.{ltZ-strict, distinct-in}
-use Rattle.order.specs.Refusals.{Finding, clear, holds, firstAfter, first, dueInRange}
+use Rattle.order.specs.Refusals.{Finding, clear, holds, firstAfter, first}
 use Rattle.order.specs.RefusalLaws.{Acceptable}
-use Rattle.order.specs.Deadline.{cut}
 use Rattle.profile.specs.Search.{Found, nothing, found, isOverfull, firstOverfull, firstOverEnd, reasonBy, reasonOf}
-use Rattle.profile.specs.Least.{lead}
-use Rattle.tables.specs.Places.{FoundPlaces, ranking, overfullAt, firstOverfullAt}
-use Rattle.tables.specs.PlacesLaws.{Below}
+use Rattle.order.specs.Lead.{lead, reachAt, lastDue, Workable}
+use Rattle.order.specs.LeadLaws.{late-reach, workable}
+use Rattle.sums.specs.Downwards.{in-down}
+use Rattle.profile.specs.Threshold.{overfull-reach}
+use Rattle.table.specs.Tabled.{Tabled}
+use Rattle.table.specs.declared.Table.{Table}
+use Rattle.stairs.specs.Places.{FoundPlaces, ranking, overfullAt, firstOverfullAt}
+use Rattle.stairs.specs.PlacesLaws.{Below}
 use Rattle.reason.specs.Told.{sixteen, whyOf}
-use Rattle.reason.specs.Settings.{weight, procsTo, firstOf, late, toldAt, toldBy, toldOf, Matches}
-use Rattle.reason.specs.LeadLaws.{late-same}
-use Rattle.reason.specs.GridLaws.{map-in, in-down, dues-in-range}
+use Rattle.reason.specs.Asked.{weight, procsTo, firstOf, late, toldAt, toldBy, toldOf}
 use Rattle.reason.specs.Choices.{foundMap, first-image, first-agree, ranked-places, ranking-sized}
-use Rattle.reason.specs.Weighing.{Within, overfull-weighs}
 use Rattle.reason.specs.Matching.{dueIn, value-same, procs-same}
 use Rattle.reason.specs.declared.Reason.the-variants.{Job as JobReason, Stairs}
 use Rattle.reason.specs.declared.Tightness.the-variants.{Tight}
-use Rattle.reason.specs.declared.Setting.{Setting}
 
 -- a condition about single ones, asked place by place
 first-places : {A B : Type 0} (test : A → Bool) (xs : List A) (d : A) (test' : B → Bool) (n : ℕ) (g : ℕ → B) (k : ℕ) →
@@ -72,22 +71,22 @@ first-nowhere test (x ∷ xs) k e = at (test x) refl e (first-nowhere test xs (s
     at true t e f = let z : _≡_ {A = ℕ} 0 1 = cc in absurd (omega arith)
     at false t e f = (t, f e)
 
-module _ (o : Order) (t : Setting) (m : Matches o t) (a : Acceptable o) (bound : ℤ) where
+module _ (o : Order) (t : Table) (m : Tabled lastDue o t) (a : Acceptable o) (bound : ℤ) where
   abbrev reach : ℕ
-  reach = cut (pos 1000000 +ℤ bound)
+  reach = reachAt lastDue bound
+
+  work : Workable lastDue o
+  work = workable o a
 
   over : Job → Bool
   over job = ltZ (endOf bound job) (pos (job .time))
 
-  over-late : (job : Job) → dueInRange (job .due) ≡ true → 1 ≤ job .time → over job ≡ ltb reach (job .time + lead (job .due))
+  over-late : (j : ℕ) → j < jobCount o →
+      over (jobOf o (suc j)) ≡ ltb reach (jobOf o (suc j) .time + lead lastDue (jobOf o (suc j) .due))
   unfolding over endOf
-  over-late job d h = late-same bound (job .due) d (job .time) h
-
-  in-range : (j : ℕ) → j < jobCount o → dueInRange (jobOf o (suc j) .due) ≡ true
-  in-range j l = All-at (λ (job : Job). dueInRange (job .due) ≡ true) (o .jobs) noJob (dues-in-range o a) j l
-
-  some-time : (j : ℕ) → j < jobCount o → 1 ≤ jobOf o (suc j) .time
-  some-time j l = All-at (λ (job : Job). (1 ≤ job .time) × (job .time ≤ 100000)) (o .jobs) noJob (a .times) j l .0
+  over-late j l =
+      late-reach lastDue bound (jobOf o (suc j) .due) (All-at _ (o .jobs) noJob (work .dues) j l) (jobOf o (suc j) .time)
+      (All-at _ (o .jobs) noJob (work .times) j l)
 
   -- the same job is over its end
   same-job : firstOverEnd o bound ≡ first (late t reach) (tabulate (t .n) (λ j. j))
@@ -96,48 +95,29 @@ module _ (o : Order) (t : Setting) (m : Matches o t) (a : Acceptable o) (bound :
       first-places over (o .jobs) noJob (late t reach) (t .n) (λ j. j) 0 (sym (m .jobs))
       (λ j b.
       let l : j < jobCount o = omega (arith, m .jobs) in
-      over-late (jobOf o (suc j)) (in-range j l) (some-time j l)
-      ∙ ap (ltb reach) (omega (arith, m .times j l, m .leads j l)))
+      over-late j l ∙ ap (ltb reach) (omega (arith, m .times j l, m .leads j l)))
 
   module _ (c : firstOverEnd o bound ≡ clear) where
-    in-time : (j : ℕ) → j < jobCount o → jobOf o (suc j) .time + lead (jobOf o (suc j) .due) ≤ reach
+    in-time : All (λ (job : Job). job .time + lead lastDue (job .due) ≤ reach) (o .jobs)
     unfolding over
-    in-time j l =
-        ltb-false reach _ (sym (over-late (jobOf o (suc j)) (in-range j l) (some-time j l))
-        ∙ All-at (λ (job : Job). over job ≡ false) (o .jobs) noJob (first-nowhere over (o .jobs) 0 c) j l)
+    in-time =
+        All-from _ (o .jobs) noJob (λ j l.
+        ltb-false reach _ (sym (over-late j l)
+        ∙ All-at (λ (job : Job). over job ≡ false) (o .jobs) noJob (first-nowhere over (o .jobs) 0 c) j l))
 
-    jobs-within : All (λ (job : Job). Within reach (job .due)) (o .jobs)
-    jobs-within = All-from _ (o .jobs) noJob (λ j l. (in-range j l, omega (arith, in-time j l)))
-
-    reach-is : pos 1000000 +ℤ bound ≡ pos reach
-    reach-is = go (pos 1000000 +ℤ bound) refl
-      where
-        go : (z : ℤ) → pos 1000000 +ℤ bound ≡ z → z ≡ pos (cut z)
-        go (pos n) e = refl
-        go (negsuc n) e =
-            let h : reach ≡ 0 = ap cut e in
-            absurd (omega (arith, in-time 0 (a .some-job), some-time 0 (a .some-job)))
-
-    due-within : (d : ℕ) → d < t .q → Within reach (dueIn o t m d)
-    unfolding dueTimes
-    due-within d l =
-        let i : In (dueIn o t m d) (dueTimes o)
-        = subst (λ (ds : List ℤ). In (dueIn o t m d) ds) (sym (m .grid .dues)) (in-down (dueIn o t m) (t .q) d l) in
-        let r = map-in (λ (job : Job). job .due) (dueIn o t m d) (o .jobs)
-        (distinct-in ltZ ltZ-strict (dueIn o t m d) _ i) in
-        subst (Within reach) (sym (r .2)) (All-in (λ (job : Job). Within reach (job .due)) (o .jobs) jobs-within (r .0)
-        (r .1))
-
-    dues-within : (ds : List ℕ) → Below (t .q) ds → All (Within reach) (map (dueIn o t m) ds)
-    dues-within [] h = tt
-    dues-within (d ∷ ds) h = (due-within d (h .0), dues-within ds (h .1))
+    dues-in : (ds : List ℕ) → Below (t .q) ds → All (λ (d : ℤ). In d (dueTimes o)) (map (dueIn o t m) ds)
+    dues-in [] h = tt
+    dues-in (d ∷ ds) h = (
+      subst (λ (es : List ℤ). In (dueIn o t m d) es) (sym (m .grid .dues)) (in-down (dueIn o t m) (t .q) d (h .0)),
+      dues-in ds (h .1),
+    )
 
     overfull-same : (ds : List ℕ) → length ds ≤ t .s → Below (t .q) ds →
         isOverfull o bound (map (dueIn o t m) ds) ≡ overfullAt (weight t) (λ k. procsTo t k * reach) ds
     unfolding overfullAt
     overfull-same ds l b =
         let n : length ds ≤ 16 = omega (arith, m .few-classes) in
-        overfull-weighs o bound reach reach-is jobs-within (map (dueIn o t m) ds) (dues-within ds b)
+        overfull-reach lastDue o work bound in-time (map (dueIn o t m) ds) (dues-in ds b)
         ∙ rw (length-map ds (dueIn o t m), procs-same o t m (length ds) n, value-same o t m 0 ds (omega arith))
 
     -- the same profile is the first overfull one

@@ -1,15 +1,16 @@
 // The least reach: 1,000,000 more than the least lateness. All serve the crates above and have a `requires`.
-use super::Setting;
 use super::weight::table;
-use tables::completion::heaviest;
-use tables::completion::larger;
+use stairs::completion::heaviest;
+use stairs::completion::larger;
+use table::Table;
 ghost use mathlib.Core.Path.{_≡_};
-ghost use Prim.Native.Nat.{ℕ, _<_, _≤_};
-ghost use Rattle.profile.specs.Least.{ceiling};
-ghost use Rattle.reason.specs.Settings.{Fine, latestOf, reachOf};
+ghost use Prim.Native.Nat.{_<_, _≤_};
+ghost use Rattle.sums.specs.Most.{ceiling};
+ghost use Rattle.table.specs.Tabled.{Fine};
+ghost use Rattle.reason.specs.Asked.{latestOf, leastReachOf};
 
 // The largest of time and lead together: below it some job has too little time.
-pub fn latest(o: Setting) -> u32
+pub fn latest(o: Table) -> u32
     requires { ⌜ Fine o ⌝ }
     ensures { λ r. ⌜ (r ≡ latestOf o) × (r ≤ 2100000) ⌝ }
 {
@@ -32,9 +33,9 @@ fn divide_up(a: u32, b: u32) -> u32
 }
 
 // The least reach at which every job has its time by its end and no staircase is overfull.
-pub fn least_reach(o: Setting) -> u32
+pub fn least_reach(o: Table) -> u32
     requires { ⌜ Fine o ⌝ }
-    ensures { λ r. ⌜ (r ≡ reachOf o) × (r ≤ 640000000) ⌝ }
+    ensures { λ r. ⌜ (r ≡ leastReachOf o) × (r ≤ 640000000) ⌝ }
 {
     let t = table(o);
     let s = o.s;

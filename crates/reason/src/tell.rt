@@ -1,29 +1,32 @@
-// The reason at a bound, and the least lateness, of a setting. All serve the crates above and have a `requires`.
+// The reason at a bound, and the least lateness, of a table. All serve the crates above and have a `requires`.
 use super::Reason;
-use super::Setting;
 use super::Tightness;
 use super::Why;
-use super::given::setting_of;
-use super::lead::due_of;
 use super::least::least_reach;
-use super::stairs::first_overfull;
+use super::overfull::first_overfull;
 use order::Order;
-use order::deadline::deadline;
-use tables::Outcome;
+use stairs::Outcome;
+use table::Table;
+use table::lead::bound_of;
+use table::lead::due_of;
+use table::lead::reach_of;
+use table::making::table_of;
 ghost use mathlib.Core.Path.{_≡_};
 ghost use mathlib.Core.Bool.{true};
 ghost use Prim.Native.Nat.{ℕ, _<_, _≤_};
-ghost use lib.IntN.{pos, _-ℤ_};
+ghost use lib.IntN.{pos};
 ghost use lib.ListN.{length, getD};
 ghost use Rattle.sums.specs.Lists.{tabulate};
+ghost use Rattle.order.specs.Lead.{boundAt, lastDue};
 ghost use Rattle.order.specs.Refusals.{Accepted, boundInRange, first};
 ghost use Rattle.order.specs.Table.{orderOf, findingOf};
 ghost use Rattle.profile.specs.Search.{reasonOf};
-ghost use Rattle.reason.specs.Settings.{Fine, late, dueOr, toldOf, reachOf};
+ghost use Rattle.reason.specs.Asked.{late, dueOr, toldOf, leastReachOf};
+ghost use Rattle.table.specs.Tabled.{Fine};
 ghost use Rattle.reason.specs.Told.{whyOf, whyTold};
 
 // The first job whose time exceeds its end, or 0.
-pub fn first_late(o: Setting, reach: u32) -> u32
+pub fn first_late(o: Table, reach: u32) -> u32
     requires { ⌜ Fine o ⌝ }
     ensures { λ r. ⌜ (r ≤ o .n) × (findingOf r ≡ first (late o reach) (tabulate (o .n) (λ j. j))) ⌝ }
 {
@@ -57,7 +60,7 @@ pub fn dues_of(grid: [u32; 48], at: [u32; 16], k: u32) -> [i32; 16]
 }
 
 // Why a reach is too small, or that it is not.
-pub fn tell(o: Setting, reach: u32) -> Why
+pub fn tell(o: Table, reach: u32) -> Why
     requires { ⌜ Fine o ⌝ }
     requires { ⌜ reach ≤ 11000000 ⌝ }
     ensures { λ r. ⌜ r ≡ toldOf o reach ⌝ }
@@ -92,14 +95,14 @@ pub fn reason_at(order: Order, bound: i32) -> Why
     ensures { λ r. ⌜ whyTold r ≡ reasonOf (orderOf order) bound ⌝ }
     ensures { λ r. ⌜ r ≡ whyOf (orderOf order) (reasonOf (orderOf order) bound) ⌝ }
 {
-    let o = setting_of(order);
-    tell(o, deadline(1000000, bound))
+    let o = table_of(order);
+    tell(o, reach_of(bound))
 }
 
-// The least lateness of a setting.
-pub fn least_in(o: Setting) -> i32
+// The least lateness of a table.
+pub fn least_in(o: Table) -> i32
     requires { ⌜ Fine o ⌝ }
-    ensures { λ r. ⌜ r ≡ pos (reachOf o) -ℤ pos 1000000 ⌝ }
+    ensures { λ r. ⌜ r ≡ boundAt lastDue (leastReachOf o) ⌝ }
 {
-    (least_reach(o) as i32) - 1000000
+    bound_of(least_reach(o))
 }

@@ -1,12 +1,13 @@
 // What each class weighs at each due time: the minutes owed by its jobs, and its processors times the lead. All serve the
 // search and the least reach and have a `requires`.
-use super::Setting;
+use table::Table;
 ghost use mathlib.Core.Path.{_≡_};
 ghost use mathlib.Core.List.{[]};
 ghost use Prim.Native.Nat.{ℕ, suc, _+_, _*_, _<_, _≤_};
 ghost use lib.ListN.{getD};
-ghost use Rattle.tables.specs.Tables.{RowOf};
-ghost use Rattle.reason.specs.Settings.{owedBy, minutesAt, weight, Fine};
+ghost use Rattle.sums.specs.Arrays.{RowOf};
+ghost use Rattle.table.specs.Tabled.{Fine};
+ghost use Rattle.reason.specs.Asked.{owedBy, minutesAt, weight};
 
 // What one job owes by the time of the lead g.
 fn owed(time: u32, lead: u32, g: u32) -> u32
@@ -37,7 +38,7 @@ fn with_job(row: [u32; 48], time: u32, lead: u32, grid: [u32; 48]) -> [u32; 48]
 }
 
 // Document 01's minutes owed by the jobs of each class: 16 classes by 48 due times, filled once, job by job.
-pub fn owed_table(t: Setting) -> [[u32; 48]; 16]
+pub fn owed_table(t: Table) -> [[u32; 48]; 16]
     requires { ⌜ Fine t ⌝ }
     ensures { λ r. ⌜ ((i : ℕ) → i < 16 → RowOf (minutesAt t (suc i)) 48 (getD r i [])) ⌝ }
 {
@@ -76,7 +77,7 @@ pub fn weigh_row(owed: [u32; 48], p: u32, grid: [u32; 48]) -> [u32; 48]
 }
 
 // What each class weighs at each due time.
-pub fn table(o: Setting) -> [[u32; 48]; 16]
+pub fn table(o: Table) -> [[u32; 48]; 16]
     requires { ⌜ Fine o ⌝ }
     ensures { λ t. ⌜ ((i : ℕ) → i < 16 → RowOf (weight o i) 48 (getD t i [])) ⌝ }
 {

@@ -9,3 +9,4 @@ pub mod Reversed
 pub mod Rearranged
 pub mod Most
 pub mod Arrays
+pub mod Downwards

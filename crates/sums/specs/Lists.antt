@@ -40,3 +40,8 @@ tabulate (suc n) f = f 0 ∷ tabulate n (λ i. f (suc i))
 abbrev pub nth {ℓ} : {A : Type ℓ} → List A → ℕ → A → A
 nth xs zero d = d
 nth xs (suc k) d = getD xs k d
+
+-- f (n - 1), .. f 1, f 0
+abbrev pub downTo {ℓ} : {A : Type ℓ} → (ℕ → A) → ℕ → List A
+downTo f zero = []
+downTo f (suc n) = f n ∷ downTo f n

@@ -92,3 +92,8 @@ pub take-tabulate : {A : Type 0} (xs : List A) (k : ℕ) (d : A) → length xs �
 take-tabulate [] k d h = refl
 take-tabulate (x ∷ xs) zero d h = absurd (omega arith)
 take-tabulate (x ∷ xs) (suc k) d h = ap (λ (l : List _). x ∷ l) (take-tabulate xs k d (le-of-suc-le-suc h))
+
+-- the image of a list given by its places
+pub map-tabulate : {A B : Type 0} (g : A → B) (n : ℕ) (f : ℕ → A) → map g (tabulate n f) ≡ tabulate n (λ i. g (f i))
+map-tabulate g zero f = refl
+map-tabulate g (suc n) f = ap (λ (l : List _). g (f 0) ∷ l) (map-tabulate g n (λ i. f (suc i)))

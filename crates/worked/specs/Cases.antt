@@ -19,7 +19,8 @@ use Rattle.profile.specs.Profile.{owed, classOwes, owedFrom, onHandFrom}
 use Rattle.profile.specs.Reason.{Reason, overEnd, stairs, IsReason, owedOf, onHandOf}
 use Rattle.profile.specs.Search.{Found, found, choices, ranked, firstSuch, firstOverfull, reasonOf}
 use Rattle.profile.specs.ReasonLaws.{reason-found}
-use Rattle.profile.specs.Least.{weightAt, weightFrom, largest, heaviest, most, leastReach, leastLateness}
+use Rattle.profile.specs.Least.{weightAt, weightFrom, heaviest, leastReach, leastLateness}
+use Rattle.sums.specs.Most.{largest, most}
 use Rattle.feasible.specs.Least.{is-least}
 use Rattle.worked.specs.Orders.{A, B, C, D, needZero, overdue, twoOverfull}
 

@@ -2,7 +2,6 @@ use mathlib.Core.Path.{sym, _∙_}
 use Rattle.order.specs.Table.{orderOf}
 use Rattle.order.proofs.Judging.{counts-refuse, counts-few, jobs-decide, time-refused, due-refused, need-refused, all-accepted}
 use borrow.Author.Needs.{needs}
-use native.Mathlib.Omega.{arith}
 use Rattle.order.proofs.accept.accept.Statement.{statement}
 use Rattle.order.proofs.accept.accept.Tie as tie
 use Rattle.order.proofs.accept.accept.Reads as reads

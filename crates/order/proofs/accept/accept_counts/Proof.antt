@@ -1,4 +1,3 @@
-use borrow.Author.Needs.{needs}
 use borrow.Author.Tests.{eq-eqb, ne-eqb, lt-ltb, le-ltb}
 use Rattle.order.specs.Refusals.{judge}
 use Rattle.order.proofs.accept.accept_counts.Statement.{statement}

@@ -1,7 +1,5 @@
 use lib.IntN.{pos, negsuc}
 use Rattle.order.proofs.Signed.{in-range, below-range}
-use borrow.Author.Needs.{needs}
-use native.Mathlib.Omega.{arith}
 use Rattle.order.proofs.accept.due_in_range.Statement.{statement}
 use Rattle.order.proofs.accept.due_in_range.Tie as tie
 use Rattle.order.proofs.accept.due_in_range.Reads as reads

@@ -1,21 +1,9 @@
 use borrow.Author.Count.{below-none, below-more}
-use mathlib.Core.Path.{sym, ap, _∙_}
-use borrow.Author.Tests.{lt-leb}
-use Rattle.order.proofs.Ranges.{
-  job-found,
-  no-job-found,
-  processor-found,
-  no-processor-found,
-  time-low,
-  time-high,
-  time-good,
-  not-of,
-  not-of-false,
-}
+use Rattle.order.proofs.Ranges.{job-found, no-job-found, time-low, time-high, time-good}
 use Prim.Native.Nat.{ℕ, _≤_, _<_, _-_}
 use mathlib.Core.Path.{_≡_}
-use mathlib.Core.Bool.{true, false, not}
-use Rattle.order.specs.Refusals.{timeInRange, dueInRange}
+use mathlib.Core.Bool.{false, not}
+use Rattle.order.specs.Refusals.{timeInRange}
 use Rattle.order.specs.Table.{jobAt}
 use borrow.Author.Needs.{needs}
 use native.Mathlib.Omega.{arith}

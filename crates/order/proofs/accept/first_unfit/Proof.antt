@@ -1,6 +1,6 @@
 use Prim.Native.Nat.{ℕ, _≤_, _<_, _-_}
 use mathlib.Core.Path.{_≡_}
-use mathlib.Core.Bool.{true, false, not}
+use mathlib.Core.Bool.{false, not}
 use borrow.Author.Count.{below-none, below-more}
 use Rattle.order.specs.Refusals.{fitsSome}
 use Rattle.order.specs.Table.{jobAt, orderOf}

@@ -1,6 +1,4 @@
 use Rattle.order.proofs.Signed.{end-fits, end-negative, end-casts, end-is}
-use borrow.Author.Needs.{needs}
-use native.Mathlib.Omega.{arith}
 use Rattle.order.proofs.deadline.deadline.Statement.{statement}
 use Rattle.order.proofs.deadline.deadline.Tie as tie
 use Rattle.order.proofs.deadline.deadline.Reads as reads

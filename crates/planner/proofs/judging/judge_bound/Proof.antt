@@ -8,7 +8,7 @@ use Rattle.order.specs.Deadline.{cut}
 use Rattle.order.specs.RefusalLaws.{accepted-iff}
 use Rattle.order.specs.Table.{orderOf}
 use Rattle.order.specs.declared.Refusal.the-variants.{BoundOutOfRange, BufferTooShort}
-use Rattle.reason.specs.LeadLaws.{reach-most}
+use Rattle.order.specs.LeadLaws.{reach-most}
 use Rattle.reason.specs.Matching.{fine-of}
 use Rattle.planner.specs.Rows.{rowsAsked}
 use Rattle.planner.proofs.SetupLaws.{stretches-counted}

@@ -4,8 +4,8 @@ use Prim.Native.Nat.{ℕ, _-_, _<_, _≤_}
 use mathlib.Core.Path.{_≡_}
 use lib.IntN.{ℤ, pos}
 use lib.ListN.{length, getD}
-use Rattle.reason.specs.Settings.{dueAt}
-use Rattle.tables.specs.NumberLaws.{fill-at}
+use Rattle.order.specs.Lead.{dueAt}
+use Rattle.sums.specs.Arrays.{fill-at}
 use Rattle.planner.proofs.SetupLaws.{due-read}
 use Rattle.planner.proofs.setup.dues_at.Statement.{statement}
 use Rattle.planner.proofs.setup.dues_at.Tie as tie

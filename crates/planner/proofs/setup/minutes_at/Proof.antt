@@ -3,8 +3,7 @@ use native.Mathlib.Omega.{arith}
 use Prim.Native.Nat.{ℕ, _-_, _≤_}
 use mathlib.Core.Path.{_≡_}
 use lib.ListN.{length, getD}
-use Rattle.tables.specs.Tables.{RowOf}
-use Rattle.tables.specs.NumberLaws.{fill-at}
+use Rattle.sums.specs.Arrays.{RowOf, fill-at}
 use Rattle.planner.proofs.setup.minutes_at.Statement.{statement}
 use Rattle.planner.proofs.setup.minutes_at.Tie as tie
 use Rattle.planner.proofs.setup.minutes_at.Reads as reads

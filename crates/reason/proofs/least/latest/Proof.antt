@@ -4,8 +4,7 @@ use native.Mathlib.Omega.{arith}
 use native.Mathlib.Numerals.{add-one}
 use borrow.Author.Needs.{needs}
 use lib.ListN.{getD}
-use Rattle.profile.specs.Least.{most}
-use Rattle.tables.specs.NumberLaws.{most-none, most-suc}
+use Rattle.sums.specs.Most.{most, most-none, most-suc}
 use Rattle.reason.proofs.least.latest.Statement.{statement}
 use Rattle.reason.proofs.least.latest.Tie as tie
 

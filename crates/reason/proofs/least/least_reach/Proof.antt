@@ -4,12 +4,11 @@ use native.Mathlib.Omega.{arith}
 use native.Mathlib.Numerals.{add-one}
 use borrow.Author.Needs.{needs}
 use lib.ListN.{getD}
-use Rattle.profile.specs.Least.{most}
-use Rattle.tables.specs.Places.{best}
-use Rattle.tables.specs.Tables.{cell}
-use Rattle.tables.specs.NumberLaws.{most-none, most-suc}
-use Rattle.tables.specs.CompletionLaws.{best-cong}
-use Rattle.reason.specs.Settings.{weight, procsTo, latestOf, leastFor, reachOf}
+use Rattle.sums.specs.Most.{most, most-none, most-suc}
+use Rattle.stairs.specs.Places.{best}
+use Rattle.stairs.specs.Tables.{cell}
+use Rattle.stairs.specs.CompletionLaws.{best-cong}
+use Rattle.reason.specs.Asked.{weight, procsTo, latestOf, leastFor, leastReachOf}
 use Rattle.reason.specs.WeightLaws.{procs-none, procs-suc, procs-le, procs-pos, small-table, reach-most}
 use Rattle.reason.proofs.least.least_reach.Statement.{statement}
 use Rattle.reason.proofs.least.least_reach.Tie as tie
@@ -94,12 +93,12 @@ loop-again c =
     (search needs, rw add-one m, rw add-one e)
 
 returns : tie.Need-returns Inv-loop μ-loop
-unfolding reachOf
+unfolding leastReachOf
 returns c =
     let s = c .before .before .before .before in
     let o = s .args .t1 in
     let e : c .before .loop .k ≡ o .s = omega arith in
-    let r : c .before .loop .r ≡ reachOf o
+    let r : c .before .loop .r ≡ leastReachOf o
     = c .before .loop .inv .2 ∙ ap (λ (x : ℕ). max (latestOf o) (most x (λ k. leastFor o (suc k)))) e in
     (r, omega (arith, r, reach-most o (s .pre)))
 

@@ -7,7 +7,7 @@ use borrow.Author.Count.{below-none, below-more}
 use borrow.Author.Tests.{lt-ltb, le-ltb}
 use borrow.Author.Needs.{needs}
 use Rattle.order.specs.RefusalLaws.{first-tabulate, none-tabulate}
-use Rattle.reason.specs.Settings.{late}
+use Rattle.reason.specs.Asked.{late}
 use Rattle.reason.proofs.tell.first_late.Statement.{statement}
 use Rattle.reason.proofs.tell.first_late.Tie as tie
 

@@ -4,9 +4,8 @@ use mathlib.Core.List.{List, []}
 use native.Mathlib.Omega.{arith}
 use borrow.Author.Needs.{needs}
 use lib.ListN.{length, getD}
-use Rattle.tables.specs.Tables.{RowOf}
-use Rattle.tables.specs.NumberLaws.{fill-at}
-use Rattle.reason.specs.Settings.{weight}
+use Rattle.sums.specs.Arrays.{RowOf, fill-at}
+use Rattle.reason.specs.Asked.{weight}
 use Rattle.reason.specs.WeightLaws.{minutes-le, weight-is}
 use Rattle.reason.proofs.weight.table.Statement.{statement}
 use Rattle.reason.proofs.weight.table.Tie as tie

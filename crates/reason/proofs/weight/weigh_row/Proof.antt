@@ -4,8 +4,7 @@ use native.Mathlib.Omega.{arith}
 use native.Mathlib.Nat.{mul-le-mul}
 use borrow.Author.Needs.{needs}
 use lib.ListN.{length, getD}
-use Rattle.tables.specs.Tables.{RowOf}
-use Rattle.tables.specs.NumberLaws.{fill-at}
+use Rattle.sums.specs.Arrays.{RowOf, fill-at}
 use Rattle.reason.proofs.weight.weigh_row.Statement.{statement}
 use Rattle.reason.proofs.weight.weigh_row.Tie as tie
 

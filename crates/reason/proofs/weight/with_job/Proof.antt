@@ -1,9 +1,8 @@
 use Prim.Native.Nat.{ℕ, _+_, _-_, _≤_}
 use mathlib.Core.Path.{_≡_, ap}
 use lib.ListN.{length, getD}
-use Rattle.tables.specs.Tables.{RowOf}
-use Rattle.tables.specs.NumberLaws.{fill-at}
-use Rattle.reason.specs.Settings.{owedBy}
+use Rattle.sums.specs.Arrays.{RowOf, fill-at}
+use Rattle.reason.specs.Asked.{owedBy}
 use borrow.Author.Needs.{needs}
 use native.Mathlib.Omega.{arith}
 use Rattle.reason.proofs.weight.with_job.Statement.{statement}

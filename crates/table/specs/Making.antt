@@ -1,0 +1,83 @@
+-- The table of a struct, from its parts; and the numbers of an accepted order's table are in range.
+use Prim.Native.Nat.{ℕ, suc, _<_}
+use mathlib.Core.Path.{_≡_, sym, ap, _∙_}
+use mathlib.Core.List.{List}
+use native.Mathlib.Omega.{arith}
+use lib.IntN.{pos}
+use lib.ListN.{length, getD}
+use Rattle.sums.specs.Sum.{sum-cong}
+use Rattle.sums.specs.Members.{All-at}
+use Rattle.sums.specs.Places.{length-tabulate, getD-tabulate}
+use Rattle.order.specs.Order.{Order, Job, jobCount, jobOf, noJob}
+use Rattle.order.specs.Class.{classes, classOf, processorsIn, processorsTo}
+use Rattle.order.specs.RefusalLaws.{Acceptable, dues-in-range}
+use Rattle.order.specs.Table.{orderOf, jobAt}
+use Rattle.order.specs.declared.Order.{Order as OrderTable}
+use Rattle.order.specs.Lead.{lead, lastDue}
+use Rattle.sums.specs.Arrays.{RowOf}
+use Rattle.table.specs.Tabled.{Fine, ClassesOf, GridOf, Tabled}
+use Rattle.table.specs.declared.Members.{Members}
+use Rattle.table.specs.declared.Table.{Table}
+use Rattle.order.specs.ClassLaws.{processorsIn-some, processorsIn-few, processorsTo-few}
+use Rattle.order.specs.LeadLaws.{lead-most}
+use Rattle.table.specs.GridLaws.{grid-small}
+
+-- the table of a struct, from its parts
+pub tabled-made : (t : OrderTable) (m g : Members) (cs ls ps : List ℕ) → ClassesOf (orderOf t) m → GridOf lastDue (orderOf t) g →
+    RowOf (λ j. classOf (orderOf t) (jobAt t j)) (t .jobs) cs → RowOf (λ j. lead lastDue (getD (t .dues) j (pos 0))) (t .jobs) ls →
+    RowOf (λ i. processorsIn (orderOf t) (suc i)) 16 ps →
+    Tabled lastDue (orderOf t) (record {
+      n = t .jobs;
+      s = m .count;
+      q = g .count;
+      times = t .times;
+      classes = cs;
+      leads = ls;
+      procs = ps;
+      grid = g .at;
+    })
+tabled-made t m g cs ls ps c d hc hl hp =
+    record {
+      jobs = sym (length-tabulate (t .jobs) (jobAt t));
+      few-classes = c .few;
+      classed = sym (length-tabulate (m .count) (λ i. getD (m .at) i 0)) ∙ ap length (c .list);
+      times = λ j l. ap (λ (job : Job). job .time) (sym (job j l));
+      leads = λ j l. hl .at j (few l) ∙ ap (λ (job : Job). lead lastDue (job .due)) (sym (job j l));
+      classes-of = λ j l. hc .at j (few l) ∙ ap (classOf (orderOf t)) (sym (job j l));
+      procs = hp .at;
+      grid = d;
+    }
+  where
+    few : {j : ℕ} → j < jobCount (orderOf t) → j < t .jobs
+    few l = rw length-tabulate at l
+
+    job : (j : ℕ) → j < jobCount (orderOf t) → jobOf (orderOf t) (suc j) ≡ jobAt t j
+    job j l = getD-tabulate (t .jobs) (jobAt t) noJob j (few l)
+
+module _ (o : Order) (t : Table) (m : Tabled lastDue o t) where
+  pub fine-of : Acceptable o → Fine t
+  unfolding processorsTo
+  fine-of a =
+      record {
+        jobs = omega (arith, m .jobs, a .few-jobs);
+        classed = m .few-classes;
+        some-due = m .grid .some;
+        dues = m .grid .few;
+        times = λ j l. omega (arith, m .times j (at l), All-at _ (o .jobs) noJob (a .times) j (at l) .1);
+        leads = λ j l. omega (
+          arith,
+          m .leads j (at l),
+          lead-most (jobOf o (suc j) .due) (All-at _ (o .jobs) noJob (dues-in-range o a) j (at l)),
+        );
+        grid = grid-small o a _ (m .grid);
+        procs = λ i l. omega (arith, m .procs i l, processorsIn-few o i, a .few-processors);
+        some-proc = λ i l. omega (
+          arith,
+          m .procs i (omega (arith, m .few-classes)),
+          processorsIn-some o i (omega (arith, m .classed)),
+        );
+        procs-all = omega (arith, sum-cong 16 _ _ (m .procs), processorsTo-few o 16, a .few-processors);
+      }
+    where
+      at : {j : ℕ} → j < t .n → j < jobCount o
+      at l = omega (arith, m .jobs)

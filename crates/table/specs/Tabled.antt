@@ -1,0 +1,51 @@
+-- What a table says of an order, and that its numbers are in range. Due times stand as leads, counted back from a minute `top` that no
+-- due time exceeds: 1,000,000 for an accepted order.
+use Prim.Native.Nat.{ℕ, suc, _<_, _≤_}
+use mathlib.Core.Path.{_≡_}
+use lib.ListN.{length, getD}
+use lib.IntN.{ℤ}
+use Rattle.sums.specs.Sum.{sum}
+use Rattle.sums.specs.Lists.{downTo}
+use Rattle.order.specs.Order.{Order, jobCount, jobOf}
+use Rattle.order.specs.Sorted.{dueTimes}
+use Rattle.order.specs.Class.{classes, classOf, processorsIn}
+use Rattle.order.specs.Lead.{lead, dueAt}
+use Rattle.table.specs.Downwards.{listed}
+use Rattle.table.specs.declared.Members.{Members}
+use Rattle.table.specs.declared.Table.{Table}
+
+-- the memories of an order's classes
+pub record ClassesOf (o : Order) (m : Members) : Type 0 where
+  pub few : m .count ≤ 16
+  pub list : listed m ≡ classes o
+
+-- the leads of an order's distinct due times, by rising due time
+pub record GridOf (top : ℤ) (o : Order) (m : Members) : Type 0 where
+  pub some : 0 < m .count
+  pub few : m .count ≤ 48
+  pub dues : dueTimes o ≡ downTo (λ d. dueAt top (getD (m .at) d 0)) (m .count)
+  pub beyond : (i : ℕ) → m .count ≤ i → getD (m .at) i 0 ≡ 0
+
+-- a table is that of an order
+pub record Tabled (top : ℤ) (o : Order) (t : Table) : Type 0 where
+  pub jobs : t .n ≡ jobCount o
+  pub few-classes : t .s ≤ 16
+  pub classed : t .s ≡ length (classes o)
+  pub times : (j : ℕ) → j < jobCount o → getD (t .times) j 0 ≡ jobOf o (suc j) .time
+  pub leads : (j : ℕ) → j < jobCount o → getD (t .leads) j 0 ≡ lead top (jobOf o (suc j) .due)
+  pub classes-of : (j : ℕ) → j < jobCount o → getD (t .classes) j 0 ≡ classOf o (jobOf o (suc j))
+  pub procs : (i : ℕ) → i < 16 → getD (t .procs) i 0 ≡ processorsIn o (suc i)
+  pub grid : GridOf top o (record { count = t .q; at = t .grid })
+
+-- the numbers of a table are those of an accepted order
+pub record Fine (t : Table) : Type 0 where
+  pub jobs : t .n ≤ 48
+  pub classed : t .s ≤ 16
+  pub some-due : 0 < t .q
+  pub dues : t .q ≤ 48
+  pub times : (j : ℕ) → j < t .n → getD (t .times) j 0 ≤ 100000
+  pub leads : (j : ℕ) → j < t .n → getD (t .leads) j 0 ≤ 2000000
+  pub grid : (d : ℕ) → getD (t .grid) d 0 ≤ 2000000
+  pub some-proc : (i : ℕ) → i < t .s → 0 < getD (t .procs) i 0
+  pub procs : (i : ℕ) → i < 16 → getD (t .procs) i 0 ≤ 16
+  pub procs-all : sum 16 (λ i. getD (t .procs) i 0) ≤ 16

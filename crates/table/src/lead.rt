@@ -1,0 +1,72 @@
+// Due times as leads, 1,000,000 less the due time, and bounds as reaches, so that no number of a sum is negative. All serve the crates above and
+// have a `requires`.
+use super::Members;
+use super::distinct::distinct_down;
+use order::Order;
+use order::deadline::deadline;
+ghost use mathlib.Core.Path.{_≡_};
+ghost use mathlib.Core.Bool.{true};
+ghost use Prim.Native.Nat.{_≤_};
+ghost use lib.IntN.{pos};
+ghost use lib.ListN.{getD};
+ghost use Rattle.order.specs.Refusals.{Accepted, dueInRange, boundInRange};
+ghost use Rattle.order.specs.Table.{orderOf};
+ghost use Rattle.order.specs.Lead.{lead, dueAt, reachAt, boundAt, lastDue};
+ghost use Rattle.sums.specs.Arrays.{RowOf};
+ghost use Rattle.table.specs.Tabled.{GridOf};
+
+pub fn lead_of(due: i32) -> u32
+    requires { ⌜ dueInRange due ≡ true ⌝ }
+    ensures { λ r. ⌜ r ≡ lead lastDue due ⌝ }
+{
+    (1000000 - due) as u32
+}
+
+// The due time of a lead.
+pub fn due_of(lead: u32) -> i32
+    requires { ⌜ lead ≤ 2000000 ⌝ }
+    ensures { λ r. ⌜ r ≡ dueAt lastDue lead ⌝ }
+{
+    1000000 - (lead as i32)
+}
+
+// The reach of a bound.
+pub fn reach_of(bound: i32) -> u32
+    requires { ⌜ boundInRange bound ≡ true ⌝ }
+    ensures { λ r. ⌜ (r ≡ reachAt lastDue bound) × (r ≤ 11000000) ⌝ }
+{
+    deadline(1000000, bound)
+}
+
+// The bound of a reach.
+pub fn bound_of(reach: u32) -> i32
+    requires { ⌜ reach ≤ 640000000 ⌝ }
+    ensures { λ r. ⌜ r ≡ boundAt lastDue reach ⌝ }
+{
+    (reach as i32) - 1000000
+}
+
+// The lead of each job.
+pub fn leads_of(order: Order) -> [u32; 48]
+    requires { ⌜ Accepted (orderOf order) ⌝ }
+    ensures { λ r. ⌜ RowOf (λ j. lead lastDue (getD (order .dues) j (pos 0))) (order .jobs) r ⌝ }
+{
+    let n = order.jobs as usize;
+    let mut r = [0u32; 48];
+    let mut j: usize = 0;
+    while j < n {
+        r[j] = lead_of(order.dues[j]);
+        j += 1;
+    }
+    r
+}
+
+// The leads of the distinct due times, by rising due time.
+pub fn grid_of(order: Order) -> Members
+    requires { ⌜ Accepted (orderOf order) ⌝ }
+    ensures { λ r. ⌜ GridOf lastDue (orderOf order) r ⌝ }
+{
+    let leads = leads_of(order);
+    let n = order.jobs as usize;
+    distinct_down(&leads, n)
+}

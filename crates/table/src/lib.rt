@@ -1,0 +1,25 @@
+// An accepted order as the running parts read it (document 01, "Why a bound is too tight" and "Plans"): classes, due times as leads,
+// and the orderings of processors and jobs, made once.
+pub mod class; // the classes of processors and jobs
+pub mod distinct; // the distinct members of a list, downwards
+pub mod lead; // due times as leads
+pub mod making; // the table of an order
+
+// The distinct members of a list, downwards; 0 beyond the count.
+pub struct Members {
+    pub count: usize,
+    pub at: [u32; 48],
+}
+
+// Counts of jobs (n), classes (s) and distinct due times (q); for each job its time, its class from 1 and its lead (1,000,000 less the
+// due time); the processors of each class; the leads of the distinct due times, by rising due time.
+pub struct Table {
+    pub n: usize,
+    pub s: usize,
+    pub q: usize,
+    pub times: [u32; 48],
+    pub classes: [u32; 48],
+    pub leads: [u32; 48],
+    pub procs: [u32; 16],
+    pub grid: [u32; 48],
+}

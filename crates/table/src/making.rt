@@ -1,0 +1,32 @@
+// The table of an order. It serves the crates above and has a `requires`.
+use super::Table;
+use super::class::classes_of;
+use super::class::classes_of_jobs;
+use super::class::processors_by_class;
+use super::lead::grid_of;
+use super::lead::leads_of;
+use order::Order;
+ghost use Rattle.order.specs.Lead.{lastDue};
+ghost use Rattle.order.specs.Refusals.{Accepted};
+ghost use Rattle.order.specs.Table.{orderOf};
+ghost use Rattle.table.specs.Tabled.{Tabled};
+
+pub fn table_of(order: Order) -> Table
+    requires { ⌜ Accepted (orderOf order) ⌝ }
+    ensures { λ t. ⌜ Tabled lastDue (orderOf order) t ⌝ }
+{
+    let memories = classes_of(order);
+    let dues = grid_of(order);
+    let times = order.times;
+    let grid = dues.at;
+    Table {
+        n: order.jobs as usize,
+        s: memories.count,
+        q: dues.count,
+        times,
+        classes: classes_of_jobs(order, memories),
+        leads: leads_of(order),
+        procs: processors_by_class(order, memories),
+        grid,
+    }
+}
