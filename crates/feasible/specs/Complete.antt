@@ -7,7 +7,7 @@ use lib.IntN.{ℤ}
 use lib.ListN.{length}
 use Rattle.order.specs.Order.{Order}
 use Rattle.order.specs.Class.{classes}
-use Rattle.order.specs.Refusals.{Accepted}
+use Rattle.order.specs.Lead.{Workable}
 use Rattle.plan.specs.Plan.{Row, Meets}
 use Rattle.profile.specs.ReasonLaws.{NoReason}
 use Rattle.amounts.specs.Profile.{no-profile-feasible}
@@ -19,19 +19,19 @@ use Rattle.feasible.specs.Matches.{jobs-match}
 use Rattle.feasible.specs.Overfull.{profile-overfull}
 
 -- where there is no reason, feasible amounts exist
-pub amounts-exist : (o : Order) → Accepted o → (bound : ℤ) → NoReason o bound → (a : ℕ → ℕ → ℕ) × FeasibleFor o bound a
-amounts-exist o accepted bound none =
+pub amounts-exist : {top : ℤ} (o : Order) → Workable top o → (bound : ℤ) → NoReason o bound → (a : ℕ → ℕ → ℕ) × FeasibleFor o bound a
+amounts-exist o work bound none =
     let found =
-    no-profile-feasible (jobsFor o bound) (jobs-fine o bound accepted (none .0)) (length (classes o))
-    (jobs-in-time o bound accepted (none .0)) (jobs-met o bound) (λ j l. jobs-high o j)
+    no-profile-feasible (jobsFor o bound) (jobs-fine o bound work (none .0)) (length (classes o))
+    (jobs-in-time o bound work (none .0)) (jobs-met o bound) (λ j l. jobs-high o j)
     (λ profile.
     let full = profile-overfull o bound (none .0) (jobsFor o bound) (jobs-match o bound) (omega arith) profile in
     none .1 (full .0) (full .1))
     in
     (byNumber (found .0), flow-feasible o bound (found .1))
 
--- For every accepted order and every whole number with no reason, some right plan meets it.
-pub complete : (o : Order) → Accepted o → (bound : ℤ) → NoReason o bound → (rows : List Row) × Meets o bound rows
-complete o accepted bound none =
-    let a = amounts-exist o accepted bound none in
+-- For every such order and every whole number with no reason, some right plan meets it.
+pub complete : {top : ℤ} (o : Order) → Workable top o → (bound : ℤ) → NoReason o bound → (rows : List Row) × Meets o bound rows
+complete o work bound none =
+    let a = amounts-exist o work bound none in
     (layout o bound (a .0), layout-right o bound (a .0) (a .1))

@@ -13,8 +13,7 @@ use Rattle.sums.specs.Totals.{only-cong, total-cong}
 use Rattle.sums.specs.Members.{All-map, All-both, All-nth}
 use Rattle.order.specs.Order.{Job, Order, jobCount, Numbers, jobOf, endOf, noJob}
 use Rattle.order.specs.Deadline.{deadlineOf}
-use Rattle.order.specs.Refusals.{Accepted}
-use Rattle.order.specs.RefusalLaws.{accepted-iff}
+use Rattle.order.specs.Lead.{Workable}
 use Rattle.plan.specs.Plan.{Row, lengthsOf, RightInParts}
 use Rattle.profile.specs.Reason.{InTime}
 use Rattle.order.specs.Ends.{≤-of-cut, ≤-mul-cut}
@@ -53,15 +52,10 @@ module _ {p : ℕ} {o : Order} {bound : ℤ} {rows : List Row} (right : RightInP
       ))
       parts
 
--- an accepted order's times are at least 1
-pub time-some : (o : Order) → Accepted o → (j : ℕ) → Numbers (jobCount o) j → 1 ≤ jobOf o j .time
-time-some o accepted j b =
-    All-nth (λ (job : Job). (1 ≤ job .time) × (job .time ≤ 100000)) (o .jobs) noJob (accepted-iff o .0 accepted .times) j
-    (b .0) (b .1) .0
-
 -- where some plan is right, in any parts, no job's time exceeds its end
-pub plan-in-time : {o : Order} {bound : ℤ} {p : ℕ} {rows : List Row} → Accepted o → 1 ≤ p → RightInParts p o bound rows →
-    (j : ℕ) → Numbers (jobCount o) j → InTime bound (jobOf o j)
+pub plan-in-time : {top : ℤ} {o : Order} {bound : ℤ} {p : ℕ} {rows : List Row} → Workable top o → 1 ≤ p →
+    RightInParts p o bound rows → (j : ℕ) → Numbers (jobCount o) j → InTime bound (jobOf o j)
 unfolding deadlineOf
-plan-in-time {o} {bound} accepted parts right j b =
-    ≤-of-cut (jobOf o j .time) (endOf bound (jobOf o j)) (time-some o accepted j b) (time-in-deadline right parts j b)
+plan-in-time {top} {o} {bound} work parts right j b =
+    ≤-of-cut (jobOf o j .time) (endOf bound (jobOf o j))
+    (All-nth (λ (job : Job). 1 ≤ job .time) (o .jobs) noJob (work .times) j (b .0) (b .1)) (time-in-deadline right parts j b)

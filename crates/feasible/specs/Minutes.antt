@@ -5,10 +5,10 @@ use mathlib.Core.Path.{_≡_, refl, ap, _∙_}
 use mathlib.Core.List.{List, [], _∷_}
 use mathlib.Core.Logic.{_↔_}
 use native.Mathlib.Omega.{arith}
-use native.Mathlib.Decide.{decLe, ℕ-discrete}
-use borrow.Author.Tests.{le-leb, lt-leb, eq-eqb, ne-eqb}
+use native.Mathlib.Decide.{ℕ-discrete}
+use borrow.Author.Tests.{eq-eqb, ne-eqb}
 use lib.Dec.{eqb}
-use lib.IntN.{ℤ, pos, _-ℤ_}
+use lib.IntN.{ℤ, pos}
 use lib.ListN.{length, getD}
 use lib.Signed.{_<ℤ_}
 use Rattle.sums.specs.Sum.{sum, sum-cong}
@@ -17,10 +17,10 @@ use Rattle.sums.specs.Lists.{only}
 use Rattle.sums.specs.Totals.{sum-first, total-places}
 use Rattle.order.specs.Order.{Job, Order, jobCount, Numbers, jobOf, noJob, endAt, endOf}
 use Rattle.order.specs.Class.{classOf, processorsIn}
-use Rattle.order.specs.Deadline.{cut, deadlineOf}
+use Rattle.order.specs.Deadline.{deadlineOf}
 use Rattle.profile.specs.Profile.{owed, classOwes, owedFrom, onHandFrom, minutesOwed, minutesOnHand}
 use Rattle.profile.specs.Reason.{InTime}
-use Rattle.order.specs.Whole.{pos-minus, cut-minus}
+use Rattle.profile.specs.Weights.{owed-between}
 use Rattle.order.specs.Ends.{pos-<, <-pos, above-pos}
 
 -- no job's time exceeds its end
@@ -47,14 +47,7 @@ end-is o bound in-time j b = above-pos (jobOf o j .time) (endOf bound (jobOf o j
 owed-is : (bound T : ℤ) (job : Job) (e t : ℕ) → endOf bound job ≡ pos e → T ≡ pos t →
     owed bound T job ≡ job .time - (e - t)
 unfolding owed
-owed-is bound T job e t he ht =
-    rw (he, ht)
-    (elim (decLe e t) [
-      | yes h ↦ rw (le-leb e t h) (omega arith)
-      | no h ↦
-          rw (lt-leb e t (omega arith))
-          (ap (λ (z : ℤ). cut (pos (job .time) -ℤ z)) (pos-minus e t (omega arith)) ∙ cut-minus (job .time) (e - t))
-    ])
+owed-is bound T job e t he ht = rw (he, ht) (owed-between (job .time) e t)
 
 only-at : (a b v : ℕ) → only (eqb a b) v ≡ at a b v
 only-at a b v =

@@ -31,6 +31,11 @@ cut-≤ (pos a) (pos b) h = pos-≤ h
 cut-≤ (pos a) (negsuc b) h = absurd (h .le)
 cut-≤ (negsuc a) z h = omega arith
 
+-- a natural number below z is below z cut off
+pub <-cut : (n : ℕ) (z : ℤ) → pos n <ℤ z → n < cut z
+<-cut n (pos k) h = pos-< h
+<-cut n (negsuc k) h = absurd (h .lt)
+
 -- from 1 on, a number at most z cut off is at most z
 pub ≤-of-cut : (n : ℕ) (z : ℤ) → 1 ≤ n → n ≤ cut z → pos n ≤ℤ z
 ≤-of-cut n (pos k) l h = ≤-pos h

@@ -3,7 +3,7 @@ use Prim.Native.Nat.{ℕ, zero, suc, _-_, _≤_, _<_}
 use mathlib.Core.Path.{_≡_, sym, ap, _∙_}
 use mathlib.Core.Bool.{true}
 use native.Mathlib.Omega.{arith}
-use lib.IntN.{ℤ, pos, _+ℤ_}
+use lib.IntN.{ℤ, pos}
 use lib.ListN.{getD}
 use lib.Signed.{mag}
 use mir.Val.{toZ, ofZ, SFits}
@@ -11,7 +11,7 @@ use mir.ValLaws.{toZ-ofZ}
 use mir.Syntax.{w32}
 use Rattle.sums.specs.Members.{All-at}
 use Rattle.sums.specs.Places.{length-tabulate, getD-tabulate}
-use Rattle.order.specs.Order.{Job, noJob, jobCount, processorCount, jobOf, memoryOf}
+use Rattle.order.specs.Order.{endAt, Job, noJob, jobCount, processorCount, jobOf, memoryOf}
 use Rattle.order.specs.Deadline.{cut}
 use Rattle.order.specs.Refusals.{Accepted, dueInRange}
 use Rattle.order.specs.RefusalLaws.{accepted-iff, true-leZ}
@@ -23,7 +23,7 @@ read-back z h = toZ-ofZ w32 z (record { sfits = h })
 
 -- a due time of the struct and the bound, both read back
 pub read-end : (due bound : ℤ) → mag due < 2147483648 → SFits w32 bound →
-    cut (toZ w32 (ofZ w32 due) +ℤ toZ w32 (ofZ w32 bound)) ≡ cut (due +ℤ bound)
+    cut (endAt (toZ w32 (ofZ w32 bound)) (toZ w32 (ofZ w32 due))) ≡ cut (endAt bound due)
 read-end due bound f g = rw (read-back due f, toZ-ofZ w32 bound g)
 
 module _ (t : OrderTable) where

@@ -1,16 +1,16 @@
 -- Good rows are in range: each ends by its job's end, a small number.
-use Prim.Native.Nat.{ℕ, _+_, _/_, _%_, _≤_}
+use Prim.Native.Nat.{ℕ, _/_, _%_, _≤_}
 use mathlib.Core.Path.{_≡_}
 use mathlib.Core.Bool.{true}
 use mathlib.Core.List.{List}
 use native.Mathlib.Omega.{arith}
 use borrow.Author.Tests.{leb-true}
 use lib.Dec.{eqb}
-use lib.IntN.{ℤ, pos, negsuc, _+ℤ_}
+use lib.IntN.{ℤ, pos, negsuc}
 use lib.ListN.{length}
 use lib.Signed.{mag, leZ}
 use Rattle.sums.specs.Members.{All-nth}
-use Rattle.order.specs.Order.{Order, noJob, jobOf, endOf}
+use Rattle.order.specs.Order.{Order, noJob, jobOf, endAt, endOf}
 use Rattle.order.specs.Refusals.{Accepted, boundInRange, dueInRange}
 use Rattle.order.specs.RefusalLaws.{both-true, accepted-iff, true-leZ}
 use Rattle.order.specs.EndLaws.{mag-end}
@@ -37,7 +37,7 @@ module _ (o : Order) (bound : ℤ) (a : Accepted o) (b : boundInRange bound ≡ 
       let in-range : dueInRange due ≡ true = rw (true-leZ _ _ (d .0)) (true-leZ _ _ (d .1)) in
       record {
         forward = w .forward;
-        short = omega (arith, up-to (r .to) (due +ℤ bound) (h .1), mag-end due bound in-range b);
+        short = omega (arith, up-to (r .to) (endAt bound due) (h .1), mag-end due bound in-range b);
         a-job = (w .a-job .0, omega (arith, w .a-job .1, all .few-jobs));
         a-processor = (w .a-processor .0, omega (arith, w .a-processor .1, all .few-processors));
       }

@@ -6,9 +6,9 @@ use mathlib.Core.Bool.{true, false, _&&_, and-false}
 use native.Mathlib.Omega.{arith}
 use borrow.Author.Tests.{le-leb, lt-leb}
 use lib.Dec.{leb, ltb}
-use lib.IntN.{ℤ, pos, _+ℤ_}
+use lib.IntN.{ℤ, pos}
 use lib.ListN.{getD}
-use Rattle.order.specs.Order.{endOf}
+use Rattle.order.specs.Order.{endAt, endOf}
 use Rattle.order.specs.Deadline.{cut, cut-le}
 use Rattle.order.specs.Table.{orderOf}
 use Rattle.order.specs.declared.Order.{Order as OrderTable}
@@ -59,10 +59,10 @@ module _ (t : OrderTable) (r : Row) where
     pub its-job : (1 ≤ r .job) × (r .job ≤ t .jobs)
     its-job = let n = well-formed-iff (orderOf t) r .0 w .a-job in (n .0, rw job-count at (n .1))
 
-    pub ends : (bound : ℤ) (deadline : ℕ) → deadline ≡ cut (getD (t .dues) (r .job - 1) (pos 0) +ℤ bound) →
+    pub ends : (bound : ℤ) (deadline : ℕ) → deadline ≡ cut (endAt bound (getD (t .dues) (r .job - 1) (pos 0))) →
         leb (r .to) deadline ≡ byEnd (orderOf t) bound r
     unfolding endOf
     ends bound deadline e =
         let some : 1 ≤ r .to = omega (arith, well-formed-iff (orderOf t) r .0 w .forward) in
         rw (e, job-of t (r .job) (its-job .0) (its-job .1))
-        (sym (cut-le (getD (t .dues) (r .job - 1) (pos 0) +ℤ bound) (r .to) some))
+        (sym (cut-le (endAt bound (getD (t .dues) (r .job - 1) (pos 0))) (r .to) some))

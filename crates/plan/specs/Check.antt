@@ -1,15 +1,15 @@
 -- The plan check: whether lent numbers, four to a row, are the rows of a right plan. `isRight` computes it; CheckLaws says
 -- that it answers true exactly for right plans.
-use Prim.Native.Nat.{ℕ, zero, suc, _+_, _-_, _*_, _/_, _%_}
+use Prim.Native.Nat.{ℕ, suc, _+_, _-_, _*_, _/_, _%_}
 use mathlib.Core.Path.{_≡_}
-use mathlib.Core.Bool.{Bool, true, false, not, _&&_, _||_}
+use mathlib.Core.Bool.{Bool, true, not, _&&_, _||_}
 use mathlib.Core.List.{List, [], _∷_, _++_}
 use lib.Dec.{leb, ltb, eqb}
 use lib.IntN.{ℤ, pos}
 use lib.ListN.{length, getD}
 use lib.Signed.{leZ}
 use Rattle.sums.specs.Lists.{tabulate}
-use Rattle.order.specs.Order.{Job, Order, processorCount, jobCount, jobOf, memoryOf, endOf}
+use Rattle.order.specs.Order.{Order, processorCount, jobCount, jobOf, memoryOf, endOf}
 use Rattle.order.specs.Refusals.{limits, TableRow, orderRows, boundRow, rowsToCheckRow}
 use Rattle.plan.specs.Plan.{Row, Right, lengthsOf}
 

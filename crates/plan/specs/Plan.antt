@@ -7,7 +7,7 @@ use lib.Dec.{eqb}
 use lib.IntN.{ℤ, pos, _*ℤ_}
 use lib.Signed.{_≤ℤ_}
 use Rattle.sums.specs.Lists.{All, Pairwise, total, only}
-use Rattle.order.specs.Order.{Job, Order, processorCount, jobCount, Numbers, jobOf, memoryOf, Fits, endOf}
+use Rattle.order.specs.Order.{Order, processorCount, jobCount, Numbers, jobOf, memoryOf, Fits, endOf}
 
 -- "A row is job, processor, from, to and occupies the minutes from `from` up to but not including `to`."
 pub record Row : Type 0 where

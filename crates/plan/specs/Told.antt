@@ -1,5 +1,4 @@
 -- What the code's answers stand for.
-use Prim.Native.Nat.{ℕ}
 use mathlib.Core.Bool.{Bool, true, false}
 use Rattle.order.specs.Refusals.{Answer, answer, answerBy}
 use Rattle.order.specs.Table.{refusalTold}

@@ -27,7 +27,7 @@ use Rattle.profile.specs.Search.{isOverfull}
 use Rattle.profile.specs.Least.{owedAt, weightAt, weightFrom}
 
 -- minutes owed between two naturals
-owed-between : (time a b : ℕ) → cond (leZ (pos a) (pos b)) time (cut (pos time -ℤ (pos a -ℤ pos b))) ≡ time - (a - b)
+pub owed-between : (time a b : ℕ) → cond (leZ (pos a) (pos b)) time (cut (pos time -ℤ (pos a -ℤ pos b))) ≡ time - (a - b)
 owed-between time a b =
     elim (decLe a b) [
       | yes h ↦ rw (le-leb a b h) (omega arith)

@@ -6,7 +6,7 @@ use mathlib.Core.List.{List, [], _∷_, map}
 use lib.IntN.{ℤ, pos, negsuc}
 use Rattle.sums.specs.Sum.{sum}
 use Rattle.sums.specs.Lists.{All}
-use Rattle.order.specs.Order.{Order, endOf}
+use Rattle.order.specs.Order.{Order, endAt, endOf}
 use Rattle.order.specs.Sorted.{insert, distinct, dueTimes}
 use Rattle.order.specs.Class.{classes, lastThatSuffices, classFor, classOf, processorsIn, processorsTo}
 use Rattle.order.specs.Refusals.{limits, Verdict, accepted, judge, firstAfter, fitsSome, orderRows, Accepted}
@@ -132,7 +132,7 @@ all-hold (c ∷ cs) e =
     (case-holds c first, all-hold cs rest)
 
 all-computed : map computed cases ≡ map stated cases
-unfolding sum endOf insert distinct dueTimes classes lastThatSuffices classFor classOf processorsIn processorsTo judge firstAfter
+unfolding sum endAt endOf insert distinct dueTimes classes lastThatSuffices classFor classOf processorsIn processorsTo judge firstAfter
     fitsSome numbersOf every everyTwo isRight owed classOwes owedFrom onHandFrom choices ranked firstSuch firstOverfull reasonOf
     weightAt weightFrom largest heaviest most leastReach leastLateness
 all-computed = refl

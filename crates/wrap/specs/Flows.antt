@@ -18,8 +18,8 @@ use Rattle.order.specs.Order.{Order, noJob, jobCount, Numbers, jobOf, memoryOf,
 use Rattle.order.specs.Class.{classOf, classes, processorsIn, processorsTo}
 use Rattle.order.specs.ClassLaws.{class-some, class-at-most}
 use Rattle.order.specs.Deadline.{cut, cut-le, deadlineOf}
-use Rattle.order.specs.Refusals.{Accepted}
-use Rattle.order.specs.RefusalLaws.{Acceptable, accepted-iff, true-leZ}
+use Rattle.order.specs.Lead.{Workable}
+use Rattle.order.specs.RefusalLaws.{true-leZ}
 use Rattle.amounts.specs.Flow.{held, Feasible}
 use Rattle.amounts.specs.Exchange.{flowOf}
 use Rattle.amounts.specs.Profile.{Jobs, Fine, stretchesOf, InTime, Met}
@@ -101,18 +101,15 @@ module _ (o : Order) (bound : ℤ) where
   jobs-met zero h l = absurd (omega arith)
   jobs-met (suc s) h l = mark-met o bound s l
 
-  module _ (accepted : Accepted o) where
-    abbrev acceptable : Acceptable o
-    acceptable = accepted-iff o .0 accepted
-
+  module _ {top : ℤ} (work : Workable top o) where
     time-some : (j : ℕ) → j < jobCount o → 1 ≤ jobOf o (suc j) .time
-    time-some j b = All-at _ (o .jobs) noJob (acceptable .times) j b .0
+    time-some j b = All-at _ (o .jobs) noJob (work .times) j b
 
     -- every job has a class
     pub jobs-classed : (j : ℕ) → j < jobCount o → 0 < classOf o (jobOf o (suc j))
     unfolding classOf
     jobs-classed j b =
-        let f = All-at _ (o .jobs) noJob (acceptable .fit) j b in
+        let f = All-at _ (o .jobs) noJob (work .fit) j b in
         class-some o (jobOf o (suc j) .need) (memoryOf o (f .0)) (nth-in (o .memories) 0 (f .0) (f .1 .0) (f .1 .1)) (f .2)
 
     -- and no job's time exceeds its end
@@ -140,7 +137,7 @@ module _ (o : Order) (bound : ℤ) where
           record {
             start = mark-zero o bound;
             rises = rises;
-            some = omega (arith, dueIndex-mark o bound 0 (acceptable .some-job));
+            some = omega (arith, dueIndex-mark o bound 0 (work .some-job));
             classed = jobs-classed;
             indexed = dueIndex-mark o bound;
           }

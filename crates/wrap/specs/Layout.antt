@@ -1,7 +1,7 @@
 -- Document 01: "Inside a stretch the jobs' amounts are laid out by McNaughton's wrap .. fill a processor to the stretch's
 -- end, then go on at the next one's beginning. Rows stand by stretch, then by that processor order, then by `from`."
 use Prim.Native.Nat.{ℕ, zero, suc, _+_, _-_}
-use mathlib.Core.Bool.{Bool, cond}
+use mathlib.Core.Bool.{cond}
 use mathlib.Core.List.{List, [], _∷_, _++_}
 use lib.Dec.{ltb, eqb}
 use lib.IntN.{ℤ}

@@ -1,6 +1,6 @@
 -- Document 01: "The planner cuts time at the distinct ends into stretches, the first from minute 0." Amounts say how many
 -- minutes of a job go into a stretch; these are the amounts from which a right plan can be laid out.
-use Prim.Native.Nat.{ℕ, zero, suc, _-_, _*_, _≤_, _<_}
+use Prim.Native.Nat.{ℕ, suc, _-_, _*_, _≤_, _<_}
 use mathlib.Core.Path.{_≡_}
 use mathlib.Core.List.{List, map, reverse}
 use lib.Dec.{leb}
@@ -8,7 +8,7 @@ use lib.IntN.{ℤ}
 use lib.ListN.{length}
 use Rattle.sums.specs.Sum.{sum}
 use Rattle.sums.specs.Lists.{only, nth}
-use Rattle.order.specs.Order.{Job, Order, jobCount, Numbers, jobOf, endAt}
+use Rattle.order.specs.Order.{Order, jobCount, Numbers, jobOf, endAt}
 use Rattle.order.specs.Sorted.{dueTimes}
 use Rattle.order.specs.Class.{classOf, processorsTo}
 use Rattle.order.specs.Deadline.{cut, deadlineOf}
