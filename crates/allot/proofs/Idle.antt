@@ -6,25 +6,25 @@ use native.Mathlib.Omega.{arith}
 use lib.ListN.{length, getD, set}
 use lib.Seq.{getD-set-same, getD-set-other}
 use Rattle.sums.specs.Sum.{sum}
-use Rattle.allot.specs.declared.Instance.{Instance}
+use Rattle.table.specs.declared.Table.{Table}
 use Rattle.allot.specs.Tables.{countOf, Times, Classes}
 use Rattle.allot.proofs.Shares.{mark-before}
 
-pub times-done : (t : Instance) (ys : List ℕ) (p : ℕ) → t .jobs < length ys → 1 ≤ t .stretches →
-    p ≡ sum (t .classes) (countOf (t .counts)) → ((j : ℕ) → j < t .jobs → getD ys j 0 ≡ getD (t .times) j 0) →
-    Times t (set ys (t .jobs) (p * getD (t .marks) (t .stretches - 1) 0))
-times-done t ys p l some e h =
-    let v = p * getD (t .marks) (t .stretches - 1) 0 in
+pub times-done : (t : Table) (marks ys : List ℕ) (p : ℕ) → t .n < length ys → 1 ≤ t .q →
+    p ≡ sum (t .s) (countOf (t .procs)) → ((j : ℕ) → j < t .n → getD ys j 0 ≡ getD (t .times) j 0) →
+    Times t marks (set ys (t .n) (p * getD marks (t .q - 1) 0))
+times-done t marks ys p l some e h =
+    let v = p * getD marks (t .q - 1) 0 in
     record {
-      each = λ j b. getD-set-other ys (t .jobs) j v 0 (λ x. omega arith) ∙ h j b;
-      idle = getD-set-same ys (t .jobs) v 0 l ∙ cc (e, mark-before (t .marks) (t .stretches) (λ x. omega arith));
+      each = λ j b. getD-set-other ys (t .n) j v 0 (λ x. omega arith) ∙ h j b;
+      idle = getD-set-same ys (t .n) v 0 l ∙ cc (e, mark-before marks (t .q) (λ x. omega arith));
     }
 
-pub classes-done : (t : Instance) (ys : List ℕ) → t .jobs < length ys →
-    ((j : ℕ) → j < t .jobs → getD ys j 0 ≡ getD (t .«job_classes») j 0) →
-    Classes t (set ys (t .jobs) (t .classes + 1))
+pub classes-done : (t : Table) (ys : List ℕ) → t .n < length ys →
+    ((j : ℕ) → j < t .n → getD ys j 0 ≡ getD (t .classes) j 0) →
+    Classes t (set ys (t .n) (t .s + 1))
 classes-done t ys l h =
     record {
-      each = λ j b. getD-set-other ys (t .jobs) j (t .classes + 1) 0 (λ x. omega arith) ∙ h j b;
-      idle = omega (arith, getD-set-same ys (t .jobs) (t .classes + 1) 0 l);
+      each = λ j b. getD-set-other ys (t .n) j (t .s + 1) 0 (λ x. omega arith) ∙ h j b;
+      idle = omega (arith, getD-set-same ys (t .n) (t .s + 1) 0 l);
     }

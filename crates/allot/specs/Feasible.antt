@@ -1,7 +1,7 @@
 -- An instance that stands for an accepted order is small enough for the engine; and where there is no reason against the
 -- bound, what the engine answers of it are amounts that are feasible for the order, those that the order has at the bound.
-use Prim.Native.Nat.{ℕ, suc}
-use mathlib.Core.Path.{_≡_, refl}
+use Prim.Native.Nat.{ℕ, suc, _≤_, _<_}
+use mathlib.Core.Path.{_≡_}
 use mathlib.Core.Bool.{Bool, true, false}
 use mathlib.Core.List.{List}
 use native.Mathlib.Omega.{arith}
@@ -9,99 +9,105 @@ use lib.IntN.{ℤ}
 use lib.ListN.{length}
 use Rattle.sums.specs.Members.{All-at}
 use Rattle.amounts.specs.Flow.{Cut}
-use Rattle.amounts.specs.Profile.{Fine, Profile, cut-profile}
+use Rattle.amounts.specs.Profile.{Profile, cut-profile}
 use Rattle.engine.specs.View.{grid, Answer}
 use Rattle.engine.specs.Run.{RunOf}
 use Rattle.allot.specs.Chosen.{Chosen}
 use Rattle.order.specs.Order.{Order, noJob}
 use Rattle.order.specs.Class.{classes, processorsTo}
-use Rattle.order.specs.Refusals.{Accepted, boundInRange}
-use Rattle.order.specs.RefusalLaws.{accepted-iff}
+use Rattle.order.specs.Refusals.{boundInRange}
+use Rattle.order.specs.RefusalLaws.{Acceptable}
 use Rattle.profile.specs.ReasonLaws.{NoReason}
-use Rattle.wrap.specs.Stretches.{FeasibleFor}
+use Rattle.wrap.specs.Stretches.{stretchCount, mark, FeasibleFor}
 use Rattle.wrap.specs.Marks.{mark-up}
 use Rattle.wrap.specs.DuePlaces.{dueIndex-mark}
-use Rattle.wrap.specs.Flows.{jobsFor, jobs-met, jobs-classed, jobs-in-time, jobs-fine, jobs-high}
-use Rattle.feasible.specs.Matches.{Matches}
+use Rattle.wrap.specs.Flows.{jobsFor, jobs-met, jobs-classed, jobs-in-time, jobs-fine, jobs-high, amountIn}
 use Rattle.feasible.specs.Overfull.{profile-overfull}
-use Rattle.allot.specs.declared.Instance.{Instance}
-use Rattle.allot.specs.Instances.{flowIn, Sized, StandsFor, amountIn}
-use Rattle.allot.specs.Bounds.{stretches-few, classes-few, processors-few, mark-small}
-use Rattle.allot.specs.OrderFlow.{mark-same, counts-same, feasible-same, cut-same, run-same, amounts-by-number}
+use Rattle.allot.specs.OrderFlow.{stretches-are, mark-same, counts-same, feasible-same, cut-same, run-same, amounts-by-number}
+use Rattle.table.specs.declared.Table.{Table}
+use Rattle.order.specs.ClassLaws.{classes-few, processorsTo-few}
+use Rattle.order.specs.SortedLaws.{dues-few}
+use Rattle.order.specs.Lead.{lastDue, Workable}
+use Rattle.order.specs.LeadLaws.{workable, reach-most, deadline-lead}
+use Rattle.wrap.specs.DuePlaces.{mark-met}
+use Rattle.order.specs.Deadline.{deadlineOf}
+use Rattle.order.specs.Order.{jobOf, endOf}
+use Rattle.feasible.specs.Matches.{jobs-match}
+use Rattle.allot.specs.Flows.{flowOn, Sized, TabledAt}
 
-module _ (o : Order) (accepted : Accepted o) (bound : ℤ) where
-  -- an instance that stands for an accepted order at a bound in range is small enough
-  pub stands-sized : boundInRange bound ≡ true → (t : Instance) → StandsFor o bound t → Sized t
+-- the numbers of an accepted order at a bound in range are small enough
+module _ (o : Order) (a : Acceptable o) (bound : ℤ) (in-range : boundInRange bound ≡ true) where
+  -- no mark is beyond the reach
+  mark-small : (s : ℕ) → s < stretchCount o → mark o bound (suc s) ≤ 11000000
+  unfolding deadlineOf endOf
+  mark-small s l =
+      let m = mark-met o bound s l in
+      omega (
+        arith,
+        m .2,
+        reach-most bound in-range,
+        deadline-lead lastDue bound (jobOf o (suc (m .0)) .due)
+            (All-at _ (o .jobs) noJob (workable o a .dues) (m .0) (m .1)),
+      )
+
+  pub tabled-sized : (t : Table) (ds ms : List ℕ) → TabledAt lastDue o bound t ds ms → Sized t ms
   unfolding processorsTo
-  stands-sized in-range t F =
-      let a = accepted-iff o .0 accepted in
-      let jobs = F .jobs-are in
-      let stretches = F .stretches-are in
-      let last = F .classes-are in
+  tabled-sized t ds ms F =
+      let jobs = F .tabled .jobs in
+      let stretches = stretches-are lastDue o bound t ds ms F in
+      let last = F .tabled .classed in
+      let classed = jobs-classed o bound (workable o a) in
       record {
         some-job = omega (arith, a .some-job);
         few-jobs = omega (arith, a .few-jobs);
         some-stretch = omega (arith, dueIndex-mark o bound 0 (a .some-job));
-        few-stretches = omega (arith, stretches-few o, a .few-jobs);
-        some-class = omega (arith, jobs-classed o bound accepted 0 (a .some-job), jobs-high o 0);
+        few-stretches = omega (arith, dues-few o, a .few-jobs);
+        some-class = omega (arith, classed 0 (a .some-job), jobs-high o 0);
         few-classes = omega (arith, classes-few o, a .few-processors);
         times-small = λ j b.
-            omega (arith, F .times-are j (omega arith), All-at _ (o .jobs) noJob (a .times) j (omega arith));
+            omega (arith, F .tabled .times j (omega arith), All-at _ (o .jobs) noJob (a .times) j (omega arith));
         classed = λ j b. (
-          omega (arith, F .job-classes-are j (omega arith), jobs-classed o bound accepted j (omega arith)),
-          omega (arith, F .job-classes-are j (omega arith), jobs-high o j),
+          omega (arith, F .tabled .classes-of j (omega arith), classed j (omega arith)),
+          omega (arith, F .tabled .classes-of j (omega arith), jobs-high o j),
         );
         marks-rise = λ s b.
             omega (
               arith,
-              mark-same o bound t F s (omega arith),
+              mark-same lastDue o bound t ds ms F s (omega arith),
               F .marks-are s (omega arith),
               mark-up o bound s (omega arith),
             );
-        marks-small = λ s b.
-            omega (arith, F .marks-are s (omega arith), mark-small o accepted bound in-range s (omega arith));
+        marks-small = λ s b. omega (arith, F .marks-are s (omega arith), mark-small s (omega arith));
         few-processors =
             rw last
             (omega (
               arith,
-              counts-same o bound t F (length (classes o)) (omega arith),
-              processors-few o (length (classes o)),
+              counts-same lastDue o bound t ds ms F (length (classes o)) (omega arith),
+              processorsTo-few o (length (classes o)),
               a .few-processors,
             ));
       }
 
-  module _ (none : NoReason o bound) (t : Instance) (F : StandsFor o bound t) where
-    fine : Fine (jobsFor o bound)
-    fine = jobs-fine o bound accepted (none .0)
+module _ {top : ℤ} (o : Order) (work : Workable top o) (bound : ℤ) (none : NoReason o bound) (t : Table) (ds ms : List ℕ)
+    (F : TabledAt top o bound t ds ms) where
+  -- a violating cut would be an overfull staircase
+  no-cut : ¬ Cut (flowOn t ds ms) (suc (t .s))
+  no-cut c =
+      let p : Profile (jobsFor o bound) (length (classes o)) =
+      cut-profile (jobsFor o bound) (jobs-fine o bound work (none .0)) (length (classes o))
+      (jobs-in-time o bound work (none .0)) (jobs-met o bound) (cut-same top o bound t ds ms F c) in
+      let stairs = profile-overfull o bound (none .0) (jobsFor o bound) (jobs-match o bound) (omega arith) p in
+      none .1 (stairs .0) (stairs .1)
 
-    matches : Matches o bound (jobsFor o bound)
-    matches =
-        record {
-          jobs = refl;
-          times = λ j l. refl;
-          of-class = λ j l. refl;
-          deadlines = λ j l. refl;
-          counts = λ i l. refl;
-        }
+  -- the engine's answer about the table of an order with no reason against the bound: amounts for the order
+  pub tabled-feasible : (w : List ℕ) (r : Bool) → Answer (flowOn t ds ms) (suc (t .s)) (grid (t .q) w) r →
+      FeasibleFor o bound (amountIn (t .q) w)
+  tabled-feasible w true f =
+      amounts-by-number top o bound (t .q) w (feasible-same top o bound t ds ms F (grid (t .q) w) f)
+  tabled-feasible w false c = absurd (no-cut c)
 
-    -- a violating cut would be an overfull staircase
-    no-cut : ¬ Cut (flowIn t) (suc (t .classes))
-    no-cut c =
-        let p : Profile (jobsFor o bound) (length (classes o)) =
-        cut-profile (jobsFor o bound) fine (length (classes o)) (jobs-in-time o bound accepted (none .0)) (jobs-met o bound)
-        (cut-same o bound t F c) in
-        let stairs = profile-overfull o bound (none .0) (jobsFor o bound) matches (omega arith) p in
-        none .1 (stairs .0) (stairs .1)
-
-    -- the engine's answer about an instance of an order with no reason against the bound: amounts for the order
-    pub stands-feasible : (w : List ℕ) (r : Bool) → Answer (flowIn t) (suc (t .classes)) (grid (t .stretches) w) r →
-        FeasibleFor o bound (amountIn (t .stretches) w)
-    stands-feasible w true f =
-        amounts-by-number o bound (t .stretches) w (feasible-same o bound t F (grid (t .stretches) w) f)
-    stands-feasible w false c = absurd (no-cut c)
-
-    -- and they are the order's
-    pub stands-chosen : (w : List ℕ) (r : Bool) → Answer (flowIn t) (suc (t .classes)) (grid (t .stretches) w) r →
-        RunOf (flowIn t) (suc (t .classes)) (grid (t .stretches) w) r → Chosen o bound (amountIn (t .stretches) w)
-    stands-chosen w true f run = run-same o bound t F (grid (t .stretches) w) true run
-    stands-chosen w false c run = absurd (no-cut c)
+  -- and they are the order's
+  pub tabled-chosen : (w : List ℕ) (r : Bool) → Answer (flowOn t ds ms) (suc (t .s)) (grid (t .q) w) r →
+      RunOf (flowOn t ds ms) (suc (t .s)) (grid (t .q) w) r → Chosen o bound (amountIn (t .q) w)
+  tabled-chosen w true f run = run-same top o bound t ds ms F (grid (t .q) w) true run
+  tabled-chosen w false c run = absurd (no-cut c)

@@ -1,6 +1,6 @@
-pub mod Instances
+pub mod Flows
 pub mod Tables
-pub mod Bounds
+pub mod GridMarks
 pub mod AtTop
 pub mod Holds
 pub mod OrderFlow

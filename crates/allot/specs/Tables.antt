@@ -1,17 +1,11 @@
--- What the flat lists hold that are made of an instance.
+-- What the flat lists hold that are made of a table.
 use Prim.Native.Nat.{ℕ, suc, _+_, _*_, _<_}
 use mathlib.Core.Path.{_≡_}
 use mathlib.Core.List.{List}
-use lib.Dec.{leb}
 use lib.ListN.{getD}
 use Rattle.sums.specs.Sum.{sum}
-use Rattle.sums.specs.Lists.{only, nth}
-use Rattle.allot.specs.declared.Instance.{Instance}
-use Rattle.allot.specs.Instances.{lengthIn}
-
--- what a job with this deadline may have of stretch s
-abbrev pub capAt : List ℕ → ℕ → ℕ → ℕ
-capAt marks deadline s = only (leb (getD marks s 0) deadline) (lengthIn marks s)
+use Rattle.sums.specs.Lists.{nth}
+use Rattle.table.specs.declared.Table.{Table}
 
 -- how many processors have the class i + 1
 abbrev pub countOf : List ℕ → ℕ → ℕ
@@ -27,11 +21,11 @@ pub record Rows (ys : List ℕ) (n q : ℕ) (f : ℕ → ℕ → ℕ) : Type 0 w
   pub each : (j s : ℕ) → j < n → s < q → getD ys (j * q + s) 0 ≡ f j s
 
 -- the list holds the times, and at the place of the idle job what all processors have up to the last mark
-pub record Times (t : Instance) (ys : List ℕ) : Type 0 where
-  pub each : (j : ℕ) → j < t .jobs → getD ys j 0 ≡ getD (t .times) j 0
-  pub idle : getD ys (t .jobs) 0 ≡ sum (t .classes) (countOf (t .counts)) * nth (t .marks) (t .stretches) 0
+pub record Times (t : Table) (marks ys : List ℕ) : Type 0 where
+  pub each : (j : ℕ) → j < t .n → getD ys j 0 ≡ getD (t .times) j 0
+  pub idle : getD ys (t .n) 0 ≡ sum (t .s) (countOf (t .procs)) * nth marks (t .q) 0
 
 -- the list holds the classes, and at the place of the idle job the one behind the last
-pub record Classes (t : Instance) (ys : List ℕ) : Type 0 where
-  pub each : (j : ℕ) → j < t .jobs → getD ys j 0 ≡ getD (t .«job_classes») j 0
-  pub idle : getD ys (t .jobs) 0 ≡ suc (t .classes)
+pub record Classes (t : Table) (ys : List ℕ) : Type 0 where
+  pub each : (j : ℕ) → j < t .n → getD ys j 0 ≡ getD (t .classes) j 0
+  pub idle : getD ys (t .n) 0 ≡ suc (t .s)

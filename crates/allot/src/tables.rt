@@ -1,17 +1,18 @@
-// An instance as the engine reads it: flat caps and rooms, times and classes with those of the idle job. Each function
+// A table as the engine reads it, with the deadlines of its jobs and the marks of its stretches: flat caps and rooms, times and classes with those of the idle job. Each function
 // serves this crate alone and has a `requires`.
-use super::Instance;
+use table::Table;
 ghost use mathlib.Core.Path.{_≡_};
 ghost use Prim.Native.Nat.{suc, _+_, _*_, _<_, _≤_};
 ghost use lib.ListN.{length};
 ghost use Rattle.sums.specs.Sum.{sum};
-ghost use Rattle.allot.specs.Instances.{lengthIn, capIn, roomIn, Sized};
-ghost use Rattle.allot.specs.Tables.{capAt, countOf, Put, Rows, Times, Classes};
+ghost use Rattle.allot.specs.Flows.{lengthOn, capAt, capOn, roomOn, Sized};
+ghost use Rattle.allot.specs.Tables.{countOf, Put, Rows, Times, Classes};
+ghost use Rattle.allot.specs.Flows.{capAt};
 
 // The length of stretch s.
 pub fn length_of(marks: &[u32; 48], s: usize) -> u32
     requires { ⌜ s < 48 ⌝ }
-    ensures { λ r. ⌜ r ≡ lengthIn (now (marks .entry)) s ⌝ }
+    ensures { λ r. ⌜ r ≡ lengthOn (now (marks .entry)) s ⌝ }
 {
     let end = marks[s];
     if s == 0 {
@@ -48,14 +49,13 @@ pub fn put_caps_row(cap: &mut [u32], marks: &[u32; 48], deadline: u32, at: usize
 }
 
 // The caps of all jobs.
-pub fn put_caps(cap: &mut [u32], t: Instance)
-    requires { ⌜ Sized t × ((t .jobs) * (t .stretches) ≤ length (now cap)) ⌝ }
-    ensures { λ r. ⌜ Rows (now (cap .exit)) (t .jobs) (t .stretches) (capIn t) ⌝ }
+pub fn put_caps(cap: &mut [u32], t: Table, deadlines: &[u32; 48], marks: &[u32; 48])
+    requires { ⌜ Sized t (now marks) × ((t .n) * (t .q) ≤ length (now cap)) ⌝ }
+    ensures { λ r. ⌜ Rows (now (cap .exit)) (t .n) (t .q) (capOn (now (deadlines .entry)) (now (marks .entry))) ⌝ }
 {
-    let marks = t.marks;
     let mut j: usize = 0;
-    while j < t.jobs {
-        put_caps_row(cap, &marks, t.deadlines[j], j * t.stretches, t.stretches);
+    while j < t.n {
+        put_caps_row(cap, marks, deadlines[j], j * t.q, t.q);
         j += 1;
     }
 }
@@ -76,7 +76,7 @@ pub fn processors_to(counts: [u32; 16], k: usize) -> u32
 
 // The rooms of a stretch, from a place on: for no class, for the first, for the first two, ..
 pub fn put_rooms_row(room: &mut [u32], counts: [u32; 16], minutes: u32, at: usize, classes: usize)
-    requires { ⌜ (classes ≤ 16) × (sum classes (countOf counts) ≤ 16) × (minutes ≤ 11000000) ⌝ }
+    requires { ⌜ (classes ≤ 16) × (sum classes (countOf counts) ≤ 16) × (minutes ≤ 176000016) ⌝ }
     requires { ⌜ at + suc classes ≤ length (now room) ⌝ }
     ensures { λ r. ⌜ Put (now (room .entry)) (now (room .exit)) at (suc classes) (λ k. sum k (countOf counts) * minutes) ⌝ }
 {
@@ -88,43 +88,42 @@ pub fn put_rooms_row(room: &mut [u32], counts: [u32; 16], minutes: u32, at: usiz
 }
 
 // The rooms of all stretches.
-pub fn put_rooms(room: &mut [u32], t: Instance)
-    requires { ⌜ Sized t × ((t .stretches) * suc (t .classes) ≤ length (now room)) ⌝ }
-    ensures { λ r. ⌜ Rows (now (room .exit)) (t .stretches) (suc (t .classes)) (roomIn t) ⌝ }
+pub fn put_rooms(room: &mut [u32], t: Table, marks: &[u32; 48])
+    requires { ⌜ Sized t (now marks) × ((t .q) * suc (t .s) ≤ length (now room)) ⌝ }
+    ensures { λ r. ⌜ Rows (now (room .exit)) (t .q) (suc (t .s)) (roomOn t (now (marks .entry))) ⌝ }
 {
-    let marks = t.marks;
-    let counts = t.counts;
+    let procs = t.procs;
     let mut s: usize = 0;
-    while s < t.stretches {
-        let minutes = length_of(&marks, s);
-        put_rooms_row(room, counts, minutes, s * (t.classes + 1), t.classes);
+    while s < t.q {
+        let minutes = length_of(marks, s);
+        put_rooms_row(room, procs, minutes, s * (t.s + 1), t.s);
         s += 1;
     }
 }
 
 // The times, and that of the idle job: what all processors have up to the last mark.
-pub fn put_times(time: &mut [u32], t: Instance)
-    requires { ⌜ Sized t × (suc (t .jobs) ≤ length (now time)) ⌝ }
-    ensures { λ r. ⌜ Times t (now (time .exit)) ⌝ }
+pub fn put_times(time: &mut [u32], t: Table, marks: &[u32; 48])
+    requires { ⌜ Sized t (now marks) × (suc (t .n) ≤ length (now time)) ⌝ }
+    ensures { λ r. ⌜ Times t (now (marks .entry)) (now (time .exit)) ⌝ }
 {
     let mut j: usize = 0;
-    while j < t.jobs {
+    while j < t.n {
         time[j] = t.times[j];
         j += 1;
     }
-    let counts = t.counts;
-    time[t.jobs] = processors_to(counts, t.classes) * t.marks[t.stretches - 1];
+    let procs = t.procs;
+    time[t.n] = processors_to(procs, t.s) * marks[t.q - 1];
 }
 
 // The classes, and behind the last that of the idle job.
-pub fn put_classes(class: &mut [usize], t: Instance)
-    requires { ⌜ Sized t × (suc (t .jobs) ≤ length (now class)) ⌝ }
+pub fn put_classes(class: &mut [usize], t: Table)
+    requires { ⌜ (t .n ≤ 48) × (t .s ≤ 16) × (suc (t .n) ≤ length (now class)) ⌝ }
     ensures { λ r. ⌜ Classes t (now (class .exit)) ⌝ }
 {
     let mut j: usize = 0;
-    while j < t.jobs {
-        class[j] = t.job_classes[j] as usize;
+    while j < t.n {
+        class[j] = t.classes[j] as usize;
         j += 1;
     }
-    class[t.jobs] = t.classes + 1;
+    class[t.n] = t.s + 1;
 }

@@ -26,7 +26,8 @@ use Rattle.plan.specs.Plan.{Row}
 use Rattle.plan.specs.Check.{numbersOf}
 use Rattle.wrap.specs.Stretches.{stretchCount, mark}
 use Rattle.wrap.specs.Layout.{stretchRows, rowsUpTo, layout}
-use Rattle.layout.specs.Lent.{padded, amountIn, Rising}
+use Rattle.layout.specs.Lent.{padded, Rising}
+use Rattle.wrap.specs.Flows.{amountIn}
 use Rattle.layout.specs.Laid.{Laid, Numbered, rowsBetween}
 use Rattle.layout.proofs.Placing.{processors-are, jobs-are}
 use Rattle.wrap.specs.Marks.{mark-zero, mark-is, mark-up}

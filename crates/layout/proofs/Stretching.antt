@@ -8,7 +8,7 @@ use native.Mathlib.Nat.{mul-le-mul-right}
 use lib.ListN.{length, getD, take, drop, drop-of-length-le}
 use lib.Seq.{drop-cons, getD-take, length-take-le}
 use Rattle.wrap.specs.Layout.{Share, sharesOf}
-use Rattle.layout.specs.Lent.{amountIn}
+use Rattle.wrap.specs.Flows.{amountIn}
 use Rattle.layout.specs.Laid.{Laid, portion, rowsFrom, rowsBetween, Inside, ShareLaid, Numbered}
 use Rattle.layout.specs.declared.Place.{Place}
 use Rattle.layout.proofs.Writing.{laid-none, laid-then, laid-room}

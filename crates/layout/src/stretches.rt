@@ -13,7 +13,8 @@ ghost use Rattle.order.specs.Table.{orderOf};
 ghost use Rattle.plan.specs.Check.{numbersOf};
 ghost use Rattle.wrap.specs.Stretches.{stretchCount};
 ghost use Rattle.wrap.specs.Layout.{layout};
-ghost use Rattle.layout.specs.Lent.{padded, amountIn, Rising};
+ghost use Rattle.layout.specs.Lent.{padded, Rising};
+ghost use Rattle.wrap.specs.Flows.{amountIn};
 ghost use Rattle.layout.specs.Laid.{Laid, Numbered, rowsBetween};
 
 // The rows of stretch s, from minute start to minute end, behind the rows written so far; answers how many rows then stand.

@@ -19,7 +19,8 @@ use Rattle.wrap.specs.LayoutRight.{layout-right}
 use Rattle.wrap.specs.LayoutOrdered.{layout-count}
 use Rattle.engine.specs.View.{grid, Answer}
 use Rattle.engine.specs.Run.{RunOf}
-use Rattle.allot.specs.Instances.{flowIn, Sized, StandsFor, amountIn}
+use Rattle.allot.specs.Instances.{flowIn, Sized, StandsFor}
+use Rattle.wrap.specs.Flows.{amountIn}
 use Rattle.allot.specs.Feasible.{stands-sized, stands-feasible, stands-chosen}
 use Rattle.allot.specs.declared.Instance.{Instance}
 use Rattle.planner.specs.Rows.{rowsAsked}

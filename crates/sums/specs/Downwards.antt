@@ -1,10 +1,11 @@
 -- Laws of a list given downwards: what holds of its members, of each two, and what they are.
-use Prim.Native.Nat.{ℕ, zero, suc, _<_}
-use mathlib.Core.Path.{_≡_, refl, ap}
+use Prim.Native.Nat.{ℕ, zero, suc, _+_, _<_}
+use mathlib.Core.Path.{_≡_, refl, sym, ap, _∙_}
+use mathlib.Core.List.{List, [], _∷_, reverse, reverseAux}
 use mathlib.Core.Logic.{inl, inr}
 use native.Mathlib.Omega.{arith}
 use native.Mathlib.Decide.{ℕ-discrete}
-use lib.ListN.{length}
+use lib.ListN.{length, getD}
 use Rattle.sums.specs.Lists.{All, In, Pairwise, downTo}
 
 module _ {A : Type 0} (f : ℕ → A) where
@@ -30,3 +31,23 @@ module _ {A : Type 0} (f : ℕ → A) where
   pub length-down : (n : ℕ) → length (downTo f n) ≡ n
   length-down zero = refl
   length-down (suc n) = ap suc (length-down n)
+
+-- a list given downwards, turned round: behind its n entries stands what is put before
+module _ {A : Type 0} (f : ℕ → A) (d : A) where
+  behind : (n k : ℕ) (rs : List A) → getD (reverseAux (downTo f n) rs) (n + k) d ≡ getD rs k d
+  behind zero k rs = ap (λ (i : ℕ). getD rs i d) (omega arith)
+  behind (suc n) k rs =
+      ap (λ (i : ℕ). getD (reverseAux (downTo f n) (f n ∷ rs)) i d) (omega arith) ∙ behind n (suc k) (f n ∷ rs)
+
+  upwards : (n s : ℕ) (rs : List A) → s < n → getD (reverseAux (downTo f n) rs) s d ≡ f s
+  upwards zero s rs l = absurd (omega arith)
+  upwards (suc n) s rs l =
+      elim (ℕ-discrete s n) [
+        | yes e ↦
+            ap (λ (i : ℕ). getD (reverseAux (downTo f n) (f n ∷ rs)) i d) (omega arith)
+            ∙ (behind n 0 (f n ∷ rs) ∙ ap f (sym e))
+        | no e ↦ upwards n s (f n ∷ rs) (omega arith)
+      ]
+
+  pub down-reversed : (n s : ℕ) → s < n → getD (reverse (downTo f n)) s d ≡ f s
+  down-reversed n s l = upwards n s [] l

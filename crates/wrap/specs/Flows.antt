@@ -1,14 +1,15 @@
 -- An order at a bound as the jobs, classes and marks of the crate `amounts`: its feasible amounts are those from which a
 -- plan is laid out, and where every job is in time its theorems hold.
-use Prim.Native.Nat.{ℕ, zero, suc, _≤_, _<_}
+use Prim.Native.Nat.{ℕ, zero, suc, _+_, _*_, _≤_, _<_, pred}
 use mathlib.Core.Path.{_≡_, refl, sym, ap, _∙_}
 use mathlib.Core.Bool.{Bool}
+use mathlib.Core.List.{List}
 use native.Mathlib.Omega.{arith}
 use native.Mathlib.Decide.{decLe, decLt}
 use borrow.Author.Tests.{leb-true, le-leb, lt-leb}
 use lib.Dec.{leb}
 use lib.IntN.{ℤ, pos}
-use lib.ListN.{length}
+use lib.ListN.{length, getD}
 use lib.Signed.{_≤ℤ_}
 use Rattle.sums.specs.Sum.{sum, sum-cong}
 use Rattle.sums.specs.Gate.{gate, gate-in, gate-out, gate-≤}
@@ -45,6 +46,10 @@ jobsFor o bound =
 abbrev pub byNumber : (ℕ → ℕ → ℕ) → ℕ → ℕ → ℕ
 byNumber a zero s = 0
 byNumber a (suc j) s = a j s
+
+-- flat amounts: a row of q numbers for each job; the minutes of job j, numbered from 1, in stretch s
+abbrev pub amountIn : ℕ → List ℕ → ℕ → ℕ → ℕ
+amountIn q w j s = getD w (pred j * q + s) 0
 
 pub gate-only : (c k v : ℕ) → gate c (suc k) v ≡ only (leb c k) v
 gate-only c k v =

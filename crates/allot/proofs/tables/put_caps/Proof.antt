@@ -6,16 +6,16 @@ use lib.ListN.{length}
 use Rattle.engine.specs.View.{row-end}
 use Rattle.allot.proofs.Writing.{rows-none, rows-more}
 use Rattle.allot.specs.Tables.{Rows}
-use Rattle.allot.specs.Instances.{capIn}
+use Rattle.allot.specs.Flows.{capOn}
 use Rattle.allot.proofs.tables.put_caps.Statement.{statement}
 use Rattle.allot.proofs.tables.put_caps.Tie as tie
 
 abbrev Inv-loop : tie.InvT-loop
-Inv-loop cap₀ t marks j₀ cap j =
-    (j ≤ t .jobs) × (length cap ≡ length cap₀) × Rows cap j (t .stretches) (capIn t)
+Inv-loop cap₀ deadlines marks t j₀ cap j =
+    (j ≤ t .n) × (length cap ≡ length cap₀) × Rows cap j (t .q) (capOn deadlines marks)
 
 abbrev μ-loop : tie.MeasureT-loop
-μ-loop cap₀ t marks j₀ cap j = t .jobs - j
+μ-loop cap₀ deadlines marks t j₀ cap j = t .n - j
 
 loop-holds : tie.Need-loop-holds Inv-loop μ-loop
 loop-holds c = (search needs, search needs, rows-none _ _ _)
@@ -29,12 +29,12 @@ element-copy-out-put-caps-row c = search needs
 mul-put-caps-row-2 : tie.Need-mul-put-caps-row-2 Inv-loop μ-loop
 mul-put-caps-row-2 c =
     let t = c .before .before .before .before .before .before .before .args .t2 in
-    omega (arith, row-end (c .before .before .before .before .loop .j) (t .stretches) (t .jobs) (omega arith))
+    omega (arith, row-end (c .before .before .before .before .loop .j) (t .q) (t .n) (omega arith))
 
 put-caps-row-requires : tie.Need-put-caps-row-requires Inv-loop μ-loop
 put-caps-row-requires c κs =
     let t = c .before .before .before .before .before .before .before .args .t2 in
-    (search needs, omega (arith, row-end (c .before .before .before .before .loop .j) (t .stretches) (t .jobs) (omega arith)))
+    (search needs, omega (arith, row-end (c .before .before .before .before .loop .j) (t .q) (t .n) (omega arith)))
 
 add-j : tie.Need-add-j Inv-loop μ-loop
 add-j c = search needs
@@ -53,7 +53,7 @@ same-length c = search needs
 
 returns : tie.Need-returns Inv-loop μ-loop
 returns c =
-    let e : c .before .loop .j ≡ c .before .before .before .before .args .t2 .jobs = omega arith in
+    let e : c .before .loop .j ≡ c .before .before .before .before .args .t2 .n = omega arith in
     rw e at (c .before .loop .inv .2)
 
 pub put-caps-spec : {M : Type 1} → statement M

@@ -4,7 +4,8 @@ use native.Mathlib.Omega.{arith}
 use borrow.Author.Needs.{needs}
 use lib.ListN.{length, length-set}
 use Rattle.allot.proofs.Writing.{put-none, put-more}
-use Rattle.allot.specs.Tables.{capAt, Put}
+use Rattle.allot.specs.Tables.{Put}
+use Rattle.allot.specs.Flows.{capAt}
 use Rattle.allot.proofs.tables.put_caps_row.Statement.{statement}
 use Rattle.allot.proofs.tables.put_caps_row.Tie as tie
 

@@ -11,11 +11,11 @@ use Rattle.allot.proofs.tables.put_classes.Tie as tie
 
 abbrev Inv-loop : tie.InvT-loop
 Inv-loop class₀ t j₀ class j =
-    (j ≤ t .jobs) × (length class ≡ length class₀)
-    × ((i : ℕ) → i < j → getD class i 0 ≡ getD (t .«job_classes») i 0)
+    (j ≤ t .n) × (length class ≡ length class₀)
+    × ((i : ℕ) → i < j → getD class i 0 ≡ getD (t .classes) i 0)
 
 abbrev μ-loop : tie.MeasureT-loop
-μ-loop class₀ t j₀ class j = t .jobs - j
+μ-loop class₀ t j₀ class j = t .n - j
 
 loop-holds : tie.Need-loop-holds Inv-loop μ-loop
 loop-holds c = (search needs, search needs, below-none _)

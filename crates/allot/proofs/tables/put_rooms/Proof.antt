@@ -8,16 +8,16 @@ use Rattle.sums.specs.Sum.{sum}
 use Rattle.engine.specs.View.{row-end}
 use Rattle.allot.specs.Tables.{countOf, Rows}
 use Rattle.allot.proofs.Writing.{rows-none, rows-more}
-use Rattle.allot.specs.Instances.{roomIn}
+use Rattle.allot.specs.Flows.{roomOn}
 use Rattle.allot.proofs.tables.put_rooms.Statement.{statement}
 use Rattle.allot.proofs.tables.put_rooms.Tie as tie
 
 abbrev Inv-loop : tie.InvT-loop
 Inv-loop room₀ t marks counts s₀ room s =
-    (s ≤ t .stretches) × (length room ≡ length room₀) × Rows room s (suc (t .classes)) (roomIn t)
+    (s ≤ t .q) × (length room ≡ length room₀) × Rows room s (suc (t .s)) (roomOn t marks)
 
 abbrev μ-loop : tie.MeasureT-loop
-μ-loop room₀ t marks counts s₀ room s = t .stretches - s
+μ-loop room₀ t marks counts s₀ room s = t .q - s
 
 loop-holds : tie.Need-loop-holds Inv-loop μ-loop
 loop-holds c = (search needs, search needs, rows-none _ _ _)
@@ -32,7 +32,7 @@ mul-put-rooms-row : tie.Need-mul-put-rooms-row Inv-loop μ-loop
 mul-put-rooms-row c =
     let t = c .before .before .before .before .before .before .before .before .before .before .args .t in
     let s = c .before .before .before .before .before .before .loop .s in
-    omega (arith, row-end s (suc (t .classes)) (t .stretches) (omega arith))
+    omega (arith, row-end s (suc (t .s)) (t .q) (omega arith))
 
 put-rooms-row-requires : tie.Need-put-rooms-row-requires Inv-loop μ-loop
 put-rooms-row-requires c κs =
@@ -44,7 +44,7 @@ put-rooms-row-requires c κs =
         sized .few-processors,
         omega (arith, c .before .before .length-of .ensures, sized .marks-small s (omega arith)),
       ),
-      omega (arith, row-end s (suc (t .classes)) (t .stretches) (omega arith)),
+      omega (arith, row-end s (suc (t .s)) (t .q) (omega arith)),
     )
 
 add-s : tie.Need-add-s Inv-loop μ-loop
@@ -59,10 +59,10 @@ loop-again c =
     let l = c .before .before .before .before .before .before .before .before .before .loop in
     let p = c .before .before .put-rooms-row in
     let e = c .before .before .before .before .before .length-of .ensures in
-    let place = ap (λ (m : ℕ). l .s * m) (add-one (t .classes)) in (
+    let place = ap (λ (m : ℕ). l .s * m) (add-one (t .s)) in (
       search needs,
       search needs,
-      rows-more _ _ _ _ _ (roomIn t) _ place (λ k. ap (λ (x : ℕ). sum k (countOf (t .counts)) * x) e) (l .inv .2)
+      rows-more _ _ _ _ _ (roomOn t marks) _ place (λ k. ap (λ (x : ℕ). sum k (countOf (t .procs)) * x) e) (l .inv .2)
           (p .ensures),
     )
 
@@ -72,7 +72,7 @@ same-length c = search needs
 returns : tie.Need-returns Inv-loop μ-loop
 returns c =
     let l = c .before .before .loop in
-    let e : l .s ≡ c .before .before .before .before .before .before .args .t .stretches = omega arith in
+    let e : l .s ≡ c .before .before .before .before .before .before .args .t .q = omega arith in
     rw e at (l .inv .2)
 
 pub put-rooms-spec : {M : Type 1} → statement M

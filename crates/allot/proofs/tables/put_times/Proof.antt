@@ -12,11 +12,11 @@ use Rattle.allot.proofs.tables.put_times.Tie as tie
 
 abbrev Inv-loop : tie.InvT-loop
 Inv-loop time₀ t j₀ time j =
-    (j ≤ t .jobs) × (length time ≡ length time₀)
+    (j ≤ t .n) × (length time ≡ length time₀)
     × ((i : ℕ) → i < j → getD time i 0 ≡ getD (t .times) i 0)
 
 abbrev μ-loop : tie.MeasureT-loop
-μ-loop time₀ t j₀ time j = t .jobs - j
+μ-loop time₀ t j₀ time j = t .n - j
 
 loop-holds : tie.Need-loop-holds Inv-loop μ-loop
 loop-holds c = (search needs, search needs, below-none _)
@@ -64,9 +64,9 @@ mul-time-4 c =
     let sized = c .before .before .before .before .before .before .pre .0 in
     omega (
       arith,
-      room-small (c .before .processors-to .result) (getD (t .marks) (t .stretches - 1) 0)
+      room-small (c .before .processors-to .result) (getD marks (t .q - 1) 0)
           (omega (arith, c .before .processors-to .ensures, sized .few-processors))
-          (sized .marks-small (t .stretches - 1) (omega arith)),
+          (sized .marks-small (t .q - 1) (omega arith)),
     )
 
 mul-time-5 : tie.Need-mul-time-5 Inv-loop μ-loop

@@ -6,7 +6,7 @@ use mir.Val.{toZ}
 use mir.ValLaws.{toZ-ofZ}
 use mir.Syntax.{w32}
 use Rattle.order.specs.Table.{orderOf}
-use Rattle.layout.specs.Lent.{amountIn}
+use Rattle.wrap.specs.Flows.{amountIn}
 use Rattle.layout.proofs.Planning.{
   Given,
   given,
