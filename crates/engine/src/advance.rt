@@ -7,11 +7,12 @@ use super::slices::lower;
 use super::slices::raise;
 use super::slices::transfer;
 ghost use Prim.Native.Nat.{ℕ, _+_, _^_, _<_, _≤_};
-ghost use lib.ListN.{length, getD};
+ghost use lib.ListN.{length, getD, set};
 ghost use Rattle.engine.specs.View.{Amount, Shifted, Ready, Advanced, Pushed, flowOf, fillOf};
 ghost use Rattle.engine.specs.Run.{Displaced, DischargeRun};
 ghost use Rattle.amounts.specs.State.{Able};
 ghost use mathlib.Core.List.{[]};
+ghost use mathlib.Core.Path.{_≡_};
 
 pub fn lesser(a: u32, b: u32) -> u32
     ensures { λ r. ⌜ (r ≤ a) × (r ≤ b) × ((v : ℕ) → v ≤ a → v ≤ b → v ≤ r) ⌝ }
@@ -93,6 +94,14 @@ pub fn push(
     reslack(slack, base, c, e, d);
 }
 
+// Job j rises by one.
+pub fn rise(height: &mut [usize], j: usize)
+    requires { ⌜ (j < length (now height)) × (getD (now height) j 0 + 1 < 2 ^ 64) ⌝ }
+    ensures { λ r. ⌜ now (height .exit) ≡ set (now (height .entry)) j (getD (now (height .entry)) j 0 + 1) ⌝ }
+{
+    height[j] = height[j] + 1;
+}
+
 // Job j displaces until nothing of it is left, or it rises.
 pub fn discharge(
     time: &[u32],
@@ -119,30 +128,25 @@ pub fn discharge(
 {
     let mut u = q;
     while 0 < left[j] {
-        match find(class, cap, w, slack, height, n, q, m, j, u) {
-            Move::Push(s, i) => {
-                push(
-                    time,
-                    class,
-                    cap,
-                    room,
-                    w,
-                    slack,
-                    left,
-                    height,
-                    n,
-                    q,
-                    m,
-                    j,
-                    s,
-                    i,
-                );
-                u = s + 1;
-            }
-            Move::Rise => {
-                height[j] = height[j] + 1;
-                return;
-            }
-        }
+        let Move::Push(s, i) = find(class, cap, w, slack, height, n, q, m, j, u) else {
+            return rise(height, j);
+        };
+        push(
+            time,
+            class,
+            cap,
+            room,
+            w,
+            slack,
+            left,
+            height,
+            n,
+            q,
+            m,
+            j,
+            s,
+            i,
+        );
+        u = s + 1;
     }
 }

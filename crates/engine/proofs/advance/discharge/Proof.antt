@@ -11,6 +11,7 @@ use Rattle.engine.proofs.advance.discharge.Reads as reads
 use Rattle.engine.proofs.advance.discharge.Lts as lts
 use Rattle.engine.proofs.moves.find.Reads as find-reads
 use Rattle.engine.proofs.advance.push.Reads as push-reads
+use Rattle.engine.proofs.advance.rise.Reads as rise-reads
 
 abbrev Inv-loop : tie.InvT-loop
 Inv-loop time class cap room w₀ slack₀ left₀ height₀ n q m j u₀ w slack left height u =
@@ -43,6 +44,37 @@ find-requires c κs =
 enum-known-s : tie.Need-enum-known-s Inv-loop μ-loop
 enum-known-s c = search needs
 
+enum-told : tie.Need-enum-told Inv-loop μ-loop
+enum-told c = search needs
+
+rise-requires : tie.Need-rise-requires Inv-loop μ-loop
+rise-requires c κs = search needs
+
+same-length : tie.Need-same-length Inv-loop μ-loop
+same-length c = search needs
+
+same-length-2 : tie.Need-same-length-2 Inv-loop μ-loop
+same-length-2 c = search needs
+
+same-length-3 : tie.Need-same-length-3 Inv-loop μ-loop
+same-length-3 c = search needs
+
+same-length-4 : tie.Need-same-length-4 Inv-loop μ-loop
+same-length-4 c = search needs
+
+returns : tie.Need-returns Inv-loop μ-loop
+returns c =
+    let r = c .before .before in
+    let k = r .before .before .before .before .before in
+    let G = k .before .before .before .before .before .loop .inv in
+    let B = found-as _ _ _ _ _ (r .before .before .before .before .find .ensures) (r .before .before .enum-told .given .1) in
+    rw (r .rise .ensures) (
+      going-rise _ _ _ _ _ _ _ _ _ _ _ _ _ _ _ _ _ G (top k .pre .1 .0)
+          (omega (arith, k .before .before .before .before .slice-known5 .given (top k .args .j))) B,
+      run-rise _ _ _ _ _ _ _ _ _ _ _ _ _ _ _ _ _ G (omega (arith, top k .pre .1 .0, G .ready .sizes .s-h))
+          (k .before .before .before .if1 .taken) B,
+    )
+
 push-requires : tie.Need-push-requires Inv-loop μ-loop
 push-requires c κs =
     let f = c .before .before .before .before .before .before .before in
@@ -69,47 +101,6 @@ loop-again c =
     let k = p .kept .1 .1 .1 .1 in
     going-push _ _ _ _ _ _ _ _ _ _ _ _ _ _ _ _ _ (t .before .before .loop .inv) _ _ _ _ _ (t .if1 .taken)
     (found-as _ _ _ _ _ (f .find .ensures) (g .s .given .1)) (p .ensures .0) (k .0) (k .1 .0) (k .1 .1 .0) (p .ensures .1)
-
-enum-told : tie.Need-enum-told Inv-loop μ-loop
-enum-told c = search needs
-
-mul-height : tie.Need-mul-height Inv-loop μ-loop
-mul-height c = search needs
-
-slice-read-height : tie.Need-slice-read-height Inv-loop μ-loop
-slice-read-height c = search needs
-
-add-height : tie.Need-add-height Inv-loop μ-loop
-add-height c = search needs
-
-mul-height-2 : tie.Need-mul-height-2 Inv-loop μ-loop
-mul-height-2 c = search needs
-
-slice-write-height : tie.Need-slice-write-height Inv-loop μ-loop
-slice-write-height c = search needs
-
-same-length : tie.Need-same-length Inv-loop μ-loop
-same-length c = search needs
-
-same-length-2 : tie.Need-same-length-2 Inv-loop μ-loop
-same-length-2 c = search needs
-
-same-length-3 : tie.Need-same-length-3 Inv-loop μ-loop
-same-length-3 c = search needs
-
-same-length-4 : tie.Need-same-length-4 Inv-loop μ-loop
-same-length-4 c = search needs
-
-returns : tie.Need-returns Inv-loop μ-loop
-returns c =
-    let k = c .before .before .before .before in
-    let G = k .before .before .before .before .before .loop .inv in
-    let B = found-as _ _ _ _ _ (c .before .before .before .find .ensures) (c .before .enum-told .given .1) in (
-      going-rise _ _ _ _ _ _ _ _ _ _ _ _ _ _ _ _ _ G (top k .pre .1 .0)
-          (omega (arith, k .before .before .before .before .slice-known5 .given (top k .args .j))) B,
-      run-rise _ _ _ _ _ _ _ _ _ _ _ _ _ _ _ _ _ G (omega (arith, top k .pre .1 .0, G .ready .sizes .s-h))
-          (k .before .before .before .if1 .taken) B,
-    )
 
 same-length-5 : tie.Need-same-length-5 Inv-loop μ-loop
 same-length-5 c = search needs
@@ -141,21 +132,17 @@ discharge-spec =
     slice-read-if1
     find-requires
     enum-known-s
-    push-requires
-    add-u
-    loop-less
-    loop-again
     enum-told
-    mul-height
-    slice-read-height
-    add-height
-    mul-height-2
-    slice-write-height
+    rise-requires
     same-length
     same-length-2
     same-length-3
     same-length-4
     returns
+    push-requires
+    add-u
+    loop-less
+    loop-again
     same-length-5
     same-length-6
     same-length-7
