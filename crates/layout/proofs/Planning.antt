@@ -122,25 +122,20 @@ module _ {t : OrderTable} {bound : ℤ} {dues : List ℤ} {q : ℕ} {processors 
   a = amountIn q w
 
   pub few-processors : t .processors ≤ 16
-  few-processors =
-      omega (
-        arith,
-        accepted-iff o .0 (g .accepted) .few-processors,
-        length-tabulate (t .processors) (λ i. getD (t .memories) i 0),
-      )
+  few-processors = counts-few t (g .accepted) .0
 
   pub few-jobs : t .jobs ≤ 48
-  few-jobs = omega (arith, accepted-iff o .0 (g .accepted) .few-jobs, length-tabulate (t .jobs) (jobAt t))
+  few-jobs = counts-few t (g .accepted) .1
 
   pub at-most-48 : q ≤ 48
   at-most-48 = omega (arith, g .count, few-stretches o, few-jobs, length-tabulate (t .jobs) (jobAt t))
 
   -- the orderings stand at the first places of their arrays
   processors-length : length (processorOrder o) ≡ t .processors
-  processors-length = ap length (processors-are t) ∙ sorted-length _ (t .processors)
+  processors-length = processors-ordered o .count ∙ length-tabulate (t .processors) (λ i. getD (t .memories) i 0)
 
   jobs-length : length (jobOrder o) ≡ t .jobs
-  jobs-length = ap length (jobs-are t) ∙ sorted-length _ (t .jobs)
+  jobs-length = jobs-ordered o .count ∙ length-tabulate (t .jobs) (jobAt t)
 
   first-processors : take (t .processors) processors ≡ processorOrder o
   first-processors = take-padded 16 (processorOrder o) _ processors processors-length few-processors (g .the-processors)
@@ -151,9 +146,9 @@ module _ {t : OrderTable} {bound : ℤ} {dues : List ℤ} {q : ℕ} {processors 
   pub numbered : Numbered (t .jobs) jobs
   numbered = record {
     at = λ k l.
-        let n = rw (sym (jobs-are t)) at (sorted-numbers (λ j. jobOf o j .need) (t .jobs)) in
+        let b = All-at _ (jobOrder o) 0 (jobs-ordered o .no-other) k (omega (arith, jobs-length)) in
         rw (g .the-jobs, getD-tabulate 48 (λ i. getD (jobOrder o) i 0) 0 k (omega (arith, few-jobs)))
-        (All-at _ (jobOrder o) 0 n k (omega (arith, jobs-length)));
+        (omega (arith, b, length-tabulate (t .jobs) (jobAt t)));
   }
 
   pub due-good : (s : ℕ) → s < q → mag (getD dues s (pos 0)) < 2147483648 →

@@ -1,17 +1,12 @@
--- What the layout's functions are lent: the orders as arrays, the ends of the stretches, the amounts as flat rows.
+-- What the layout's functions are lent: the ends of the stretches, the amounts as flat rows.
 use Prim.Native.Nat.{ℕ, _+_, _*_, _<_, pred}
 use mathlib.Core.Path.{_≡_}
 use mathlib.Core.List.{List, reverse}
 use lib.IntN.{ℤ, pos}
 use lib.ListN.{getD}
-use Rattle.sums.specs.Lists.{tabulate}
 use Rattle.order.specs.Order.{Order}
 use Rattle.order.specs.Sorted.{dueTimes}
 use Rattle.wrap.specs.Stretches.{stretchCount}
-
--- k numbers: those given, and 0 beyond
-abbrev pub padded : ℕ → List ℕ → List ℕ
-padded k xs = tabulate k (λ i. getD xs i 0)
 
 -- flat amounts: `w` has a row of q numbers for each job, from job 1 on; the minutes of job j in stretch s
 abbrev pub amountIn : ℕ → List ℕ → ℕ → ℕ → ℕ

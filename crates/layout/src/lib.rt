@@ -1,5 +1,4 @@
-// McNaughton's wrap, running (document 01, "Plans"): the orderings of processors and jobs, and the rows of amounts.
-pub mod orderings; // processors by falling memory, jobs by falling need
+// McNaughton's wrap, running (document 01, "Plans"): the rows of amounts.
 mod rows; // one row, one share
 pub mod stretches; // the rows of a stretch, and of a plan
 

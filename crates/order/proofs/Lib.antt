@@ -1,3 +1,4 @@
 mod Signed
 mod Ranges
 mod Judging
+mod Placing

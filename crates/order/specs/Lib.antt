@@ -16,3 +16,4 @@ pub mod SortedLaws
 pub mod ClassLaws
 pub mod OrderingLaws
 pub mod RankLaws
+pub mod Rank

@@ -1,5 +1,6 @@
 -- What the code's values stand for: the order of its struct, the number of each refusal and what it carries.
 use Prim.Native.Nat.{ℕ, zero, suc}
+use mathlib.Core.List.{List}
 use lib.IntN.{pos}
 use lib.ListN.{getD}
 use Rattle.sums.specs.Lists.{tabulate}
@@ -34,11 +35,15 @@ orderOf t = record {
   jobs = tabulate (t .jobs) (jobAt t);
 }
 
+-- k numbers: those given, and 0 beyond
+abbrev pub padded : ℕ → List ℕ → List ℕ
+padded k xs = tabulate k (λ i. getD xs i 0)
+
 -- an order as a struct: 0 beyond the counts
 unfoldable pub tableOf : Order → OrderTable
 tableOf o = record {
   processors = processorCount o;
-  memories = tabulate (limits .processors) (λ i. getD (o .memories) i 0);
+  memories = padded (limits .processors) (o .memories);
   jobs = jobCount o;
   times = tabulate (limits .jobs) (λ j. getD (o .jobs) j noJob .time);
   dues = tabulate (limits .jobs) (λ j. getD (o .jobs) j noJob .due);

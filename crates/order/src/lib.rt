@@ -1,6 +1,7 @@
-// What an order is (document 01, "Order and file"), and whether it is accepted.
+// What an order is (document 01, "Order and file"), whether it is accepted, and its orderings.
 pub mod accept; // refusals 1 to 7
 pub mod deadline; // a job's end, cut off at minute 0
+pub mod orderings; // processors by falling memory, jobs by falling need
 pub mod told; // refusals as numbers
 
 // The limits on processors and jobs; the arrays below are as long.

@@ -3,10 +3,10 @@
 use super::setup::instance_of;
 use super::setup::rising_dues;
 use allot::filling::fill_amounts;
-use layout::orderings::job_order;
-use layout::orderings::processor_order;
 use layout::stretches::lay_plan;
 use order::Order;
+use order::orderings::job_order;
+use order::orderings::processor_order;
 use reason::Setting;
 ghost use mathlib.Core.Path.{_≡_};
 ghost use mathlib.Core.Bool.{true};

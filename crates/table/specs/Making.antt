@@ -1,5 +1,5 @@
 -- The table of a struct, from its parts; and the numbers of an accepted order's table are in range.
-use Prim.Native.Nat.{ℕ, suc, _<_}
+use Prim.Native.Nat.{ℕ, suc, _≤_, _<_}
 use mathlib.Core.Path.{_≡_, sym, ap, _∙_}
 use mathlib.Core.List.{List}
 use native.Mathlib.Omega.{arith}
@@ -9,9 +9,10 @@ use Rattle.sums.specs.Sum.{sum-cong}
 use Rattle.sums.specs.Members.{All-at}
 use Rattle.sums.specs.Places.{length-tabulate, getD-tabulate}
 use Rattle.order.specs.Order.{Order, Job, jobCount, jobOf, noJob}
+use Rattle.order.specs.Sorted.{processorOrder, jobOrder}
 use Rattle.order.specs.Class.{classes, classOf, processorsIn, processorsTo}
 use Rattle.order.specs.RefusalLaws.{Acceptable, dues-in-range}
-use Rattle.order.specs.Table.{orderOf, jobAt}
+use Rattle.order.specs.Table.{orderOf, jobAt, padded}
 use Rattle.order.specs.declared.Order.{Order as OrderTable}
 use Rattle.order.specs.Lead.{lead, lastDue}
 use Rattle.sums.specs.Arrays.{RowOf}
@@ -23,11 +24,13 @@ use Rattle.order.specs.LeadLaws.{lead-most}
 use Rattle.table.specs.GridLaws.{grid-small}
 
 -- the table of a struct, from its parts
-pub tabled-made : (t : OrderTable) (m g : Members) (cs ls ps : List ℕ) → ClassesOf (orderOf t) m → GridOf lastDue (orderOf t) g →
+pub tabled-made : (t : OrderTable) → t .jobs ≤ 48 → t .processors ≤ 16 → (m g : Members) (cs ls ps ms ns : List ℕ) → ClassesOf (orderOf t) m → GridOf lastDue (orderOf t) g →
     RowOf (λ j. classOf (orderOf t) (jobAt t j)) (t .jobs) cs → RowOf (λ j. lead lastDue (getD (t .dues) j (pos 0))) (t .jobs) ls →
     RowOf (λ i. processorsIn (orderOf t) (suc i)) 16 ps →
+    ms ≡ padded 16 (processorOrder (orderOf t)) → ns ≡ padded 48 (jobOrder (orderOf t)) →
     Tabled lastDue (orderOf t) (record {
       n = t .jobs;
+      m = t .processors;
       s = m .count;
       q = g .count;
       times = t .times;
@@ -35,10 +38,15 @@ pub tabled-made : (t : OrderTable) (m g : Members) (cs ls ps : List ℕ) → Cla
       leads = ls;
       procs = ps;
       grid = g .at;
+      «by_memory» = ms;
+      «by_need» = ns;
     })
-tabled-made t m g cs ls ps c d hc hl hp =
+tabled-made t few-jobs few-processors m g cs ls ps ms ns c d hc hl hp hm hn =
     record {
       jobs = sym (length-tabulate (t .jobs) (jobAt t));
+      processors = sym (length-tabulate (t .processors) (λ i. getD (t .memories) i 0));
+      few-jobs = few-jobs;
+      few-processors = few-processors;
       few-classes = c .few;
       classed = sym (length-tabulate (m .count) (λ i. getD (m .at) i 0)) ∙ ap length (c .list);
       times = λ j l. ap (λ (job : Job). job .time) (sym (job j l));
@@ -46,6 +54,8 @@ tabled-made t m g cs ls ps c d hc hl hp =
       classes-of = λ j l. hc .at j (few l) ∙ ap (classOf (orderOf t)) (sym (job j l));
       procs = hp .at;
       grid = d;
+      by-memory = hm;
+      by-need = hn;
     }
   where
     few : {j : ℕ} → j < jobCount (orderOf t) → j < t .jobs

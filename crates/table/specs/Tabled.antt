@@ -6,9 +6,10 @@ use lib.ListN.{length, getD}
 use lib.IntN.{ℤ}
 use Rattle.sums.specs.Sum.{sum}
 use Rattle.sums.specs.Lists.{downTo}
-use Rattle.order.specs.Order.{Order, jobCount, jobOf}
-use Rattle.order.specs.Sorted.{dueTimes}
+use Rattle.order.specs.Order.{Order, processorCount, jobCount, jobOf}
+use Rattle.order.specs.Sorted.{dueTimes, processorOrder, jobOrder}
 use Rattle.order.specs.Class.{classes, classOf, processorsIn}
+use Rattle.order.specs.Table.{padded}
 use Rattle.order.specs.Lead.{lead, dueAt}
 use Rattle.table.specs.Downwards.{listed}
 use Rattle.table.specs.declared.Members.{Members}
@@ -29,6 +30,9 @@ pub record GridOf (top : ℤ) (o : Order) (m : Members) : Type 0 where
 -- a table is that of an order
 pub record Tabled (top : ℤ) (o : Order) (t : Table) : Type 0 where
   pub jobs : t .n ≡ jobCount o
+  pub processors : t .m ≡ processorCount o
+  pub few-jobs : t .n ≤ 48
+  pub few-processors : t .m ≤ 16
   pub few-classes : t .s ≤ 16
   pub classed : t .s ≡ length (classes o)
   pub times : (j : ℕ) → j < jobCount o → getD (t .times) j 0 ≡ jobOf o (suc j) .time
@@ -36,6 +40,8 @@ pub record Tabled (top : ℤ) (o : Order) (t : Table) : Type 0 where
   pub classes-of : (j : ℕ) → j < jobCount o → getD (t .classes) j 0 ≡ classOf o (jobOf o (suc j))
   pub procs : (i : ℕ) → i < 16 → getD (t .procs) i 0 ≡ processorsIn o (suc i)
   pub grid : GridOf top o (record { count = t .q; at = t .grid })
+  pub by-memory : t .«by_memory» ≡ padded 16 (processorOrder o)
+  pub by-need : t .«by_need» ≡ padded 48 (jobOrder o)
 
 -- the numbers of a table are those of an accepted order
 pub record Fine (t : Table) : Type 0 where

@@ -11,10 +11,12 @@ pub struct Members {
     pub at: [u32; 48],
 }
 
-// Counts of jobs (n), classes (s) and distinct due times (q); for each job its time, its class from 1 and its lead (1,000,000 less the
-// due time); the processors of each class; the leads of the distinct due times, by rising due time.
+// Counts of jobs (n), processors (m), classes (s) and distinct due times (q); for each job its time, its class from 1 and its lead
+// (1,000,000 less the due time); the processors of each class; the leads of the distinct due times, by rising due time; the processors'
+// numbers by falling memory and the jobs' numbers by falling need, ties in input order, 0 beyond.
 pub struct Table {
     pub n: usize,
+    pub m: usize,
     pub s: usize,
     pub q: usize,
     pub times: [u32; 48],
@@ -22,4 +24,6 @@ pub struct Table {
     pub leads: [u32; 48],
     pub procs: [u32; 16],
     pub grid: [u32; 48],
+    pub by_memory: [u32; 16],
+    pub by_need: [u32; 48],
 }

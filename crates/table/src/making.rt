@@ -6,6 +6,8 @@ use super::class::processors_by_class;
 use super::lead::grid_of;
 use super::lead::leads_of;
 use order::Order;
+use order::orderings::job_order;
+use order::orderings::processor_order;
 ghost use Rattle.order.specs.Lead.{lastDue};
 ghost use Rattle.order.specs.Refusals.{Accepted};
 ghost use Rattle.order.specs.Table.{orderOf};
@@ -21,6 +23,7 @@ pub fn table_of(order: Order) -> Table
     let grid = dues.at;
     Table {
         n: order.jobs as usize,
+        m: order.processors as usize,
         s: memories.count,
         q: dues.count,
         times,
@@ -28,5 +31,7 @@ pub fn table_of(order: Order) -> Table
         leads: leads_of(order),
         procs: processors_by_class(order, memories),
         grid,
+        by_memory: processor_order(order),
+        by_need: job_order(order),
     }
 }

@@ -15,8 +15,8 @@ use Rattle.planner.proofs.making.make_plan.Tie as tie
 use Rattle.planner.proofs.making.make_plan.Lts as lts
 use Rattle.planner.proofs.making.make_plan.Reads as reads
 use Rattle.allot.proofs.filling.fill_amounts.Reads as fill-amounts-reads
-use Rattle.layout.proofs.orderings.job_order.Reads as job-order-reads
-use Rattle.layout.proofs.orderings.processor_order.Reads as processor-order-reads
+use Rattle.order.proofs.orderings.job_order.Reads as job-order-reads
+use Rattle.order.proofs.orderings.processor_order.Reads as processor-order-reads
 use Rattle.layout.proofs.stretches.lay_plan.Reads as lay-plan-reads
 use Rattle.planner.proofs.setup.instance_of.Reads as instance-of-reads
 use Rattle.planner.proofs.setup.rising_dues.Reads as rising-dues-reads

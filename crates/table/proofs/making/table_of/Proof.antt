@@ -1,4 +1,5 @@
 use borrow.Author.Needs.{needs}
+use Rattle.order.specs.StructLaws.{few-jobs, few-processors}
 use Rattle.table.specs.Making.{tabled-made}
 use Rattle.table.proofs.making.table_of.Statement.{statement}
 use Rattle.table.proofs.making.table_of.Tie as tie
@@ -12,6 +13,9 @@ grid-of-requires c κs = search needs
 cast-t6 : tie.Need-cast-t6
 cast-t6 c = search needs
 
+cast-t7 : tie.Need-cast-t7
+cast-t7 c = search needs
+
 classes-of-jobs-requires : tie.Need-classes-of-jobs-requires
 classes-of-jobs-requires c κs = search needs
 
@@ -21,15 +25,27 @@ leads-of-requires c κs = search needs
 processors-by-class-requires : tie.Need-processors-by-class-requires
 processors-by-class-requires c κs = search needs
 
+processor-order-requires : tie.Need-processor-order-requires
+processor-order-requires c κs =
+    let s = c .before .before .before .before .before .before .before .before .before in
+    few-processors (s .args .order) (s .pre)
+
+job-order-requires : tie.Need-job-order-requires
+job-order-requires c κs =
+    let s = c .before .before .before .before .before .before .before .before .before .before in
+    few-jobs (s .args .order) (s .pre)
+
 returns : tie.Need-returns
 returns c =
-    let s = c .before .before .before .before .before .before .before .before in
-    let m = c .before .before .before .before .before .before .before .classes-of in
-    let g = c .before .before .before .before .before .before .grid-of in
-    tabled-made (s .args .order) (m .result) (g .result) (c .before .before .classes-of-jobs .result)
-    (c .before .leads-of .result)
-    (c .processors-by-class .result) (m .ensures) (g .ensures) (c .before .before .classes-of-jobs .ensures)
-    (c .before .leads-of .ensures) (c .processors-by-class .ensures)
+    let p = c .before .before in
+    let s = p .before .before .before .before .before .before .before .before .before in
+    let m = p .before .before .before .before .before .before .before .before .classes-of in
+    let g = p .before .before .before .before .before .before .before .grid-of in
+    tabled-made (s .args .order) (few-jobs (s .args .order) (s .pre)) (few-processors (s .args .order) (s .pre)) (m .result)
+    (g .result) (p .before .before .classes-of-jobs .result) (p .before .leads-of .result) (p .processors-by-class .result)
+    (c .before .processor-order .result) (c .job-order .result) (m .ensures) (g .ensures)
+    (p .before .before .classes-of-jobs .ensures) (p .before .leads-of .ensures) (p .processors-by-class .ensures)
+    (c .before .processor-order .ensures) (c .job-order .ensures)
 
 pub table-of-spec : {M : Type 1} → statement M
 table-of-spec =
@@ -38,7 +54,10 @@ table-of-spec =
     classes-of-requires
     grid-of-requires
     cast-t6
+    cast-t7
     classes-of-jobs-requires
     leads-of-requires
     processors-by-class-requires
+    processor-order-requires
+    job-order-requires
     returns)
