@@ -2,5 +2,5 @@ mod Writing
 mod Filling
 mod Sharing
 mod Stretching
-mod Marks
-mod Planning
+mod Opening
+mod Framing

@@ -32,7 +32,7 @@ module _ {n : ℕ} {jobs : List ℕ} (numbered : Numbered n jobs) (k q s : ℕ) 
       let e : suc (getD jobs k 0 - 1) ≤ n = omega (arith, h .0, h .1) in
       omega (arith, mul-le-mul-right q e)
 
-  pub amount-small : n ≤ 48 → q ≤ 48 → (getD jobs k 0 - 1) * q + s < 2400
+  pub amount-small : n ≤ 48 → q ≤ 128 → (getD jobs k 0 - 1) * q + s < 6400
   amount-small f g =
       let h = numbered .at k l in
       let e : getD jobs k 0 - 1 ≤ 48 = omega (arith, h .1) in

@@ -1,2 +1,3 @@
-pub mod Lent
 pub mod Laid
+pub mod Planned
+pub mod PlannedLaws

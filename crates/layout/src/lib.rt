@@ -1,4 +1,5 @@
-// McNaughton's wrap, running (document 01, "Plans"): the rows of amounts.
+// McNaughton's wrap, running (document 01, "Plans"): the rows of amounts, stretch by stretch, on the processors that are open.
+mod opened; // the processors that are open in a stretch
 mod rows; // one row, one share
 pub mod stretches; // the rows of a stretch, and of a plan
 
@@ -7,4 +8,10 @@ pub struct Place {
     pub processor: usize,
     pub at: u32,
     pub rows: usize,
+}
+
+// Processors that are open, by falling memory: how many, and their numbers.
+pub struct Kept {
+    pub count: usize,
+    pub list: [u32; 16],
 }

@@ -1,27 +1,25 @@
 // The rows of one stretch, and of a whole plan. `lay_plan` serves the crates above; both have a `requires`.
 use super::Place;
+use super::opened::open_processors;
 use super::rows::lay_share;
-use order::Order;
+use table::Table;
 ghost use mathlib.Core.Path.{_≡_};
-ghost use mathlib.Core.Bool.{true};
 ghost use mathlib.Core.List.{_++_, []};
 ghost use Prim.Native.Nat.{_+_, _*_, _<_, _≤_};
 ghost use lib.ListN.{length, take, drop};
-ghost use Rattle.order.specs.Refusals.{Accepted, boundInRange};
-ghost use Rattle.order.specs.Sorted.{processorOrder, jobOrder};
-ghost use Rattle.order.specs.Table.{orderOf};
 ghost use Rattle.plan.specs.Check.{numbersOf};
-ghost use Rattle.wrap.specs.Stretches.{stretchCount};
-ghost use Rattle.wrap.specs.Layout.{layout};
-ghost use Rattle.layout.specs.Lent.{padded, Rising};
 ghost use Rattle.wrap.specs.Flows.{amountIn};
+ghost use Rattle.wrap.specs.Frame.{Rising};
+ghost use Rattle.layout.specs.Planned.{lentFrame, planned};
 ghost use Rattle.layout.specs.Laid.{Laid, Numbered, rowsBetween};
 
-// The rows of stretch s, from minute start to minute end, behind the rows written so far; answers how many rows then stand.
+// The rows of stretch s, from minute start to minute end, of n jobs on m processors, behind the rows written so far; answers
+// how many rows then stand.
 fn lay_stretch(
-    order: Order,
     processors: [u32; 16],
+    m: usize,
     jobs: [u32; 48],
+    n: usize,
     w: &[u32],
     q: usize,
     s: usize,
@@ -30,16 +28,14 @@ fn lay_stretch(
     rows: &mut [u32],
     written: usize,
 ) -> usize
-    requires { ⌜ (order .processors ≤ 16) × (order .jobs ≤ 48) × (q ≤ 48) × (s < q) × (order .jobs * q ≤ length (now w))
-        × (start ≤ end) × (written < 50000) × Numbered (order .jobs) jobs
-        × (4 * (written + length (rowsBetween start end (take (order .processors) processors) (take (order .jobs) jobs)
+    requires { ⌜ (m ≤ 16) × (n ≤ 48) × (q ≤ 128) × (s < q) × (n * q ≤ length (now w))
+        × (start ≤ end) × (written < 50000) × Numbered n jobs
+        × (4 * (written + length (rowsBetween start end (take m processors) (take n jobs)
         (amountIn q (now w)) s)) ≤ length (now rows)) ⌝ }
-    ensures { λ r. ⌜ Laid (rowsBetween start end (take (order .processors) processors) (take (order .jobs) jobs)
+    ensures { λ r. ⌜ Laid (rowsBetween start end (take m processors) (take n jobs)
         (amountIn q (now (w .entry))) s) [] written (now (rows .entry)) r (now (rows .exit))
-        × (r ≤ written + order .jobs + order .processors) ⌝ }
+        × (r ≤ written + n + m) ⌝ }
 {
-    let n = order.jobs as usize;
-    let m = order.processors as usize;
     let mut place = Place {
         processor: 0,
         at: start,
@@ -57,33 +53,49 @@ fn lay_stretch(
     place.rows
 }
 
-// The plan of amounts: all stretches, one after the other from row 0 on; answers how many rows stand.
+// The plan of amounts in a frame: all stretches, one after the other from row 0 on, each on the processors that are open in it;
+// stretch s ends at marks[s], and the first begins at minute 0. Answers how many rows stand.
 pub fn lay_plan(
-    order: Order,
-    bound: i32,
-    dues: [i32; 48],
+    t: Table,
+    marks: &[u32],
     q: usize,
-    processors: [u32; 16],
-    jobs: [u32; 48],
+    opens: &[u32],
+    closes: &[u32],
     w: &[u32],
     rows: &mut [u32],
 ) -> usize
-    requires { ⌜ Accepted (orderOf order) × (boundInRange bound ≡ true) × Rising (orderOf order) dues
-        × (q ≡ stretchCount (orderOf order)) ⌝ }
-    requires { ⌜ (processors ≡ padded 16 (processorOrder (orderOf order)))
-        × (jobs ≡ padded 48 (jobOrder (orderOf order))) ⌝ }
-    requires { ⌜ (order .jobs * q ≤ length (now w))
-        × (4 * length (layout (orderOf order) bound (amountIn q (now w))) ≤ length (now rows)) ⌝ }
-    ensures { λ r. ⌜ (r ≡ length (layout (orderOf order) bound (amountIn q (now (w .entry)))))
-        × (now (rows .exit) ≡ numbersOf (layout (orderOf order) bound (amountIn q (now (w .entry))))
-        ++ drop (4 * length (layout (orderOf order) bound (amountIn q (now (w .entry))))) (now (rows .entry))) ⌝ }
+    requires { ⌜ (t .m ≤ 16) × (t .n ≤ 48) × Numbered (t .m) (t .«by_memory») × Numbered (t .n) (t .«by_need»)
+        × (q ≤ 128) × (q ≤ length (now marks)) × (t .m ≤ length (now opens)) × (t .m ≤ length (now closes))
+        × (t .n * q ≤ length (now w)) × Rising (lentFrame q (now marks) (now opens) (now closes)) ⌝ }
+    requires { ⌜ 4 * length (planned t q (now marks) (now opens) (now closes) (now w)) ≤ length (now rows) ⌝ }
+    ensures { λ r. ⌜ (r ≡ length (planned t q (now (marks .entry)) (now (opens .entry)) (now (closes .entry)) (now (w .entry))))
+        × (now (rows .exit)
+        ≡ numbersOf (planned t q (now (marks .entry)) (now (opens .entry)) (now (closes .entry)) (now (w .entry)))
+        ++ drop (4 * length (planned t q (now (marks .entry)) (now (opens .entry)) (now (closes .entry)) (now (w .entry))))
+        (now (rows .entry))) ⌝ }
 {
     let mut written: usize = 0;
     let mut start: u32 = 0;
     let mut s: usize = 0;
     while s < q {
-        let end = order::deadline::deadline(dues[s], bound);
-        written = lay_stretch(order, processors, jobs, w, q, s, start, end, rows, written);
+        let end = marks[s];
+        let processors = t.by_memory;
+        let jobs = t.by_need;
+        let kept = open_processors(processors, t.m, opens, closes, start, end);
+        let list = kept.list;
+        written = lay_stretch(
+            list,
+            kept.count,
+            jobs,
+            t.n,
+            w,
+            q,
+            s,
+            start,
+            end,
+            rows,
+            written,
+        );
         start = end;
         s += 1;
     }

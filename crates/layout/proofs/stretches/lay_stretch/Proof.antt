@@ -18,17 +18,11 @@ use Rattle.layout.proofs.stretches.lay_stretch.Statement.{statement}
 use Rattle.layout.proofs.stretches.lay_stretch.Tie as tie
 
 abbrev Inv-loop : tie.InvT-loop
-Inv-loop processors w q s start end rows₀ written jobs n m place₀ k₀ rows place k =
+Inv-loop processors m n w q s start end rows₀ written jobs place₀ k₀ rows place k =
     Stretching start end m processors n jobs q w s written rows₀ place k rows
 
 abbrev μ-loop : tie.MeasureT-loop
-μ-loop processors w q s start end rows₀ written jobs n m place₀ k₀ rows place k = n - k
-
-cast-n : tie.Need-cast-n Inv-loop μ-loop
-cast-n c = search needs
-
-cast-m : tie.Need-cast-m Inv-loop μ-loop
-cast-m c = search needs
+μ-loop processors m n w q s start end rows₀ written jobs place₀ k₀ rows place k = n - k
 
 loop-holds : tie.Need-loop-holds Inv-loop μ-loop
 loop-holds c = stretching-start _ _ _ _ _ _ _ _ _ _ _ (omega arith)
@@ -41,35 +35,35 @@ array-read-job c = search needs
 
 sub-minutes : tie.Need-sub-minutes Inv-loop μ-loop
 sub-minutes c =
-    let s = c .before .before .before .before .before .before in
+    let s = c .before .before .before .before in
     s .pre .7 .at (c .before .loop .k) (c .loop-test .taken) .0
 
 cast-minutes : tie.Need-cast-minutes Inv-loop μ-loop
 cast-minutes c =
-    let s = c .before .before .before .before .before .before in
+    let s = c .before .before .before .before in
     omega (arith, s .pre .7 .at (c .before .loop .k) (c .loop-test .taken))
 
 mul-minutes : tie.Need-mul-minutes Inv-loop μ-loop
 mul-minutes c =
-    let s = c .before .before .before .before .before .before in
+    let s = c .before .before .before .before in
     let k = c .before .loop .k in
     omega (arith, amount-small (s .pre .7) k _ _ (c .loop-test .taken) (s .pre .3) (s .pre .1) (s .pre .2))
 
 add-minutes : tie.Need-add-minutes Inv-loop μ-loop
 add-minutes c =
-    let s = c .before .before .before .before .before .before in
+    let s = c .before .before .before .before in
     let k = c .before .loop .k in
     omega (arith, amount-small (s .pre .7) k _ _ (c .loop-test .taken) (s .pre .3) (s .pre .1) (s .pre .2))
 
 mul-minutes-2 : tie.Need-mul-minutes-2 Inv-loop μ-loop
 mul-minutes-2 c =
-    let s = c .before .before .before .before .before .before in
+    let s = c .before .before .before .before in
     let k = c .before .loop .k in
     omega (arith, amount-small (s .pre .7) k _ _ (c .loop-test .taken) (s .pre .3) (s .pre .1) (s .pre .2))
 
 shared-slice-read-minutes : tie.Need-shared-slice-read-minutes Inv-loop μ-loop
 shared-slice-read-minutes c =
-    let s = c .before .before .before .before .before .before .before in
+    let s = c .before .before .before .before .before in
     let k = c .before .before .loop .k in
     omega (arith, amount-inside (s .pre .7) k _ _ (c .before .loop-test .taken) (s .pre .3), s .pre .4)
 
@@ -78,7 +72,7 @@ add-k c = search needs
 
 lay-share-requires : tie.Need-lay-share-requires Inv-loop μ-loop
 lay-share-requires c κs =
-    let s = c .before .before .before .before .before .before .before .before .before in
+    let s = c .before .before .before .before .before .before .before in
     let l = c .before .before .before .before .loop in
     let z : length (s .args .t3) ≡ 48 = search needs in (
       s .pre .0,
@@ -92,7 +86,7 @@ loop-less c = search needs
 
 loop-again : tie.Need-loop-again Inv-loop μ-loop
 loop-again c =
-    let s = c .before .before .before .before .before .before .before .before .before .before .before .before in
+    let s = c .before .before .before .before .before .before .before .before .before .before in
     let l = c .before .before .before .before .before .before .before .loop in
     let z : length (s .args .t3) ≡ 48 = search needs in
     stretching-more (l .inv) (omega arith) (s .pre .7) (c .before .before .before .before .before .before .loop-test .taken) (s .pre .8)
@@ -106,7 +100,7 @@ loop-less-2 c = search needs
 
 loop-again-2 : tie.Need-loop-again-2 Inv-loop μ-loop
 loop-again-2 c =
-    let s = c .before .before .before .before .before .before .before .before in
+    let s = c .before .before .before .before .before .before in
     let l = c .before .before .before .loop in
     let z : length (s .args .t3) ≡ 48 = search needs in
     stretching-more (l .inv) (omega arith) (s .pre .7) (c .before .before .loop-test .taken) (s .pre .8)
@@ -114,7 +108,7 @@ loop-again-2 c =
 
 returns : tie.Need-returns Inv-loop μ-loop
 returns c =
-    let s = c .before .before .before .before .before .before in
+    let s = c .before .before .before .before in
     let z : length (s .args .t3) ≡ 48 = search needs in
     stretching-end (c .before .loop .inv) (omega arith) (omega arith)
 
@@ -127,8 +121,6 @@ lay-stretch-spec =
     (tie.spec
     Inv-loop
     μ-loop
-    cast-n
-    cast-m
     loop-holds
     mul-job
     array-read-job

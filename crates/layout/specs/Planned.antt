@@ -1,0 +1,42 @@
+-- A plan as it is lent to the layout: the orders of processors and jobs, where each stretch ends, when each processor opens and closes,
+-- flat amounts. The jobs' intervals play no part in it.
+use Prim.Native.Nat.{ℕ, suc, pred}
+use mathlib.Core.Bool.{Bool, _&&_}
+use mathlib.Core.List.{List}
+use lib.Dec.{leb}
+use lib.ListN.{getD, take}
+use Rattle.sums.specs.Lists.{nth}
+use Rattle.plan.specs.Plan.{Row}
+use Rattle.wrap.specs.Layout.{fill, sharesOf}
+use Rattle.wrap.specs.Flows.{amountIn}
+use Rattle.wrap.specs.Frame.{Frame, openIn, keep, inTurn}
+use Rattle.table.specs.declared.Table.{Table}
+
+-- processor number i is open from minute start to minute end
+abbrev pub openAt : (opens closes : List ℕ) (start end : ℕ) → ℕ → Bool
+openAt opens closes start end i = leb (getD opens (pred i) 0) start && leb end (getD closes (pred i) 0)
+
+-- the frame of lent numbers
+abbrev pub lentFrame : ℕ → (marks opens closes : List ℕ) → Frame
+lentFrame q marks opens closes =
+    record {
+      stretches = q;
+      mark = λ s. nth marks s 0;
+      ready = λ j. 0;
+      until = λ j. 0;
+      opens = λ i. getD opens (pred i) 0;
+      closes = λ i. getD closes (pred i) 0;
+    }
+
+-- the rows of a stretch of a frame, and of all, with processors and jobs in these orders
+unfoldable pub rowsIn : (processors jobs : List ℕ) → Frame → (ℕ → ℕ → ℕ) → ℕ → List Row
+rowsIn processors jobs f a s =
+    fill (f .mark s) (f .mark (suc s)) (keep (openIn f s) processors) (f .mark s) (sharesOf a s jobs)
+
+unfoldable pub laidOut : (processors jobs : List ℕ) → Frame → (ℕ → ℕ → ℕ) → List Row
+laidOut processors jobs f a = inTurn (rowsIn processors jobs f a) (f .stretches)
+
+-- the plan of a table's orders and flat amounts in a lent frame
+abbrev pub planned : Table → ℕ → (marks opens closes w : List ℕ) → List Row
+planned t q marks opens closes w =
+    laidOut (take (t .m) (t .«by_memory»)) (take (t .n) (t .«by_need»)) (lentFrame q marks opens closes) (amountIn q w)
