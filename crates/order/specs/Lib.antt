@@ -15,5 +15,4 @@ pub mod StructLaws
 pub mod SortedLaws
 pub mod ClassLaws
 pub mod OrderingLaws
-pub mod RankLaws
 pub mod Rank
