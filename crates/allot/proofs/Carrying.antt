@@ -1,4 +1,4 @@
--- The flat lists made of an table are what the engine asks for, and its answer about them is one about the table.
+-- The flat lists made of a table are what the engine asks for, and its answer about them is one about the table.
 use Prim.Native.Nat.{ℕ, zero, suc, _+_, _-_, _*_, _≤_, _<_, min}
 use mathlib.Core.Path.{_≡_, refl, sym, ap, _∙_}
 use mathlib.Core.Bool.{Bool, true, false}
@@ -32,7 +32,8 @@ unfolding sum
 lengths-add-up t marks S zero b = refl
 lengths-add-up t marks S (suc k) b = omega (arith, lengths-add-up t marks S k (omega arith), S .marks-rise k b)
 
-module _ (t : Table) (deadlines marks : List ℕ) (S : Sized t marks) (time class cap room : List ℕ) (T : Times t marks time) (C : Classes t class)
+module _ (t : Table) (deadlines marks : List ℕ) (S : Sized t marks) (time class cap room : List ℕ)
+    (T : Times t marks time) (C : Classes t class)
     (A : Rows cap (t .n) (t .q) (capOn deadlines marks)) (R : Rows room (t .q) (suc (t .s)) (roomOn t marks)) where
   -- as the engine sees them
   abbrev seen : Flow

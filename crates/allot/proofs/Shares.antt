@@ -9,8 +9,7 @@ use native.Mathlib.Omega.{arith}
 use borrow.Author.Tests.{le-leb, lt-leb}
 use lib.ListN.{getD}
 use Rattle.sums.specs.Lists.{only, nth}
-use Rattle.allot.specs.Flows.{lengthOn}
-use Rattle.allot.specs.Flows.{capAt}
+use Rattle.allot.specs.Flows.{lengthOn, capAt}
 
 -- the first stretch begins at 0, and another at the mark before its own
 pub length-first : (marks : List ℕ) (s : ℕ) → s ≡ 0 → getD marks s 0 ≡ lengthOn marks s

@@ -1,5 +1,5 @@
-// A table as the engine reads it, with the deadlines of its jobs and the marks of its stretches: flat caps and rooms, times and classes with those of the idle job. Each function
-// serves this crate alone and has a `requires`.
+// A table as the engine reads it, with the deadlines of its jobs and the marks of its stretches: flat caps and rooms, times and classes
+// with those of the idle job. Each function serves this crate alone and has a `requires`.
 use table::Table;
 ghost use mathlib.Core.Path.{_≡_};
 ghost use Prim.Native.Nat.{suc, _+_, _*_, _<_, _≤_};
@@ -7,7 +7,6 @@ ghost use lib.ListN.{length};
 ghost use Rattle.sums.specs.Sum.{sum};
 ghost use Rattle.allot.specs.Flows.{lengthOn, capAt, capOn, roomOn, Sized};
 ghost use Rattle.allot.specs.Tables.{countOf, Put, Rows, Times, Classes};
-ghost use Rattle.allot.specs.Flows.{capAt};
 
 // The length of stretch s.
 pub fn length_of(marks: &[u32; 48], s: usize) -> u32

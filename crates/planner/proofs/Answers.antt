@@ -6,7 +6,7 @@ use mathlib.Core.Bool.{Bool, true, false, not}
 use mathlib.Core.List.{List, [], _∷_, _++_}
 use native.Mathlib.Omega.{arith}
 use borrow.Author.Tests.{lt-ltb, le-ltb, ltb-false, not-true, not-false}
-use lib.IntN.{ℤ, pos, _+ℤ_, _-ℤ_}
+use lib.IntN.{ℤ}
 use lib.ListN.{length}
 use Rattle.order.specs.Order.{Order}
 use Rattle.sums.specs.Lists.{All}
@@ -26,7 +26,6 @@ use Rattle.order.specs.Refusals.{
   Accepted,
 }
 use Rattle.order.specs.Class.{classes}
-use Rattle.order.specs.Deadline.{cut}
 use Rattle.order.specs.RefusalLaws.{
   judge-accepted,
   judge-refused-append,
@@ -48,7 +47,8 @@ use Rattle.profile.specs.ReasonLaws.{NoReason, reason-none}
 use Rattle.profile.specs.Search.{Found, nothing, found, reasonOf}
 use Rattle.reason.specs.Told.{sixteen, whyOf, whyTold}
 use Rattle.reason.specs.ToldLaws.{why-told}
-use Rattle.reason.specs.Settings.{toldOf, reachOf}
+use Rattle.order.specs.Lead.{reachAt, boundAt, lastDue}
+use Rattle.reason.specs.Asked.{toldOf, leastReachOf}
 use Rattle.table.specs.Tabled.{Tabled}
 use Rattle.table.specs.declared.Table.{Table}
 use Rattle.reason.specs.Matching.{reach-same}
@@ -62,6 +62,14 @@ use Rattle.planner.specs.Rows.{rowsAsked, bufferRow, isFound, leastRows,
 use Rattle.planner.specs.Told.{plannedTold, rowsOf, reasonCarried, tightnessOf, whyIn, ReasonTold, leastTold, leastCount, LeastIn}
 use Rattle.planner.specs.Judged.{judgedTold, tightnessJudged, whyJudged, JudgedAt, JudgedLeast}
 use Rattle.planner.specs.Written.{Written, BufferBy}
+use Rattle.planner.specs.Making.{MadeOf}
+use Rattle.planner.specs.LeastRead.{read-least}
+use Rattle.order.specs.LeadLaws.{workable}
+use Rattle.profile.specs.LeastRange.{least-in-range}
+use Rattle.profile.specs.Threshold.{no-reason-from}
+use lib.Signed.{≤ℤ-refl}
+use mir.Val.{toZ, ofZ}
+use mir.Syntax.{w32}
 use Rattle.planner.specs.declared.BoundJudged.{BoundJudged}
 use Rattle.planner.specs.declared.Judgement.{Judgement}
 use Rattle.planner.specs.declared.Judgement.the-variants.{Refused as Refuse, Tight as Tighten, Open}
@@ -109,8 +117,8 @@ not-found : (f : Found Reason) → isFound f ≡ false → f ≡ nothing
 not-found nothing e = refl
 not-found (found r) e = let z : _≡_ {A = ℕ} 0 1 = cc in absurd (omega arith)
 
--- a setting has room for sixteen classes
-pub classes-few : (o : Order) {t : Table} → Tabled o t → length (classes o) ≤ 16
+-- a table has room for sixteen classes
+pub classes-few : (o : Order) {t : Table} → Tabled lastDue o t → length (classes o) ≤ 16
 classes-few o m = omega (arith, m .classed, m .few-classes)
 
 -- the verdicts, row by row
@@ -158,13 +166,13 @@ module _ (o : Order) (bound : ℤ) (n : ℕ) where
         verdict = ap judgedTold e ∙ v;
         reason-told = ap whyTold is ∙ none;
         reason-whole = is ∙ ap (whyOf o) none;
-        setting-is = λ h. let z : _≡_ {A = ℕ} 0 1 = cc (sym e ∙ h) in absurd (omega arith);
+        table-is = λ h. let z : _≡_ {A = ℕ} 0 1 = cc (sym e ∙ h) in absurd (omega arith);
       }
 
-  module _ (ok : Accepted o) (in-range : boundInRange bound ≡ true) (room : rowsAsked o ≤ n / 4) (t : Table) (m : Tabled o t)
+  module _ (ok : Accepted o) (in-range : boundInRange bound ≡ true) (room : rowsAsked o ≤ n / 4) (t : Table) (m : Tabled lastDue o t)
       (w : Why) (f : w ≡ whyOf o (reasonOf o bound)) where
     pub tight-judged : (r : CodeReason) → w .tightness ≡ TooTight r →
-        JudgedAt o bound n (record { judgement = Tighten r; dues = w .dues; setting = t })
+        JudgedAt o bound n (record { judgement = Tighten r; dues = w .dues; table = t })
     unfolding judge
     tight-judged r h =
         let is : record { tightness = TooTight r; dues = w .dues } ≡ w
@@ -175,10 +183,10 @@ module _ (o : Order) (bound : ℤ) (n : ℕ) where
           verdict = sym v;
           reason-told = rw v (why-told o bound (classes-few o m) _ (is ∙ f));
           reason-whole = rw v (is ∙ f);
-          setting-is = λ h. let z : _≡_ {A = ℕ} 0 1 = cc in absurd (omega arith);
+          table-is = λ h. let z : _≡_ {A = ℕ} 0 1 = cc in absurd (omega arith);
         }
 
-    pub open-judged : w .tightness ≡ Met → JudgedAt o bound n (record { judgement = Open; dues = w .dues; setting = t })
+    pub open-judged : w .tightness ≡ Met → JudgedAt o bound n (record { judgement = Open; dues = w .dues; table = t })
     unfolding judge
     open-judged h =
         let none = told-met o (reasonOf o bound) w f h in
@@ -189,7 +197,7 @@ module _ (o : Order) (bound : ℤ) (n : ℕ) where
           verdict = sym v;
           reason-told = rw v;
           reason-whole = rw v (is ∙ f ∙ ap (whyOf o) none);
-          setting-is = λ h. m;
+          table-is = λ h. m;
         }
 
   -- what plan_at ensures
@@ -245,7 +253,7 @@ module _ (o : Order) (bound : ℤ) (n : ℕ) where
       )
 
       -- what planning goes on with
-      pub order-good : Accepted o
+      order-good : Accepted o
       unfolding planRows earlierRows
       order-good =
           accepted-first (orderRows limits o) (boundRow bound ∷ bufferRow o n ∷ [])
@@ -257,14 +265,24 @@ module _ (o : Order) (bound : ℤ) (n : ℕ) where
           judge-accepted (boundRow bound ∷ bufferRow o n ∷ tightRow (isFound (reasonOf o bound)) ∷ []) .0
           (sym (judge-accepted-append (orderRows limits o) _ order-good) ∙ (ap judge (sym (plan-begins o bound n)) ∙ opened))
 
-      pub bound-good : boundInRange bound ≡ true
+      bound-good : boundInRange bound ≡ true
       bound-good = not-false (boundInRange bound) (whole-clear _ (rows-clear .0))
 
-      pub room-good : rowsAsked o ≤ n / 4
+      room-good : rowsAsked o ≤ n / 4
       room-good = ltb-false (n / 4) (rowsAsked o) (whole-clear _ (rows-clear .1 .0))
 
-      pub reason-good : NoReason o bound
+      reason-good : NoReason o bound
       reason-good = reason-none o bound .0 (not-found (reasonOf o bound) (whole-clear _ (rows-clear .1 .1 .0)))
+
+      pub made : MadeOf o (r .table) bound n
+      made =
+          record {
+            accepted = order-good;
+            bound-good = bound-good;
+            no-reason = reason-good;
+            room = omega (arith, room-good);
+            tabled = judged .table-is e;
+          }
 
 -- what judge_least ensures
 module _ (o : Order) (n : ℕ) where
@@ -273,7 +291,7 @@ module _ (o : Order) (n : ℕ) where
   least-refused-judged rf v r e =
       record {
         verdict = ap acceptanceTold e ∙ v;
-        setting-is = λ h. let z : _≡_ {A = ℕ} 0 1 = cc (sym e ∙ h) in absurd (omega arith);
+        table-is = λ h. let z : _≡_ {A = ℕ} 0 1 = cc (sym e ∙ h) in absurd (omega arith);
       }
 
   pub least-refused-first : (rf : Refusal) → refusalTold rf ≡ judge (orderRows limits o) → refusalTold rf ≡ judge (leastRows o n)
@@ -286,14 +304,14 @@ module _ (o : Order) (n : ℕ) where
     least-refused-9 h =
         sym (judge-accepted-append (orderRows limits o) (bufferRow o n ∷ []) ok ∙ rw (lt-ltb (n / 4) (rowsAsked o) h))
 
-    pub least-open : rowsAsked o ≤ n / 4 → (t : Table) → Tabled o t → JudgedLeast o n (record { status = Accepts; setting = t })
+    pub least-open : rowsAsked o ≤ n / 4 → (t : Table) → Tabled lastDue o t → JudgedLeast o n (record { status = Accepts; table = t })
     unfolding leastRows judge
     least-open room t m =
         record {
           verdict =
               sym (judge-accepted-append (orderRows limits o) (bufferRow o n ∷ []) ok
               ∙ rw (le-ltb (n / 4) (rowsAsked o) room));
-          setting-is = λ h. m;
+          table-is = λ h. m;
         }
 
 -- what least_lateness ensures
@@ -349,17 +367,34 @@ pub written-at : {o : Order} {bound read : ℤ} {entry exit : List ℕ} {count :
     Written o read entry exit count → Written o bound entry exit count
 written-at {o} {bound} {read} {entry} {exit} {count} e w = subst (λ (z : ℤ). Written o z entry exit count) e w
 
--- what a setting of the order tells is told of the order
-module _ (o : Order) (a : Accepted o) (t : Table) (m : Tabled o t) where
-  pub reason-told : (bound read : ℤ) → read ≡ bound → (reach : ℕ) → reach ≡ cut (pos 1000000 +ℤ read) → (w : Why) →
+-- what a table of the order tells is told of the order
+module _ (o : Order) (a : Accepted o) (t : Table) (m : Tabled lastDue o t) where
+  pub reason-told : (bound read : ℤ) → read ≡ bound → (reach : ℕ) → reach ≡ reachAt lastDue read → (w : Why) →
       w ≡ toldOf t reach → w ≡ whyOf o (reasonOf o bound)
   reason-told bound read same reach e w h =
       h
-      ∙ (ap (toldOf t) (e ∙ ap (λ (z : ℤ). cut (pos 1000000 +ℤ z)) same) ∙ told-is o t m (accepted-iff o .0 a) bound)
+      ∙ (ap (toldOf t) (e ∙ ap (reachAt lastDue) same) ∙ told-is o t m (accepted-iff o .0 a) bound)
 
-  pub least-told : (z : ℤ) → z ≡ pos (reachOf t) -ℤ pos 1000000 → z ≡ leastLateness o
+  pub least-told : (z : ℤ) → z ≡ boundAt lastDue (leastReachOf t) → z ≡ leastLateness o
   unfolding leastLateness
-  least-told z e = e ∙ ap (λ (n : ℕ). pos n -ℤ pos 1000000) (sym (reach-same o t m))
+  least-told z e = e ∙ ap (boundAt lastDue) (sym (reach-same o t m))
 
 pub judged-at : {o : Order} {bound read : ℤ} {n : ℕ} {r : BoundJudged} → read ≡ bound → JudgedAt o read n r → JudgedAt o bound n r
 judged-at {o} {bound} {read} {n} {r} e judged = subst (λ (z : ℤ). JudgedAt o z n r) e judged
+
+-- the least lateness, as the machine reads it, may be planned at
+pub least-made : (o : Order) (n : ℕ) (r : LeastJudged) → JudgedLeast o n r → r .status ≡ Accepts → (z : ℤ) →
+    z ≡ boundAt lastDue (leastReachOf (r .table)) → MadeOf o (r .table) (toZ w32 (ofZ w32 z)) n
+unfolding leastLateness
+least-made o n r judged e z is =
+    let ok = least-order-good o n r judged e in
+    let m = judged .table-is e in
+    let read = read-least z (leastLateness o) (least-told o ok (r .table) m z is) (least-in-range o ok) in
+    record {
+      accepted = ok;
+      bound-good = ap boundInRange read ∙ least-in-range o ok;
+      no-reason = subst (NoReason o) (sym read)
+          (no-reason-from lastDue o (workable o (accepted-iff o .0 ok)) (leastLateness o) (≤ℤ-refl (leastLateness o)));
+      room = omega (arith, least-room-good o n r judged e);
+      tabled = m;
+    }

@@ -4,7 +4,7 @@ use mathlib.Core.Path.{_≡_}
 use mathlib.Core.List.{List}
 use mathlib.Core.Logic.{_↔_, _≢_}
 use lib.IntN.{ℤ, pos}
-use lib.Signed.{_≤ℤ_, _<ℤ_}
+use lib.Signed.{_<ℤ_}
 use Rattle.order.specs.Order.{Order}
 use Rattle.order.specs.Refusals.{judge, accepted, refused}
 use Rattle.plan.specs.Plan.{Row, RightInParts, Meets}

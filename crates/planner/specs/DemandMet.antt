@@ -1,7 +1,6 @@
 -- Demand 3 holds of the least lateness of every accepted order.
 use Prim.Native.Nat.{ℕ}
 use mathlib.Core.Path.{_≡_, refl, sym, ap, _∙_}
-use mathlib.Core.Bool.{true}
 use mathlib.Core.List.{List, [], _∷_}
 use mathlib.Core.Logic.{_↔_, _≢_, inl, inr}
 use native.Mathlib.Omega.{arith}
@@ -10,11 +9,13 @@ use lib.IntN.{ℤ, pos, negsuc}
 use lib.Signed.{_≤ℤ_, _<ℤ_}
 use Rattle.order.specs.Order.{Order}
 use Rattle.order.specs.Whole.{le-or-lt}
-use Rattle.order.specs.Refusals.{TableRow, judge, accepted, refused, tightRow, Accepted}
-use Rattle.order.specs.RefusalLaws.{judge-accepted-append}
+use Rattle.order.specs.Lead.{lastDue, Workable}
+use Rattle.order.specs.LeadLaws.{workable}
+use Rattle.order.specs.Refusals.{judge, accepted, refused, tightRow, Accepted}
+use Rattle.order.specs.RefusalLaws.{accepted-iff, judge-accepted-append}
 use Rattle.plan.specs.Plan.{Row, Meets}
 use Rattle.profile.specs.Least.{leastLateness}
-use Rattle.profile.specs.Reason.{Reason, IsReason}
+use Rattle.profile.specs.Reason.{Reason}
 use Rattle.profile.specs.ReasonLaws.{reason-found, reason-exceeds}
 use Rattle.profile.specs.Search.{Found, found, nothing, reasonOf}
 use Rattle.profile.specs.Threshold.{reason-below, threshold}
@@ -39,6 +40,9 @@ unfolding judge
 refused-tight f r e = rw e
 
 module _ (o : Order) (ok : Accepted o) where
+  abbrev work : Workable lastDue o
+  work = workable o (accepted-iff o .0 ok)
+
   others : (number : ℤ) (rows : List Row) → Meets o number rows → number ≢ leastLateness o → leastLateness o <ℤ number
   others number rows right differs =
       elim (le-or-lt number (leastLateness o)) [
@@ -48,18 +52,19 @@ module _ (o : Order) (ok : Accepted o) where
 
   tight : (bound : ℤ) (lent : ℕ) → judge (earlierRows o bound lent) ≡ accepted →
       (judge (planRows o bound lent) ≡ refused 10 0) ↔ (bound <ℤ leastLateness o)
-  unfolding planRows
+  unfolding planRows leastLateness
   tight bound lent none =
       let last : judge (planRows o bound lent) ≡ judge (tightRow (isFound (reasonOf o bound)) ∷ [])
       = judge-accepted-append (earlierRows o bound lent) (tightRow (isFound (reasonOf o bound)) ∷ []) none in (
         (λ e. let t = tight-refused (reasonOf o bound) (sym last ∙ e) in
-            threshold o ok bound .0 (t .0, reason-found o bound (t .0) .0 (t .1))),
-        λ below. let r = reason-below o ok bound below in
+            threshold lastDue o work bound .0 (t .0, reason-found o bound (t .0) .0 (t .1))),
+        λ below. let r = reason-below lastDue o work bound below in
             last ∙ refused-tight (reasonOf o bound) (r .0) (reason-found o bound (r .0) .1 (r .1)),
       )
 
 -- For every accepted order, all of demand 3 holds of the formula that the planner answers.
 pub demand-3 : (o : Order) → Accepted o → Demand3 o (leastLateness o)
+unfolding leastLateness
 demand-3 o ok =
     record {
       one-meets = is-least o ok .some-plan;
@@ -67,6 +72,6 @@ demand-3 o ok =
       none-in-parts = is-least o ok .none-in-parts;
       tight-below = tight o ok;
       reason-below = λ bound below.
-          let r = reason-below o ok bound below in
+          let r = reason-below lastDue o (work o ok) bound below in
           (r .0, reason-found o bound (r .0) .1 (r .1), r .1, reason-exceeds o bound (r .0) (r .1));
     }

@@ -1,9 +1,10 @@
--- What is judged before any row is written: the table's verdict, the reason that comes with a 10, and the setting of an order that is
+-- What is judged before any row is written: the table's verdict, the reason that comes with a 10, and the table of an order that is
 -- gone on with.
 use Prim.Native.Nat.{ℕ}
 use mathlib.Core.Path.{_≡_}
 use lib.IntN.{ℤ}
 use Rattle.order.specs.Order.{Order}
+use Rattle.order.specs.Lead.{lastDue}
 use Rattle.order.specs.Refusals.{Verdict, accepted, refused, judge}
 use Rattle.order.specs.Table.{refusalTold, acceptanceTold}
 use Rattle.order.specs.declared.Acceptance.the-variants.{Accepted as Accepts}
@@ -38,9 +39,9 @@ pub record JudgedAt (o : Order) (bound : ℤ) (lent : ℕ) (r : BoundJudged) : T
   pub verdict : judgedTold (r .judgement) ≡ judge (planRows o bound lent)
   pub reason-told : whyTold (whyJudged r) ≡ reasonCarried (judge (planRows o bound lent)) (reasonOf o bound)
   pub reason-whole : whyJudged r ≡ whyOf o (reasonCarried (judge (planRows o bound lent)) (reasonOf o bound))
-  pub setting-is : r .judgement ≡ Open → Tabled o (r .setting)
+  pub table-is : r .judgement ≡ Open → Tabled lastDue o (r .table)
 
 -- for the least lateness
 pub record JudgedLeast (o : Order) (lent : ℕ) (r : LeastJudged) : Type 0 where
   pub verdict : acceptanceTold (r .status) ≡ judge (leastRows o lent)
-  pub setting-is : r .status ≡ Accepts → Tabled o (r .setting)
+  pub table-is : r .status ≡ Accepts → Tabled lastDue o (r .table)

@@ -9,3 +9,4 @@ pub mod Demand
 pub mod DemandMet
 pub mod AnswerLaws
 pub mod NoPlan
+pub mod Making

@@ -7,7 +7,10 @@ use native.Mathlib.Omega.{arith}
 use lib.IntN.{ℤ, pos}
 use lib.Signed.{_<ℤ_}
 use Rattle.order.specs.Order.{Order}
+use Rattle.order.specs.Lead.{lastDue, Workable}
+use Rattle.order.specs.LeadLaws.{workable}
 use Rattle.order.specs.Refusals.{Accepted}
+use Rattle.order.specs.RefusalLaws.{accepted-iff}
 use Rattle.plan.specs.Plan.{Row, RightInParts, Meets}
 use Rattle.profile.specs.Reason.{Reason, IsReason, owedOf, onHandOf}
 use Rattle.profile.specs.ReasonLaws.{reason-found, reason-none, reason-exceeds}
@@ -22,17 +25,20 @@ pub record NoPlan (o : Order) (bound : ℤ) (reason : Reason) : Type 0 where
   pub none-in-parts : (p : ℕ) → 1 ≤ p → (rows : List Row) → ¬ RightInParts p o bound rows
 
 module _ (o : Order) (ok : Accepted o) (bound : ℤ) where
+  abbrev work : Workable lastDue o
+  work = workable o (accepted-iff o .0 ok)
+
   pub reason-no-plan : (reason : Reason) → reasonOf o bound ≡ found reason → NoPlan o bound reason
   reason-no-plan reason e =
       let is = reason-found o bound reason .0 e in
       record {
         is-reason = is;
         exceeds = reason-exceeds o bound reason is;
-        none-in-parts = λ p parts rows right. no-reason-where-met o ok bound p parts rows right reason is;
+        none-in-parts = λ p parts rows right. no-reason-where-met o work bound p parts rows right reason is;
       }
 
   pub none-where-met : (reasonOf o bound ≡ nothing) ↔ ((rows : List Row) × Meets o bound rows)
-  none-where-met = (λ e. complete o ok bound (reason-none o bound .0 e), λ plan. met (reasonOf o bound) refl (plan .0) (plan .1))
+  none-where-met = (λ e. complete o work bound (reason-none o bound .0 e), λ plan. met (reasonOf o bound) refl (plan .0) (plan .1))
     where
       met : (f : Found Reason) → reasonOf o bound ≡ f → (rows : List Row) → Meets o bound rows → f ≡ nothing
       met nothing e rows right = refl

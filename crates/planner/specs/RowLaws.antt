@@ -11,7 +11,7 @@ use Rattle.order.specs.Refusals.{Accepted}
 use Rattle.order.specs.RefusalLaws.{accepted-iff}
 use Rattle.wrap.specs.Stretches.{stretchCount}
 use Rattle.wrap.specs.LayoutOrdered.{layout-count}
-use Rattle.allot.specs.Bounds.{stretches-few}
+use Rattle.order.specs.SortedLaws.{dues-few}
 use Rattle.planner.specs.Rows.{rowsAsked}
 use Rattle.planner.specs.Written.{Written}
 
@@ -20,7 +20,7 @@ pub asked-few : (o : Order) → Accepted o → rowsAsked o ≤ 3024
 asked-few o accepted =
     let a = accepted-iff o .0 accepted in
     let most : jobCount o + processorCount o - 1 ≤ 63 = omega (arith, a .few-jobs, a .few-processors) in
-    let few : stretchCount o ≤ 48 = omega (arith, stretches-few o, a .few-jobs) in
+    let few : stretchCount o ≤ 48 = omega (arith, dues-few o, a .few-jobs) in
     omega (
       arith,
       mul-le-mul-right (jobCount o + processorCount o - 1) few,

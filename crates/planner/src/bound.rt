@@ -26,7 +26,7 @@ pub fn plan_at(order: Order, bound: i32, rows: &mut [u32]) -> PlanAnswer
     let judged = judge_bound(order, bound, rows.len());
     let judgement = judged.judgement;
     let dues = judged.dues;
-    let setting = judged.setting;
+    let table = judged.table;
     match judgement {
         Judgement::Refused(refusal) => PlanAnswer {
             planned: Planned::Refused(refusal),
@@ -37,7 +37,7 @@ pub fn plan_at(order: Order, bound: i32, rows: &mut [u32]) -> PlanAnswer
             dues,
         },
         Judgement::Open => PlanAnswer {
-            planned: Planned::Rows(make_plan(order, setting, bound, rows) as u32),
+            planned: Planned::Rows(make_plan(table, bound, rows) as u32),
             dues,
         },
     }

@@ -1,5 +1,5 @@
 // What is judged before any row is written: the rows of the table, in its order, and whether there is a reason. It serves this
-// crate alone: the setting is bound only where a plan is to be written.
+// crate alone: the table is bound only where a plan is to be written.
 use super::BoundJudged;
 use super::Judgement;
 use super::LeastJudged;
@@ -9,21 +9,22 @@ use order::Order;
 use order::Refusal;
 use order::accept::accept;
 use order::deadline::bound_in_range;
-use order::deadline::deadline;
-use reason::Setting;
 use reason::Tightness;
-use reason::given::setting_of;
 use reason::tell::tell;
+use table::Table;
+use table::lead::reach_of;
+use table::making::table_of;
 ghost use mathlib.Core.Path.{_≡_};
 ghost use mathlib.Core.List.{[]};
 ghost use Rattle.order.specs.Table.{orderOf};
 ghost use Rattle.reason.specs.Told.{sixteen};
 ghost use Rattle.planner.specs.Judged.{JudgedAt, JudgedLeast};
 
-// The setting of no order, where none is gone on with.
-fn no_setting() -> Setting {
-    Setting {
+// The table of no order, where none is gone on with.
+fn no_table() -> Table {
+    Table {
         n: 0,
+        m: 0,
         s: 0,
         q: 0,
         times: [0u32; 48],
@@ -31,6 +32,8 @@ fn no_setting() -> Setting {
         leads: [0u32; 48],
         procs: [0u32; 16],
         grid: [0u32; 48],
+        by_memory: [0u32; 16],
+        by_need: [0u32; 48],
     }
 }
 
@@ -41,7 +44,7 @@ fn refuse(refusal: Refusal) -> BoundJudged
     BoundJudged {
         judgement: Judgement::Refused(refusal),
         dues: [0i32; 16],
-        setting: no_setting(),
+        table: no_table(),
     }
 }
 
@@ -55,23 +58,23 @@ pub fn judge_bound(order: Order, bound: i32, lent: usize) -> BoundJudged
     if !bound_in_range(bound) {
         return refuse(Refusal::BoundOutOfRange);
     }
-    let t = setting_of(order);
-    if is_short(order, t.q, lent) {
+    let t = table_of(order);
+    if is_short(t, lent) {
         return refuse(Refusal::BufferTooShort);
     }
-    let why = tell(t, deadline(1000000, bound));
+    let why = tell(t, reach_of(bound));
     let tightness = why.tightness;
     let dues = why.dues;
     match tightness {
         Tightness::Tight(reason) => BoundJudged {
             judgement: Judgement::Tight(reason),
             dues,
-            setting: t,
+            table: t,
         },
         Tightness::Met => BoundJudged {
             judgement: Judgement::Open,
             dues,
-            setting: t,
+            table: t,
         },
     }
 }
@@ -82,7 +85,7 @@ fn refuse_least(refusal: Refusal) -> LeastJudged
 {
     LeastJudged {
         status: Acceptance::Refused(refusal),
-        setting: no_setting(),
+        table: no_table(),
     }
 }
 
@@ -93,12 +96,12 @@ pub fn judge_least(order: Order, lent: usize) -> LeastJudged
     if let Acceptance::Refused(refusal) = accept(order) {
         return refuse_least(refusal);
     }
-    let t = setting_of(order);
-    if is_short(order, t.q, lent) {
+    let t = table_of(order);
+    if is_short(t, lent) {
         return refuse_least(Refusal::BufferTooShort);
     }
     LeastJudged {
         status: Acceptance::Accepted,
-        setting: t,
+        table: t,
     }
 }

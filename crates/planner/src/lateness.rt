@@ -26,8 +26,8 @@ pub fn least_lateness(order: Order, rows: &mut [u32]) -> Least
     if let Acceptance::Refused(refusal) = status {
         return Least::Refused(refusal);
     }
-    let setting = judged.setting;
-    let lateness = reason::tell::least_in(setting);
-    let count = make_plan(order, setting, lateness, rows);
+    let table = judged.table;
+    let lateness = reason::tell::least_in(table);
+    let count = make_plan(table, lateness, rows);
     Least::At(lateness, count as u32)
 }

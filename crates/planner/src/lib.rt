@@ -2,14 +2,13 @@
 use order::Acceptance;
 use order::Refusal;
 use reason::Reason;
-use reason::Setting;
+use table::Table;
 
 pub mod bound; // plan_at
 mod judging; // what is judged before any row is written
 pub mod lateness; // least_lateness
 mod making; // a plan where there is no reason against the bound
 pub mod room; // rows_asked
-mod setup; // an order at a bound, made ready for the engine and the layout
 
 // The least lateness and the number of rows written, or why there is none.
 pub enum Least {
@@ -31,17 +30,17 @@ pub enum Judgement {
     Open,
 }
 
-// The judgement at a bound; beside it the due times of a staircase, 0 beyond, and the setting where a plan is to be written.
+// The judgement at a bound; beside it the due times of a staircase, 0 beyond, and the table where a plan is to be written.
 pub struct BoundJudged {
     pub judgement: Judgement,
     pub dues: [i32; 16],
-    pub setting: Setting,
+    pub table: Table,
 }
 
-// The judgement where no bound is asked, and the setting where a plan is to be written.
+// The judgement where no bound is asked, and the table where a plan is to be written.
 pub struct LeastJudged {
     pub status: Acceptance,
-    pub setting: Setting,
+    pub table: Table,
 }
 
 // The answer at a bound, and beside it the due times of a staircase; 0 beyond.

@@ -6,7 +6,7 @@ use order::Order;
 use order::deadline::deadline;
 ghost use mathlib.Core.Path.{_≡_};
 ghost use mathlib.Core.Bool.{true};
-ghost use Prim.Native.Nat.{_≤_};
+ghost use Prim.Native.Nat.{ℕ, _-_, _≤_};
 ghost use lib.IntN.{pos};
 ghost use lib.ListN.{getD};
 ghost use Rattle.order.specs.Refusals.{Accepted, dueInRange, boundInRange};
@@ -44,6 +44,29 @@ pub fn bound_of(reach: u32) -> i32
     ensures { λ r. ⌜ r ≡ boundAt lastDue reach ⌝ }
 {
     (reach as i32) - 1000000
+}
+
+// The difference, 0 where it is negative.
+fn less(a: u32, b: u32) -> u32
+    ensures { λ r. ⌜ r ≡ a - b ⌝ }
+{
+    if a < b {
+        return 0;
+    }
+    a - b
+}
+
+// The minute of each lead at a reach.
+pub fn minutes_at(leads: [u32; 48], reach: u32) -> [u32; 48]
+    ensures { λ r. ⌜ RowOf (λ (i : ℕ). reach - getD leads i 0) 48 r ⌝ }
+{
+    let mut r = [0u32; 48];
+    let mut i: usize = 0;
+    while i < 48 {
+        r[i] = less(reach, leads[i]);
+        i += 1;
+    }
+    r
 }
 
 // The lead of each job.

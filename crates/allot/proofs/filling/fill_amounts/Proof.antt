@@ -10,7 +10,7 @@ slice-aggregate-put-times c = search needs
 
 put-times-requires : tie.Need-put-times-requires
 put-times-requires c κs =
-    let sized = c .before .before .pre .0 in
+    let sized = c .before .before .before .pre .0 in
     (sized, omega (arith, sized .few-jobs))
 
 slice-aggregate-put-classes : tie.Need-slice-aggregate-put-classes
@@ -18,24 +18,25 @@ slice-aggregate-put-classes c = search needs
 
 put-classes-requires : tie.Need-put-classes-requires
 put-classes-requires c κs =
-    let sized = c .before .before .before .before .before .pre .0 in
-    (sized, omega (arith, sized .few-jobs))
+    let sized = c .before .before .before .before .before .before .pre .0 in
+    (sized .few-jobs, sized .few-classes, omega (arith, sized .few-jobs))
 
 slice-aggregate-put-caps : tie.Need-slice-aggregate-put-caps
 slice-aggregate-put-caps c = search needs
 
 put-caps-requires : tie.Need-put-caps-requires
 put-caps-requires c κs =
-    let sized = c .before .before .before .before .before .before .before .before .pre .0 in
-    (sized, caps-fit _ sized)
+    let sized = c .before .before .before .before .before .before .before .before .before .before .before .pre .0 in
+    (sized, caps-fit _ _ sized)
 
 slice-aggregate-put-rooms : tie.Need-slice-aggregate-put-rooms
 slice-aggregate-put-rooms c = search needs
 
 put-rooms-requires : tie.Need-put-rooms-requires
 put-rooms-requires c κs =
-    let sized = c .before .before .before .before .before .before .before .before .before .before .before .pre .0 in
-    (sized, rooms-fit _ sized)
+    let caps = c .before .before .before in
+    let sized = caps .before .before .before .before .before .before .before .before .before .before .before .before .pre .0 in
+    (sized, rooms-fit _ _ sized)
 
 slice-aggregate-solve : tie.Need-slice-aggregate-solve
 slice-aggregate-solve c = search needs
@@ -64,24 +65,24 @@ add-solve c = search needs
 solve-requires : tie.Need-solve-requires
 solve-requires c κs =
     let rooms = c .before .before .before .before .before .before .before .before .before .before in
-    let caps = rooms .before .before .before in
-    let classes = caps .before .before .before in
+    let caps = rooms .before .before .before .before in
+    let classes = caps .before .before .before .before .before in
     let times = classes .before .before .before in
-    let start = times .before .before .before in
+    let start = times .before .before .before .before in
     let t = start .args .t in
     let sized = start .pre .0 in (
       record {
         s-time = omega (arith, sized .few-jobs, times .put-times .kept);
         s-class = omega (arith, sized .few-jobs, classes .put-classes .kept);
-        s-cap = omega (arith, caps-fit t sized, caps .put-caps .kept);
-        s-room = omega (arith, rooms-fit t sized, rooms .put-rooms .kept);
+        s-cap = omega (arith, caps-fit t _ sized, caps .put-caps .kept);
+        s-room = omega (arith, rooms-fit t _ sized, rooms .put-rooms .kept);
         s-w = search needs;
-        s-slack = omega (arith, rooms-fit t sized);
+        s-slack = omega (arith, rooms-fit t _ sized);
         s-left = omega (arith, sized .few-jobs);
         s-h = omega (arith, sized .few-jobs);
       },
-      given t sized _ _ _ _ (times .put-times .ensures) (classes .put-classes .ensures) (caps .put-caps .ensures)
-          (rooms .put-rooms .ensures) _ (add-one _),
+      given t (start .args .t2) (start .args .t3) sized _ _ _ _ (times .put-times .ensures) (classes .put-classes .ensures)
+          (caps .put-caps .ensures) (rooms .put-rooms .ensures) _ (add-one _),
     )
 
 same-length : tie.Need-same-length
@@ -92,14 +93,16 @@ returns c =
     let solved = c .before .before .before .before .before in
     let solve = solved .solve in
     let rooms = solved .before .before .before .before .before .before .before .before .before .before .before in
-    let caps = rooms .before .before .before in
-    let classes = caps .before .before .before in
+    let caps = rooms .before .before .before .before in
+    let classes = caps .before .before .before .before .before in
     let times = classes .before .before .before in
-    let start = times .before .before .before in (
-      answered (start .args .t) (start .pre .0) _ _ _ _ (times .put-times .ensures) (classes .put-classes .ensures)
+    let start = times .before .before .before .before in
+    let t = start .args .t in
+    let sized = start .pre .0 in (
+      answered t (start .args .t2) (start .args .t3) sized _ _ _ _ (times .put-times .ensures) (classes .put-classes .ensures)
           (caps .put-caps .ensures) (rooms .put-rooms .ensures) _ (add-one _) (solve .last .1 .1 .1 .1 .0) (solve .result)
           (solve .ensures .0),
-      carried (start .args .t) (start .pre .0) _ _ _ _ (times .put-times .ensures) (classes .put-classes .ensures)
+      carried t (start .args .t2) (start .args .t3) sized _ _ _ _ (times .put-times .ensures) (classes .put-classes .ensures)
           (caps .put-caps .ensures) (rooms .put-rooms .ensures) _ (add-one _) (solve .last .1 .1 .1 .1 .0) (solve .result)
           (solve .ensures .1),
     )

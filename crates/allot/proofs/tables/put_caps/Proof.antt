@@ -11,11 +11,11 @@ use Rattle.allot.proofs.tables.put_caps.Statement.{statement}
 use Rattle.allot.proofs.tables.put_caps.Tie as tie
 
 abbrev Inv-loop : tie.InvT-loop
-Inv-loop cap₀ deadlines marks t j₀ cap j =
+Inv-loop cap₀ t deadlines marks j₀ cap j =
     (j ≤ t .n) × (length cap ≡ length cap₀) × Rows cap j (t .q) (capOn deadlines marks)
 
 abbrev μ-loop : tie.MeasureT-loop
-μ-loop cap₀ deadlines marks t j₀ cap j = t .n - j
+μ-loop cap₀ t deadlines marks j₀ cap j = t .n - j
 
 loop-holds : tie.Need-loop-holds Inv-loop μ-loop
 loop-holds c = (search needs, search needs, rows-none _ _ _)
@@ -28,13 +28,13 @@ element-copy-out-put-caps-row c = search needs
 
 mul-put-caps-row-2 : tie.Need-mul-put-caps-row-2 Inv-loop μ-loop
 mul-put-caps-row-2 c =
-    let t = c .before .before .before .before .before .before .before .args .t2 in
-    omega (arith, row-end (c .before .before .before .before .loop .j) (t .q) (t .n) (omega arith))
+    let t = c .before .before .before .before .before .before .before .args .t in
+    omega (arith, row-end (c .before .before .before .before .before .loop .j) (t .q) (t .n) (omega arith))
 
 put-caps-row-requires : tie.Need-put-caps-row-requires Inv-loop μ-loop
 put-caps-row-requires c κs =
-    let t = c .before .before .before .before .before .before .before .args .t2 in
-    (search needs, omega (arith, row-end (c .before .before .before .before .loop .j) (t .q) (t .n) (omega arith)))
+    let t = c .before .before .before .before .before .before .before .args .t in
+    (search needs, omega (arith, row-end (c .before .before .before .before .before .loop .j) (t .q) (t .n) (omega arith)))
 
 add-j : tie.Need-add-j Inv-loop μ-loop
 add-j c = search needs
@@ -44,7 +44,7 @@ loop-less c = search needs
 
 loop-again : tie.Need-loop-again Inv-loop μ-loop
 loop-again c =
-    let l = c .before .before .before .before .before .before .before .loop in
+    let l = c .before .before .before .before .before .before .before .before .loop in
     let p = c .before .before .put-caps-row in
     (search needs, search needs, rows-more _ _ _ _ _ _ _ refl (λ s. refl) (l .inv .2) (p .ensures))
 
@@ -53,8 +53,9 @@ same-length c = search needs
 
 returns : tie.Need-returns Inv-loop μ-loop
 returns c =
-    let e : c .before .loop .j ≡ c .before .before .before .before .args .t2 .n = omega arith in
-    rw e at (c .before .loop .inv .2)
+    let l = c .before .before .loop in
+    let e : l .j ≡ c .before .before .before .before .args .t .n = omega arith in
+    rw e at (l .inv .2)
 
 pub put-caps-spec : {M : Type 1} → statement M
 put-caps-spec =

@@ -30,15 +30,15 @@ add-put-rooms-row c = search needs
 
 mul-put-rooms-row : tie.Need-mul-put-rooms-row Inv-loop μ-loop
 mul-put-rooms-row c =
-    let t = c .before .before .before .before .before .before .before .before .before .before .args .t in
-    let s = c .before .before .before .before .before .before .loop .s in
+    let t = c .before .before .before .before .before .before .before .before .args .t in
+    let s = c .before .before .before .before .before .loop .s in
     omega (arith, row-end s (suc (t .s)) (t .q) (omega arith))
 
 put-rooms-row-requires : tie.Need-put-rooms-row-requires Inv-loop μ-loop
 put-rooms-row-requires c κs =
-    let t = c .before .before .before .before .before .before .before .before .before .before .args .t in
-    let sized = c .before .before .before .before .before .before .before .before .before .before .pre .0 in
-    let s = c .before .before .before .before .before .before .loop .s in (
+    let t = c .before .before .before .before .before .before .before .before .args .t in
+    let sized = c .before .before .before .before .before .before .before .before .pre .0 in
+    let s = c .before .before .before .before .before .loop .s in (
       (
         sized .few-classes,
         sized .few-processors,
@@ -55,8 +55,9 @@ loop-less c = search needs
 
 loop-again : tie.Need-loop-again Inv-loop μ-loop
 loop-again c =
-    let t = c .before .before .before .before .before .before .before .before .before .before .before .before .before .args .t in
-    let l = c .before .before .before .before .before .before .before .before .before .loop in
+    let t = c .before .before .before .before .before .before .before .before .before .before .before .args .t in
+    let marks = c .before .before .before .before .before .before .before .before .before .before .before .args .marks .now in
+    let l = c .before .before .before .before .before .before .before .before .loop in
     let p = c .before .before .put-rooms-row in
     let e = c .before .before .before .before .before .length-of .ensures in
     let place = ap (λ (m : ℕ). l .s * m) (add-one (t .s)) in (
@@ -72,7 +73,7 @@ same-length c = search needs
 returns : tie.Need-returns Inv-loop μ-loop
 returns c =
     let l = c .before .before .loop in
-    let e : l .s ≡ c .before .before .before .before .before .before .args .t .q = omega arith in
+    let e : l .s ≡ c .before .before .before .before .before .args .t .q = omega arith in
     rw e at (l .inv .2)
 
 pub put-rooms-spec : {M : Type 1} → statement M

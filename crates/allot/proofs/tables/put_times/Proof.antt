@@ -11,12 +11,12 @@ use Rattle.allot.proofs.tables.put_times.Statement.{statement}
 use Rattle.allot.proofs.tables.put_times.Tie as tie
 
 abbrev Inv-loop : tie.InvT-loop
-Inv-loop time₀ t j₀ time j =
+Inv-loop time₀ marks t j₀ time j =
     (j ≤ t .n) × (length time ≡ length time₀)
     × ((i : ℕ) → i < j → getD time i 0 ≡ getD (t .times) i 0)
 
 abbrev μ-loop : tie.MeasureT-loop
-μ-loop time₀ t j₀ time j = t .n - j
+μ-loop time₀ marks t j₀ time j = t .n - j
 
 loop-holds : tie.Need-loop-holds Inv-loop μ-loop
 loop-holds c = (search needs, search needs, below-none _)
@@ -61,6 +61,7 @@ element-copy-out-time-2 c = search needs
 mul-time-4 : tie.Need-mul-time-4 Inv-loop μ-loop
 mul-time-4 c =
     let t = c .before .before .before .before .before .before .args .t2 in
+    let marks = c .before .before .before .before .before .before .args .marks .now in
     let sized = c .before .before .before .before .before .before .pre .0 in
     omega (
       arith,
@@ -82,8 +83,9 @@ returns : tie.Need-returns Inv-loop μ-loop
 returns c =
     let l = c .before .before .before .before .loop in
     let t = c .before .before .before .before .before .before .args .t2 in
+    let marks = c .before .before .before .before .before .before .args .marks .now in
     let p = c .before .processors-to in
-    times-done t (l .time) (p .result) (omega arith) (omega arith) (p .ensures)
+    times-done t marks (l .time) (p .result) (omega arith) (omega arith) (p .ensures)
     (λ i b. l .inv .2 i (omega arith))
 
 pub put-times-spec : {M : Type 1} → statement M

@@ -6,15 +6,11 @@ use Rattle.planner.proofs.Answers.{
   refused-ensured,
   tight-ensured,
   rows-ensured,
-  order-good,
-  bound-good,
-  room-good,
-  reason-good,
+  made,
   written-at,
   judged-at,
 }
 use borrow.Author.Needs.{needs}
-use native.Mathlib.Omega.{arith}
 use Rattle.planner.proofs.bound.plan_at.Statement.{statement}
 use Rattle.planner.proofs.bound.plan_at.Tie as tie
 
@@ -37,13 +33,8 @@ make-plan-requires c κs =
     let n = length (s .args .rows .now) in
     let e = toZ-ofZ w32 (s .args .bound) (s .fits .bound) in
     let j = c .before .before .before .before .before .judge-bound in
-    let is = c .before .enum-told .given .1 in (
-      order-good o _ n _ (j .ensures) is,
-      bound-good o _ n _ (j .ensures) is,
-      reason-good o _ n _ (j .ensures) is,
-      omega (arith, room-good o _ n _ (j .ensures) is),
-      j .ensures .setting-is is,
-    )
+    let is = c .before .enum-told .given .1 in
+    (o, made o _ n _ (j .ensures) is)
 
 cast-t17 : tie.Need-cast-t17
 cast-t17 c = search needs
@@ -78,7 +69,8 @@ returns-3 c =
     let j = c .before .before .before .before .before .before .before .before .judge-bound in
     rows-ensured o (s .args .bound) n _ (judged-at e (j .ensures)) (c .before .before .before .before .enum-told .given .1)
     (s .args .rows .now) _ _
-    (written-at e (c .before .before .make-plan .ensures .0))
+    (written-at e (c .before .before .make-plan .ensures .0 o
+    (made o _ n _ (j .ensures) (c .before .before .before .before .enum-told .given .1))))
 
 pub plan-at-spec : {M : Type 1} → statement M
 plan-at-spec =

@@ -1,17 +1,14 @@
 use Prim.Native.Nat.{_/_, _≤_}
-use mathlib.Core.Path.{sym, _∙_, refl, ap}
+use mathlib.Core.Path.{sym, _∙_}
 use borrow.Author.Tests.{ltb-true, ltb-false}
-use lib.IntN.{ℤ, pos, _+ℤ_}
 use mir.Syntax.{w32}
 use mir.ValLaws.{toZ-ofZ}
-use Rattle.order.specs.Deadline.{cut}
 use Rattle.order.specs.RefusalLaws.{accepted-iff}
 use Rattle.order.specs.Table.{orderOf}
 use Rattle.order.specs.declared.Refusal.the-variants.{BoundOutOfRange, BufferTooShort}
-use Rattle.order.specs.LeadLaws.{reach-most}
-use Rattle.reason.specs.Matching.{fine-of}
+use Rattle.table.specs.Making.{fine-of}
 use Rattle.planner.specs.Rows.{rowsAsked}
-use Rattle.planner.proofs.SetupLaws.{stretches-counted}
+use Rattle.planner.proofs.SetupLaws.{counts-small, short-is}
 use Rattle.planner.proofs.Answers.{
   order-refused,
   order-accepted,
@@ -27,7 +24,6 @@ use Rattle.planner.proofs.Answers.{
   reason-told,
 }
 use borrow.Author.Needs.{needs}
-use native.Mathlib.Omega.{arith}
 use Rattle.planner.proofs.judging.judge_bound.Statement.{statement}
 use Rattle.planner.proofs.judging.judge_bound.Tie as tie
 
@@ -72,17 +68,17 @@ returns-2 c =
     (out-of-range _ _ e _ (c .before .before .bound-in-range .ensures) (c .before .if1 .taken)))
     _ (c .refuse2 .ensures .0) (c .refuse2 .ensures .1)
 
-setting-of-requires : tie.Need-setting-of-requires
-setting-of-requires c κs =
+table-of-requires : tie.Need-table-of-requires
+table-of-requires c κs =
     order-accepted (orderOf (c .before .before .before .before .before .args .order)) _
     (c .before .before .before .before .accept .ensures) (c .before .before .enum-told .given .1)
 
 is-short-requires : tie.Need-is-short-requires
 is-short-requires c κs =
-    let o = orderOf (c .before .before .before .before .before .before .args .order) in (
-      order-accepted o _ (c .before .before .before .before .before .accept .ensures) (c .before .before .before .enum-told .given .1),
-      stretches-counted o _ (c .setting-of .ensures .grid),
-    )
+    let o = orderOf (c .before .before .before .before .before .before .args .order) in
+    let ok = order-accepted o _ (c .before .before .before .before .before .accept .ensures)
+    (c .before .before .before .enum-told .given .1) in
+    counts-small o ok _ (c .table-of .ensures)
 
 refuse-requires-3 : tie.Need-refuse-requires-3
 refuse-requires-3 c κs = search needs
@@ -98,14 +94,15 @@ returns-3 c =
     (c .before .before .before .before .if1 .left) in
     refused-judged o (s .args .bound) (s .args .lent) BufferTooShort
     (refused-9 o (s .args .bound) (s .args .lent) ok in-range
-    (ltb-true _ _ (sym (c .before .before .is-short .ensures) ∙ c .before .if2 .taken)))
+    (ltb-true _ _ (sym (short-is o ok _ (c .before .before .before .table-of .ensures) _ (c .before .before .is-short .ensures))
+    ∙ c .before .if2 .taken)))
     _ (c .refuse3 .ensures .0) (c .refuse3 .ensures .1)
 
-deadline-requires : tie.Need-deadline-requires
-deadline-requires c κs =
+reach-of-requires : tie.Need-reach-of-requires
+reach-of-requires c κs =
     let s = c .before .before .before .before .before .before .before .before in
     let e = toZ-ofZ w32 (s .args .bound) (s .fits .bound) in
-    (refl, read-in _ _ e _ (c .before .before .before .before .bound-in-range .ensures) (c .before .before .before .if1 .left))
+    read-in _ _ e _ (c .before .before .before .before .bound-in-range .ensures) (c .before .before .before .if1 .left)
 
 tell-requires : tie.Need-tell-requires
 tell-requires c κs =
@@ -114,13 +111,7 @@ tell-requires c κs =
     let e = toZ-ofZ w32 (s .args .bound) (s .fits .bound) in
     let ok = order-accepted o _ (c .before .before .before .before .before .before .before .before .accept .ensures)
     (c .before .before .before .before .before .before .enum-told .given .1) in
-    let reach = c .deadline .ensures ∙ ap (λ (z : ℤ). cut (pos 1000000 +ℤ z)) e in
-    let in-range = within-range _ _ e _ (c .before .before .before .before .before .bound-in-range .ensures)
-    (c .before .before .before .before .if1 .left) in (
-      fine-of o _ (c .before .before .before .setting-of .ensures) (accepted-iff o .0 ok),
-      omega
-          (arith, reach, reach-most (s .args .bound) in-range),
-    )
+    (fine-of o _ (c .before .before .before .table-of .ensures) (accepted-iff o .0 ok), c .reach-of .ensures .1)
 
 enum-known-tightness : tie.Need-enum-known-tightness
 enum-known-tightness c = search needs
@@ -136,14 +127,14 @@ returns-4 c =
     let ok = order-accepted o _
     (c .before .before .before .before .before .before .before .before .before .before .before .before .before .accept .ensures)
     (c .before .before .before .before .before .before .before .before .before .before .before .enum-told .given .1) in
-    let m = c .before .before .before .before .before .before .before .before .setting-of .ensures in
+    let m = c .before .before .before .before .before .before .before .before .table-of .ensures in
     let room : rowsAsked o ≤ s .args .lent / 4 = ltb-false _ _
-    (sym (c .before .before .before .before .before .before .before .is-short .ensures)
+    (sym (short-is o ok _ m _ (c .before .before .before .before .before .before .before .is-short .ensures))
     ∙ c .before .before .before .before .before .before .if2 .left) in
     let in-range = within-range _ _ e _
     (c .before .before .before .before .before .before .before .before .before .before .bound-in-range .ensures)
     (c .before .before .before .before .before .before .before .before .before .if1 .left) in
-    let f = reason-told o ok _ m (s .args .bound) _ e _ (c .before .before .before .before .before .deadline .ensures) _
+    let f = reason-told o ok _ m (s .args .bound) _ e _ (c .before .before .before .before .before .reach-of .ensures .0) _
     (c .before .before .before .before .tell .ensures) in
     tight-judged o (s .args .bound) (s .args .lent) ok in-range room _ m _ f _ (c .before .tightness .given .1)
 
@@ -155,13 +146,14 @@ returns-5 c =
     let ok = order-accepted o _
     (c .before .before .before .before .before .before .before .before .before .before .before .before .accept .ensures)
     (c .before .before .before .before .before .before .before .before .before .before .enum-told .given .1) in
-    let m = c .before .before .before .before .before .before .before .setting-of .ensures in
+    let m = c .before .before .before .before .before .before .before .table-of .ensures in
     let room : rowsAsked o ≤ s .args .lent / 4 = ltb-false _ _
-    (sym (c .before .before .before .before .before .before .is-short .ensures) ∙ c .before .before .before .before .before .if2 .left) in
+    (sym (short-is o ok _ m _ (c .before .before .before .before .before .before .is-short .ensures))
+    ∙ c .before .before .before .before .before .if2 .left) in
     let in-range = within-range _ _ e _
     (c .before .before .before .before .before .before .before .before .before .bound-in-range .ensures)
     (c .before .before .before .before .before .before .before .before .if1 .left) in
-    let f = reason-told o ok _ m (s .args .bound) _ e _ (c .before .before .before .before .deadline .ensures) _
+    let f = reason-told o ok _ m (s .args .bound) _ e _ (c .before .before .before .before .reach-of .ensures .0) _
     (c .before .before .before .tell .ensures) in
     open-judged o (s .args .bound) (s .args .lent) ok in-range room _ m _ f (c .enum-told2 .given .1)
 
@@ -177,11 +169,11 @@ judge-bound-spec =
     bound-in-range-requires
     refuse-requires-2
     returns-2
-    setting-of-requires
+    table-of-requires
     is-short-requires
     refuse-requires-3
     returns-3
-    deadline-requires
+    reach-of-requires
     tell-requires
     enum-known-tightness
     enum-told-2

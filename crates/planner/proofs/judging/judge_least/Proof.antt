@@ -3,7 +3,7 @@ use borrow.Author.Tests.{ltb-true, ltb-false}
 use borrow.Author.Needs.{needs}
 use Rattle.order.specs.Table.{orderOf}
 use Rattle.order.specs.declared.Refusal.the-variants.{BufferTooShort}
-use Rattle.planner.proofs.SetupLaws.{stretches-counted}
+use Rattle.planner.proofs.SetupLaws.{counts-small, short-is}
 use Rattle.planner.proofs.Answers.{
   order-refused,
   order-accepted,
@@ -37,17 +37,15 @@ returns c =
 enum-told : tie.Need-enum-told
 enum-told c = search needs
 
-setting-of-requires : tie.Need-setting-of-requires
-setting-of-requires c κs =
+table-of-requires : tie.Need-table-of-requires
+table-of-requires c κs =
     order-accepted (orderOf (c .before .before .before .args .order)) _ (c .before .before .accept .ensures) (c .enum-told .given .1)
 
 is-short-requires : tie.Need-is-short-requires
 is-short-requires c κs =
-    let o = orderOf (c .before .before .before .before .args .order) in (
-      order-accepted o _ (c .before .before .before .accept .ensures) (c .before .enum-told .given .1),
-      stretches-counted o _
-          (c .setting-of .ensures .grid),
-    )
+    let o = orderOf (c .before .before .before .before .args .order) in
+    let ok = order-accepted o _ (c .before .before .before .accept .ensures) (c .before .enum-told .given .1) in
+    counts-small o ok _ (c .table-of .ensures)
 
 refuse-least-requires-2 : tie.Need-refuse-least-requires-2
 refuse-least-requires-2 c κs = search needs
@@ -59,7 +57,8 @@ returns-2 c =
     let ok = order-accepted o _ (c .before .before .before .before .before .before .accept .ensures)
     (c .before .before .before .before .enum-told .given .1) in
     least-refused-judged o (s .args .lent) BufferTooShort
-    (least-refused-9 o (s .args .lent) ok (ltb-true _ _ (sym (c .before .before .is-short .ensures) ∙ c .before .if1 .taken)))
+    (least-refused-9 o (s .args .lent) ok (ltb-true _ _ (sym (short-is o ok _ (c .before .before .before .table-of .ensures) _ (c .before .before .is-short .ensures))
+    ∙ c .before .if1 .taken)))
     _ (c .refuse-least2 .ensures)
 
 returns-3 : tie.Need-returns-3
@@ -68,8 +67,8 @@ returns-3 c =
     let o = orderOf (s .args .order) in
     let ok = order-accepted o _ (c .before .before .before .before .before .accept .ensures)
     (c .before .before .before .enum-told .given .1) in
-    least-open o (s .args .lent) ok (ltb-false _ _ (sym (c .before .is-short .ensures) ∙ c .if1 .left)) _
-    (c .before .before .setting-of .ensures)
+    least-open o (s .args .lent) ok (ltb-false _ _ (sym (short-is o ok _ (c .before .before .table-of .ensures) _ (c .before .is-short .ensures)) ∙ c .if1 .left)) _
+    (c .before .before .table-of .ensures)
 
 pub judge-least-spec : {M : Type 1} → statement M
 judge-least-spec =
@@ -80,7 +79,7 @@ judge-least-spec =
     refuse-least-requires
     returns
     enum-told
-    setting-of-requires
+    table-of-requires
     is-short-requires
     refuse-least-requires-2
     returns-2

@@ -1,19 +1,20 @@
-use mathlib.Core.Path.{sym, ap, _∙_, subst}
-use native.Mathlib.Omega.{arith}
 use borrow.Author.Needs.{needs}
 use lib.ListN.{length}
-use lib.Signed.{≤ℤ-refl}
 use Rattle.order.specs.RefusalLaws.{accepted-iff}
-use Rattle.order.specs.Refusals.{boundInRange}
 use Rattle.order.specs.Table.{orderOf}
 use Rattle.profile.specs.Least.{leastLateness}
 use Rattle.profile.specs.LeastRange.{least-in-range}
-use Rattle.profile.specs.ReasonLaws.{NoReason}
-use Rattle.profile.specs.Threshold.{no-reason-from}
-use Rattle.reason.specs.Matching.{fine-of}
+use Rattle.table.specs.Making.{fine-of}
 use Rattle.feasible.specs.Least.{is-least}
 use Rattle.planner.specs.LeastRead.{read-least}
-use Rattle.planner.proofs.Answers.{least-refused, least-order-good, least-room-good, least-ensured, least-told, written-at}
+use Rattle.planner.proofs.Answers.{
+  least-refused,
+  least-order-good,
+  least-ensured,
+  least-told,
+  least-made,
+  written-at,
+}
 use Rattle.planner.proofs.lateness.least_lateness.Statement.{statement}
 use Rattle.planner.proofs.lateness.least_lateness.Tie as tie
 
@@ -41,7 +42,7 @@ least-in-requires c κs =
     let j = c .before .before .before .judge-least in
     let is = c .before .enum-told .given .1 in
     let ok = least-order-good o n _ (j .ensures) is in
-    fine-of o _ (j .ensures .setting-is is) (accepted-iff o .0 ok)
+    fine-of o _ (j .ensures .table-is is) (accepted-iff o .0 ok)
 
 make-plan-requires : tie.Need-make-plan-requires
 make-plan-requires c κs =
@@ -50,15 +51,7 @@ make-plan-requires c κs =
     let n = length (s .args .rows .now) in
     let j = c .before .before .before .before .before .judge-least in
     let is = c .before .before .before .enum-told .given .1 in
-    let ok = least-order-good o n _ (j .ensures) is in
-    let l = least-told o ok _ (j .ensures .setting-is is) _ (c .before .least-in .ensures) in
-    let e = read-least (c .before .least-in .result) (leastLateness o) l (least-in-range o ok) in (
-      ok,
-      ap boundInRange e ∙ least-in-range o ok,
-      subst (NoReason o) (sym e) (no-reason-from o ok (leastLateness o) (≤ℤ-refl (leastLateness o))),
-      omega (arith, least-room-good o n _ (j .ensures) is),
-      j .ensures .setting-is is,
-    )
+    (o, least-made o n _ (j .ensures) is _ (c .before .least-in .ensures))
 
 cast-t12 : tie.Need-cast-t12
 cast-t12 c = search needs
@@ -74,10 +67,11 @@ returns-2 c =
     let j = c .before .before .before .before .before .before .before .before .judge-least in
     let is = c .before .before .before .before .before .before .enum-told .given .1 in
     let ok = least-order-good o n _ (j .ensures) is in
-    let l = least-told o ok _ (j .ensures .setting-is is) _ (c .before .before .before .before .least-in .ensures) in
+    let l = least-told o ok _ (j .ensures .table-is is) _ (c .before .before .before .before .least-in .ensures) in
     let e = read-least (c .before .before .before .before .least-in .result) (leastLateness o) l (least-in-range o ok) in
     least-ensured o n _ (j .ensures) is (is-least o ok) (s .args .rows .now) _ _ _ e
-    (written-at e (c .before .before .make-plan .ensures .0))
+    (written-at e (c .before .before .make-plan .ensures .0 o
+    (least-made o n _ (j .ensures) is _ (c .before .before .before .before .least-in .ensures))))
 
 pub least-lateness-spec : {M : Type 1} → statement M
 least-lateness-spec =

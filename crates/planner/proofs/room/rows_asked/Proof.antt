@@ -1,23 +1,48 @@
-use Rattle.order.specs.Table.{orderOf}
-use Rattle.planner.proofs.SetupLaws.{stretches-counted}
+use Prim.Native.Nat.{ℕ, _+_, _-_, _*_}
+use mathlib.Core.Path.{_≡_, refl, _∙_}
+use native.Mathlib.Omega.{arith}
 use borrow.Author.Needs.{needs}
+use lib.ListN.{getD}
+use Rattle.sums.specs.Places.{length-tabulate}
+use Rattle.order.specs.Lead.{lastDue}
+use Rattle.order.specs.RefusalLaws.{accepted-iff}
+use Rattle.order.specs.StructLaws.{few-jobs, few-processors}
+use Rattle.order.specs.Table.{orderOf, jobAt}
+use Rattle.order.specs.declared.Order.{Order as OrderTable}
+use Rattle.wrap.specs.Stretches.{stretchCount}
+use Rattle.allot.specs.GridMarks.{grid-counted}
+use Rattle.planner.specs.Rows.{rowsAsked}
 use Rattle.planner.proofs.room.rows_asked.Statement.{statement}
 use Rattle.planner.proofs.room.rows_asked.Tie as tie
-use Rattle.planner.proofs.room.rows_asked.Reads as reads
-use Rattle.planner.proofs.room.rows_asked.Lts as lts
-use Rattle.planner.proofs.room.rows_at.Reads as rows-at-reads
-use Rattle.reason.proofs.lead.grid_of.Reads as grid-of-reads
+
+asked : (t : OrderTable) (q : ℕ) → q ≡ stretchCount (orderOf t) → q * (t .jobs + t .processors - 1) ≡ rowsAsked (orderOf t)
+asked t q e =
+    rw (e, length-tabulate (t .jobs) (jobAt t), length-tabulate (t .processors) (λ i. getD (t .memories) i 0)) refl
 
 grid-of-requires : tie.Need-grid-of-requires
 grid-of-requires c κs = search needs
 
-rows-at-requires : tie.Need-rows-at-requires
-rows-at-requires c κs =
-    let s = c .before in
-    (s .pre, stretches-counted (orderOf (s .args .order)) (c .grid-of .result) (c .grid-of .ensures))
+cast-rows-of : tie.Need-cast-rows-of
+cast-rows-of c = search needs
+
+cast-rows-of-2 : tie.Need-cast-rows-of-2
+cast-rows-of-2 c = search needs
+
+rows-of-requires : tie.Need-rows-of-requires
+rows-of-requires c κs =
+    let s = c .before .before .before in
+    let o = s .args .order in (
+      c .before .before .grid-of .ensures .few,
+      omega (arith, accepted-iff (orderOf o) .0 (s .pre) .some-job, length-tabulate (o .jobs) (jobAt o)),
+      few-jobs o (s .pre),
+      few-processors o (s .pre),
+    )
 
 returns : tie.Need-returns
-returns c = search needs
+returns c =
+    let s = c .before .before .before .before in
+    let g = c .before .before .before .grid-of in
+    (c .rows-of .ensures .0 ∙ asked (s .args .order) _ (grid-counted lastDue _ _ (g .ensures)), c .rows-of .ensures .1)
 
 pub rows-asked-spec : {M : Type 1} → statement M
-rows-asked-spec = tie.close (tie.spec grid-of-requires rows-at-requires returns)
+rows-asked-spec = tie.close (tie.spec grid-of-requires cast-rows-of cast-rows-of-2 rows-of-requires returns)

@@ -4,11 +4,11 @@ use Prim.Native.Nat.{ℕ, _-_, _≤_}
 use mathlib.Core.Path.{_≡_}
 use lib.ListN.{length, getD}
 use Rattle.sums.specs.Arrays.{RowOf, fill-at}
-use Rattle.planner.proofs.setup.minutes_at.Statement.{statement}
-use Rattle.planner.proofs.setup.minutes_at.Tie as tie
-use Rattle.planner.proofs.setup.minutes_at.Reads as reads
-use Rattle.planner.proofs.setup.minutes_at.Lts as lts
-use Rattle.planner.proofs.setup.less.Reads as less-reads
+use Rattle.table.proofs.lead.minutes_at.Statement.{statement}
+use Rattle.table.proofs.lead.minutes_at.Tie as tie
+use Rattle.table.proofs.lead.minutes_at.Reads as reads
+use Rattle.table.proofs.lead.minutes_at.Lts as lts
+use Rattle.table.proofs.lead.less.Reads as less-reads
 
 abbrev Inv-loop : tie.InvT-loop
 Inv-loop reach leads r₀ i₀ r i = (i ≤ 48) × (length r ≡ 48) × RowOf (λ (k : ℕ). reach - getD leads k 0) i r
