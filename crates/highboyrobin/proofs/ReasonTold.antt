@@ -13,7 +13,7 @@ use Rattle.order.specs.RefusalLaws.{accepted-iff, judge-accepted-append}
 use Rattle.profile.specs.Reason.{Reason, overEnd, stairs}
 use Rattle.profile.specs.ReasonLaws.{reason-found}
 use Rattle.profile.specs.Search.{Found, nothing, found, reasonOf}
-use Rattle.allot.specs.Bounds.{classes-few}
+use Rattle.order.specs.ClassLaws.{classes-few}
 use Rattle.reason.specs.Told.{whyOf}
 use Rattle.reason.specs.declared.Reason.the-variants.{Job, Stairs}
 use Rattle.reason.specs.declared.Tightness.{Tightness}

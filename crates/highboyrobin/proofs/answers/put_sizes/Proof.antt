@@ -1,7 +1,7 @@
 use mathlib.Core.Path.{sym, ap}
 use lib.IntN.{pos}
 use Rattle.sums.specs.Places.{length-tabulate}
-use Rattle.order.specs.StructLaws.{counts-few}
+use Rattle.order.specs.StructLaws.{few-jobs, few-processors}
 use mathlib.Core.Path.{_∙_}
 use mir.ValLaws.{toZ-ofZ}
 use mir.Syntax.{w32}
@@ -17,13 +17,14 @@ use Rattle.highboyrobin.proofs.answers.count_of.Reads as count-of-reads
 use Rattle.planner.proofs.room.rows_asked.Reads as rows-asked-reads
 
 count-of-requires : tie.Need-count-of-requires
-count-of-requires c κs = omega (arith, counts-few (c .args .order) (c .pre .0))
+count-of-requires c κs = omega (arith, few-processors (c .args .order) (c .pre .0), few-jobs (c .args .order) (c .pre .0))
 
 slice-set-from-answer : tie.Need-slice-set-from-answer
 slice-set-from-answer c = search needs
 
 count-of-requires-2 : tie.Need-count-of-requires-2
-count-of-requires-2 c κs = omega (arith, counts-few (c .before .args .order) (c .before .pre .0))
+count-of-requires-2 c κs =
+    omega (arith, few-processors (c .before .args .order) (c .before .pre .0), few-jobs (c .before .args .order) (c .before .pre .0))
 
 slice-set-from-answer-2 : tie.Need-slice-set-from-answer-2
 slice-set-from-answer-2 c = rw (length-set _ 0 _) (omega (arith, c .before .before .pre))
