@@ -1,7 +1,7 @@
 -- The common start in the words of the order. Profile: document 01's staircase. A violating cut gives an overfull one,
 -- whose times are deadlines; feasible amounts, in any parts, leave none, and where there is none they exist.
 -- The stretches lie between marks of time: the distinct deadlines, or the single minutes.
-use mathlib.Core.Path.{_≡_, refl, sym, ap, _∙_}
+use mathlib.Core.Path.{_≡_, sym, ap, _∙_}
 use mathlib.Core.Logic.{inl, inr}
 use Prim.Native.Nat.{ℕ, zero, suc, _*_, _-_, _≤_, _<_}
 use native.Mathlib.Nat.{mul-le-mul-right}

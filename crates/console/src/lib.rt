@@ -1,6 +1,5 @@
 // Standard input and standard output for the programs, with failures told apart from the end of the input, and the status that a
 // program tells its starter. No contract can speak of what is read or written.
-ghost use Prim.Native.Nat.{_≤_};
 ghost use lib.ListN.{length};
 ghost use Rattle.console.specs.Within.{Within};
 

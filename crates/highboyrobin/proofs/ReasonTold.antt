@@ -5,7 +5,6 @@ use mathlib.Core.Bool.{true, false}
 use mathlib.Core.List.{[], _∷_, _++_}
 use native.Mathlib.Omega.{arith}
 use lib.IntN.{ℤ}
-use lib.ListN.{length}
 use Rattle.sums.specs.Members.{All-nth}
 use Rattle.order.specs.Order.{Order, noJob}
 use Rattle.order.specs.Refusals.{limits, accepted, refused, judge, orderRows, boundRow, boundInRange, Accepted}

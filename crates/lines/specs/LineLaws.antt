@@ -1,16 +1,16 @@
 -- Lines of one row more, of one due time more, and of the rows that stand as numbers in a buffer.
-use Prim.Native.Nat.{ℕ, zero, suc, _+_, _*_, _/_, _<_, _≤_, min}
+use Prim.Native.Nat.{ℕ, zero, suc, _+_, _*_, _/_, _<_, min}
 use mathlib.Core.Path.{_≡_, refl, sym, ap, _∙_}
 use mathlib.Core.List.{List, [], _∷_, _++_, append-assoc, append-nil}
 use native.Mathlib.Omega.{arith}
 use native.Mathlib.Decide.{decLt}
 use lib.IntN.{ℤ, pos}
-use lib.ListN.{length, getD, take, length-append}
+use lib.ListN.{length, getD, take}
 use lib.Seq.{take-all, take-suc}
 use Rattle.sums.specs.Lists.{tabulate}
 use Rattle.sums.specs.Places.{tabulate-more, tabulate-cong}
 use Rattle.plan.specs.Plan.{Row}
-use Rattle.plan.specs.Check.{numbersOf, rowAt, rowsOf}
+use Rattle.plan.specs.Check.{numbersOf, rowAt}
 use Rattle.plan.specs.NumberLaws.{rows-of-numbers, length-numbers}
 use Rattle.lines.specs.Text.{signedNumber}
 use Rattle.lines.specs.Lines.{pieceLine, pieceLines, signedNumbers}

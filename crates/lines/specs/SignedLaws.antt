@@ -1,6 +1,6 @@
 -- A number of 32 bits as its pattern: below 2^31 it is the number, from there on a minus sign stands before what is left to 2^32.
 use Prim.Native.Nat.{ℕ, suc, _+_, _-_, _≤_, _<_}
-use mathlib.Core.Path.{_≡_, refl, ap}
+use mathlib.Core.Path.{_≡_, ap}
 use mathlib.Core.List.{_++_}
 use native.Mathlib.Omega.{arith}
 use native.Mathlib.Decide.{decLt}

@@ -1,16 +1,13 @@
 -- Laws of decimal numbers and of text put into a buffer.
-use Prim.Native.Nat.{ℕ, zero, suc, _+_, _*_, _^_, _/_, _%_, _≤_, _<_}
+use Prim.Native.Nat.{ℕ, zero, suc, _+_, _^_, _/_, _%_, _≤_, _<_}
 use mathlib.Core.Path.{_≡_, refl, sym, ap, _∙_, subst}
-use mathlib.Core.Bool.{Bool, true, false, cond}
-use mathlib.Core.List.{List, [], _∷_, _++_, append-assoc, append-nil}
+use mathlib.Core.List.{List, [], _∷_, _++_, append-assoc}
 use native.Mathlib.Omega.{arith}
 use native.Mathlib.Decide.{decLt}
 use borrow.Author.Tests.{lt-ltb, le-ltb}
-use lib.Dec.{ltb}
-use lib.IntN.{ℤ, pos, negsuc}
 use lib.ListN.{length, getD, take, drop, set, length-append, length-set, take-append-drop}
 use lib.Seq.{drop-drop, drop-append-add, length-take-le, take-at, take-suc, set-split}
-use Rattle.lines.specs.Text.{digitsWithin, decimal, signedDecimal, Put}
+use Rattle.lines.specs.Text.{digitsWithin, decimal, Put}
 
 -- enough is enough
 digits-same : (a b n : ℕ) → n < a → n < b → digitsWithin a n ≡ digitsWithin b n

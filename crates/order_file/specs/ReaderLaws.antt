@@ -1,7 +1,7 @@
 -- What the reader's answer says of a file: its verdict, its order, and the verdict of an entry point that takes a file and whose
 -- rows begin with the order's.
 use Prim.Native.Nat.{ℕ}
-use mathlib.Core.Path.{_≡_, refl, sym, ap, _∙_}
+use mathlib.Core.Path.{_≡_, sym, ap, _∙_}
 use mathlib.Core.List.{List, [], _∷_, _++_}
 use Rattle.order.specs.Refusals.{limits, TableRow, accepted, judge, answerBy, orderRows, fileRow, Accepted}
 use Rattle.order.specs.RefusalLaws.{judge-accepted, judge-clear, judge-refused-append}

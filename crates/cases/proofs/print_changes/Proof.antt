@@ -1,8 +1,5 @@
-use Prim.Native.Nat.{ℕ, _≤_, _<_, _-_}
-use mathlib.Core.Path.{_≡_}
-use lib.ListN.{length}
+use Prim.Native.Nat.{_≤_, _-_}
 use borrow.Author.Needs.{needs}
-use native.Mathlib.Omega.{arith}
 use Rattle.cases.proofs.print_changes.Statement.{statement}
 use Rattle.cases.proofs.print_changes.Tie as tie
 use Rattle.cases.proofs.print_changes.Reads as reads

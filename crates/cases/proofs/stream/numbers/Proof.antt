@@ -1,8 +1,7 @@
-use Prim.Native.Nat.{ℕ, _≤_, _<_, _-_}
+use Prim.Native.Nat.{_≤_, _-_}
 use mathlib.Core.Path.{_≡_}
 use lib.ListN.{length}
 use borrow.Author.Needs.{needs}
-use native.Mathlib.Omega.{arith}
 use Rattle.cases.proofs.stream.numbers.Statement.{statement}
 use Rattle.cases.proofs.stream.numbers.Tie as tie
 use Rattle.cases.proofs.stream.numbers.Reads as reads

@@ -1,6 +1,5 @@
-use Prim.Native.Nat.{ℕ, _+_, _*_, _^_, _<_, _≤_}
-use mathlib.Core.Path.{sym}
-use lib.ListN.{length, getD}
+use Prim.Native.Nat.{ℕ, _+_, _*_, _^_, _<_}
+use lib.ListN.{getD}
 use Rattle.engine.proofs.Steps.{Places, places, left-fits, raise-fits, pushed, displaced}
 use borrow.Author.Needs.{needs}
 use native.Mathlib.Omega.{arith}

@@ -1,10 +1,10 @@
 use borrow.Author.Needs.{needs}
 use native.Mathlib.Omega.{arith}
 use mathlib.Core.Path.{_≡_, _∙_, refl}
-use Prim.Native.Nat.{ℕ, _≤_, _<_, _-_, _+_, _*_}
-use lib.ListN.{length, getD, length-set}
+use Prim.Native.Nat.{ℕ, _≤_, _-_}
+use lib.ListN.{length, length-set}
 use lib.Seq.{getD-set-same, getD-set-other}
-use Rattle.engine.specs.Start.{Level, Filled}
+use Rattle.engine.specs.Start.{Filled}
 use Rattle.engine.proofs.Laws.{fill-at}
 use Rattle.engine.proofs.filling.level.Statement.{statement}
 use Rattle.engine.proofs.filling.level.Tie as tie

@@ -2,7 +2,6 @@ use mathlib.Core.Path.{_∙_}
 use lib.ListN.{length-set}
 use Rattle.engine.proofs.Steps.{begin, solved}
 use borrow.Author.Needs.{needs}
-use native.Mathlib.Omega.{arith}
 use Rattle.engine.proofs.filling.solve.Statement.{statement}
 use Rattle.engine.proofs.filling.solve.Tie as tie
 use Rattle.engine.proofs.filling.solve.Reads as reads

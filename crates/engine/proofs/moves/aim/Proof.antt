@@ -4,8 +4,8 @@ use native.Mathlib.Omega.{arith}
 use mathlib.Core.Path.{_≡_}
 use mathlib.Core.Logic.{_≢_}
 use Prim.Native.Nat.{ℕ, suc, _≤_, _<_, _-_, _+_, _*_}
-use lib.ListN.{length, getD}
-use Rattle.engine.specs.View.{Aim, in-rows}
+use lib.ListN.{getD}
+use Rattle.engine.specs.View.{in-rows}
 use Rattle.engine.proofs.moves.aim.Statement.{statement}
 use Rattle.engine.proofs.moves.aim.Tie as tie
 use Rattle.engine.proofs.moves.aim.Reads as reads

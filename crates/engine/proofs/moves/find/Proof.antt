@@ -2,11 +2,8 @@ use borrow.Author.Needs.{needs}
 use native.Mathlib.Omega.{arith}
 use mathlib.Core.Path.{_≡_}
 use mathlib.Core.List.{[]}
-use mathlib.Core.Logic.{⊎-elim, _≢_}
 use Prim.Native.Nat.{ℕ, suc, _≤_, _<_, _-_, _+_, _*_}
-use lib.ListN.{length, getD}
-use Rattle.amounts.specs.State.{Able}
-use Rattle.amounts.specs.Below.{Free}
+use lib.ListN.{getD}
 use Rattle.amounts.specs.State.{Barred}
 use Rattle.engine.specs.View.{in-rows, row-end, flowOf, fillOf}
 use Rattle.engine.proofs.Laws.{free-upto, upto-free, barred-more}

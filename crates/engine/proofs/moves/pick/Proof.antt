@@ -1,9 +1,8 @@
 use borrow.Author.Needs.{needs}
 use native.Mathlib.Omega.{arith}
 use mathlib.Core.Path.{_≡_}
-use Prim.Native.Nat.{ℕ, _≤_, _<_, _-_, _+_, _*_}
-use lib.ListN.{length, getD}
-use Rattle.engine.specs.View.{Picked}
+use Prim.Native.Nat.{ℕ, _≤_, _<_, _-_}
+use lib.ListN.{getD}
 use borrow.Author.Count.{below-more}
 use Rattle.engine.proofs.moves.pick.Statement.{statement}
 use Rattle.engine.proofs.moves.pick.Tie as tie

@@ -1,11 +1,8 @@
 use native.Mathlib.Decide.{ℕ-discrete}
 use borrow.Author.Needs.{needs}
 use native.Mathlib.Omega.{arith}
-use mathlib.Core.Path.{_≡_}
-use Prim.Native.Nat.{ℕ, _≤_, _<_, _-_, _+_, _*_}
-use lib.ListN.{length, getD}
-use Rattle.engine.specs.View.{FirstZero}
-use borrow.Author.Count.{below-more}
+use Prim.Native.Nat.{ℕ, _≤_, _<_, _-_}
+use lib.ListN.{getD}
 use Rattle.engine.proofs.slices.first_zero.Statement.{statement}
 use Rattle.engine.proofs.slices.first_zero.Tie as tie
 use Rattle.engine.proofs.slices.first_zero.Reads as reads

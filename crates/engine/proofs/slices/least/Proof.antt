@@ -1,9 +1,7 @@
 use borrow.Author.Needs.{needs}
 use native.Mathlib.Omega.{arith}
-use mathlib.Core.Path.{_≡_}
 use mathlib.Core.Logic.{⊎-elim}
-use Prim.Native.Nat.{ℕ, _≤_, _<_, _-_, _+_, _*_, max}
-use lib.ListN.{length, getD}
+use Prim.Native.Nat.{_≤_, _-_, max}
 use Rattle.engine.specs.View.{Least}
 use Rattle.engine.proofs.Laws.{least-more}
 use Rattle.engine.proofs.slices.least.Statement.{statement}

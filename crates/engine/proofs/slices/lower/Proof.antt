@@ -1,12 +1,11 @@
-use mathlib.Core.Path.{_∙_}
 use lib.ListN.{length-set}
 use borrow.Author.Needs.{needs}
 use native.Mathlib.Omega.{arith}
 use mathlib.Core.Path.{_≡_}
-use Prim.Native.Nat.{ℕ, _≤_, _<_, _-_, _+_, _*_}
-use lib.ListN.{length, getD}
+use Prim.Native.Nat.{_≤_, _-_}
+use lib.ListN.{length}
 use Rattle.engine.specs.View.{Lowered}
-use Rattle.engine.proofs.Laws.{lowered-none, lowered-more}
+use Rattle.engine.proofs.Laws.{lowered-more}
 use Rattle.engine.proofs.slices.lower.Statement.{statement}
 use Rattle.engine.proofs.slices.lower.Tie as tie
 use Rattle.engine.proofs.slices.lower.Reads as reads

@@ -2,10 +2,10 @@ use lib.ListN.{length-set}
 use borrow.Author.Needs.{needs}
 use native.Mathlib.Omega.{arith}
 use mathlib.Core.Path.{_≡_}
-use Prim.Native.Nat.{ℕ, _≤_, _<_, _-_, _+_, _*_}
-use lib.ListN.{length, getD}
+use Prim.Native.Nat.{_≤_, _-_}
+use lib.ListN.{length}
 use Rattle.engine.specs.View.{Raised}
-use Rattle.engine.proofs.Laws.{raised-none, raised-more}
+use Rattle.engine.proofs.Laws.{raised-more}
 use Rattle.engine.proofs.slices.raise.Statement.{statement}
 use Rattle.engine.proofs.slices.raise.Tie as tie
 use Rattle.engine.proofs.slices.raise.Reads as reads
