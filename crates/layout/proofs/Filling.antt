@@ -2,7 +2,7 @@
 use Prim.Native.Nat.{ℕ, _+_, _-_, _≤_, _<_}
 use mathlib.Core.Path.{_≡_, refl, ap}
 use mathlib.Core.Bool.{Bool, true, false, cond}
-use mathlib.Core.List.{List, [], _∷_, _++_}
+use mathlib.Core.List.{List, [], _∷_, _++_, append-nil}
 use native.Mathlib.Decide.{decLt, ℕ-discrete}
 use native.Mathlib.Omega.{arith}
 use borrow.Author.Tests.{lt-ltb, le-ltb, eq-eqb, ne-eqb}
@@ -26,75 +26,62 @@ module _ (start end : ℕ) where
   fill-no-share (p ∷ ps) at = refl
 
   module _ (p : ℕ) (ps : List ℕ) (at job minutes : ℕ) (xs : List Share) where
-    -- a share that ends before the stretch does; one that ends with it; one that goes on
+    -- a share that ends before the stretch does; one that does not fills the processor, and what is left of it goes on
     pub fill-short : at + minutes < end →
         fill start end (p ∷ ps) at (share job minutes ∷ xs)
         ≡ row job p at (at + minutes) ∷ fill start end (p ∷ ps) (at + minutes) xs
     unfolding fill
     fill-short h = rw (lt-ltb (at + minutes) end h)
 
-    pub fill-exact : at + minutes ≡ end →
-        fill start end (p ∷ ps) at (share job minutes ∷ xs) ≡ row job p at end ∷ fill start end ps start xs
-    unfolding fill
-    fill-exact h = rw (le-ltb (at + minutes) end (omega arith), eq-eqb (at + minutes) end h)
-
-    pub fill-long : end < at + minutes →
+    pub fill-long : end ≤ at + minutes →
         fill start end (p ∷ ps) at (share job minutes ∷ xs)
-        ≡ row job p at end ∷ fill start end ps start (share job (at + minutes - end) ∷ xs)
+        ≡ row job p at end ∷ fill start end ps start (portion job (at + minutes - end) ++ xs)
     unfolding fill
-    fill-long h = rw (le-ltb (at + minutes) end (omega arith), ne-eqb (at + minutes) end (λ e. omega arith))
+    fill-long h =
+        elim (ℕ-discrete (at + minutes) end) [
+          | yes e ↦
+              rw (le-ltb (at + minutes) end h, eq-eqb (at + minutes) end e, le-ltb 0 (at + minutes - end) (omega arith))
+          | no e ↦
+              rw (le-ltb (at + minutes) end h, ne-eqb (at + minutes) end e, lt-ltb 0 (at + minutes - end) (omega arith))
+        ]
 
     pub fill-some : 1 ≤ length (fill start end (p ∷ ps) at (share job minutes ∷ xs))
     fill-some =
         elim (decLt (at + minutes) end) [
           | yes l ↦ omega (arith, ap length (fill-short l))
-          | no l ↦
-              elim (ℕ-discrete (at + minutes) end) [
-                | yes e ↦ omega (arith, ap length (fill-exact e))
-                | no e ↦ omega (arith, ap length (fill-long (omega arith)))
-              ]
+          | no l ↦ omega (arith, ap length (fill-long (omega arith)))
         ]
 
   -- a share alone takes no more rows than with others behind it
   alone : (ps : List ℕ) (at job minutes : ℕ) (xs : List Share) →
-      length (fill start end ps at (share job minutes ∷ [])) ≤ length (fill start end ps at (share job minutes ∷ xs))
-  alone [] at job minutes xs = omega (arith, ap length (fill-no-processor at (share job minutes ∷ [])))
+      length (fill start end ps at (portion job minutes ++ [])) ≤ length (fill start end ps at (portion job minutes ++ xs))
+  alone [] at job minutes xs = omega (arith, ap length (fill-no-processor at (portion job minutes ++ [])))
   alone (p ∷ ps) at job minutes xs =
-      elim (decLt (at + minutes) end) [
-        | yes l ↦
-            omega (
-              arith,
-              ap length (fill-short p ps at job minutes [] l),
-              ap length (fill-short p ps at job minutes xs l),
-              ap length (fill-no-share (p ∷ ps) (at + minutes)),
-            )
-        | no l ↦
-            elim (ℕ-discrete (at + minutes) end) [
-              | yes e ↦
+      elim (decLt 0 minutes) [
+        | no m ↦ rw (le-ltb 0 minutes (omega arith)) (omega (arith, ap length (fill-no-share (p ∷ ps) at)))
+        | yes m ↦
+            rw (lt-ltb 0 minutes m)
+            (elim (decLt (at + minutes) end) [
+              | yes l ↦
                   omega (
                     arith,
-                    ap length (fill-exact p ps at job minutes [] e),
-                    ap length (fill-exact p ps at job minutes xs e),
-                    ap length (fill-no-share ps start),
+                    ap length (fill-short p ps at job minutes [] l),
+                    ap length (fill-short p ps at job minutes xs l),
+                    ap length (fill-no-share (p ∷ ps) (at + minutes)),
                   )
-              | no e ↦
+              | no l ↦
                   omega (
                     arith,
                     ap length (fill-long p ps at job minutes [] (omega arith)),
                     ap length (fill-long p ps at job minutes xs (omega arith)),
                     alone ps start job (at + minutes - end) xs,
                   )
-            ]
+            ])
       ]
 
   pub portion-alone : (ps : List ℕ) (at job minutes : ℕ) (xs : List Share) →
       length (fill start end ps at (portion job minutes)) ≤ length (fill start end ps at (portion job minutes ++ xs))
-  portion-alone ps at job minutes xs = go (ltb 0 minutes)
-    where
-      go : (b : Bool) → length (fill start end ps at (cond b (share job minutes ∷ []) []))
-          ≤ length (fill start end ps at (cond b (share job minutes ∷ []) [] ++ xs))
-      go true = alone ps at job minutes xs
-      go false = omega (arith, ap length (fill-no-share ps at))
+  portion-alone ps at job minutes xs = rw (append-nil (portion job minutes)) at (alone ps at job minutes xs)
 
 -- the shares of no job, and of one more
 pub shares-none : (a : ℕ → ℕ → ℕ) (s : ℕ) → sharesOf a s [] ≡ []

@@ -1,30 +1,32 @@
--- A share laid turn by turn: each turn writes one row and goes on where the definition does.
-use Prim.Native.Nat.{ℕ, suc, _+_, _-_, _*_, _≤_, _<_}
-use mathlib.Core.Path.{_≡_, refl, sym, ap, _∙_}
-use mathlib.Core.List.{List, [], _∷_, _++_}
+-- A share laid piece by piece: each turn writes one row and goes on where the definition does.
+use Prim.Native.Nat.{ℕ, suc, _+_, _-_, _*_, _≤_, _<_, min}
+use mathlib.Core.Path.{_≡_, ap, _∙_}
+use mathlib.Core.Bool.{true, false}
+use mathlib.Core.List.{List, [], _∷_, _++_, append-nil}
+use native.Mathlib.Decide.{decLt}
 use native.Mathlib.Omega.{arith}
 use native.Mathlib.Numerals.{add-one}
-use borrow.Author.Tests.{lt-ltb}
+use borrow.Author.Tests.{lt-ltb, le-ltb, ltb-true}
+use lib.Dec.{ltb}
 use lib.ListN.{length, getD, take, drop, drop-of-length-le}
 use lib.Seq.{drop-cons, getD-take, length-take-le}
-use Rattle.plan.specs.Plan.{Row}
-use Rattle.wrap.specs.Layout.{Share, fill}
-use Rattle.layout.specs.Laid.{Laid, share, portion, rowsFrom, Inside, ShareLaid}
+use Rattle.wrap.specs.Layout.{Share}
+use Rattle.layout.specs.Laid.{Laid, portion, rowsFrom, piece, behind, Inside, ShareLaid}
 use Rattle.layout.specs.declared.Place.{Place}
-use Rattle.layout.proofs.Writing.{laid-none, laid-row, laid-then, laid-room}
-use Rattle.layout.proofs.Filling.{fill-no-processor, fill-short, fill-exact, fill-long, fill-some}
+use Rattle.layout.proofs.Writing.{laid-none, laid-then, laid-frame, laid-room}
+use Rattle.layout.proofs.Filling.{fill-no-processor, fill-short, fill-long, fill-some}
 
--- a share under way: of `minutes` from a place on, `left` are still to be laid from processor p, minute `at` and row r on
-pub record Going (start end n : ℕ) (ps : List ℕ) (job minutes p₀ at₀ r₀ : ℕ) (before : List ℕ) (p at r left : ℕ)
+-- a share under way: of `minutes` from the place `first` on, `left` are still to be laid, from `place` on; every processor
+-- that was filled took a row, and so did the piece that ended the share
+pub record Going (start end n : ℕ) (ps : List ℕ) (job minutes : ℕ) (first : Place) (before : List ℕ) (place : Place) (left : ℕ)
     (after : List ℕ) : Type 0 where
   pub goes-on : (later : List Share) →
-      Laid (fill start end (drop p₀ (take n ps)) at₀ (share job minutes ∷ later))
-      (fill start end (drop p (take n ps)) at (share job left ∷ later)) r₀ before r after
-  pub a-processor : p ≤ n
-  pub from-start : start ≤ at
-  pub by-end : at ≤ end
-  pub few : r + p₀ ≡ r₀ + p
-  pub room : 4 * (r₀ + length (fill start end (drop p₀ (take n ps)) at₀ (share job minutes ∷ []))) ≤ length before
+      Laid (rowsFrom start end n ps first (portion job minutes ++ later))
+      (rowsFrom start end n ps place (portion job left ++ later)) (first .rows) before (place .rows) after
+  pub inside : Inside start end n place
+  pub size : n ≤ length ps
+  pub few : place .rows + first .processor ≤ first .rows + place .processor + (1 - left)
+  pub room : 4 * (first .rows + length (rowsFrom start end n ps first (portion job minutes ++ []))) ≤ length before
 
 -- no minute, no share
 pub share-none : {start end n : ℕ} (ps : List ℕ) {place : Place} (job minutes : ℕ) (b : List ℕ) →
@@ -36,110 +38,92 @@ share-none {start} {end} {n} ps {place} job minutes b i e =
       few = omega arith;
     })
 
-portion-some : (job minutes : ℕ) → 0 < minutes → portion job minutes ≡ share job minutes ∷ []
-portion-some job minutes h = rw (lt-ltb 0 minutes h)
-
 pub going-start : {start end n : ℕ} (ps : List ℕ) {place : Place} (job minutes : ℕ) (b : List ℕ) →
-    Inside start end n place → 0 < minutes →
+    Inside start end n place → n ≤ length ps →
     4 * (place .rows + length (rowsFrom start end n ps place (portion job minutes))) ≤ length b →
-    Going start end n ps job minutes (place .processor) (place .at) (place .rows) b
-    (place .processor) (place .at) (place .rows) minutes b
-going-start {start} {end} {n} ps {place} job minutes b i h room =
+    Going start end n ps job minutes place b place minutes b
+going-start {start} {end} {n} ps {place} job minutes b i size room =
     record {
-      goes-on = λ later. laid-none (rowsFrom start end n ps place (share job minutes ∷ later)) (place .rows) b;
-      a-processor = i .a-processor;
-      from-start = i .from-start;
-      by-end = i .by-end;
-      few = refl;
-      room = rw (portion-some job minutes h) at room;
+      goes-on = λ later. laid-none (rowsFrom start end n ps place (portion job minutes ++ later)) (place .rows) b;
+      inside = i;
+      size = size;
+      few = omega arith;
+      room = rw (append-nil (portion job minutes)) room;
     }
 
-module _ {start end n : ℕ} {ps : List ℕ} {job minutes p₀ at₀ r₀ : ℕ} {b : List ℕ} {p at r left : ℕ} {c : List ℕ}
-    (g : Going start end n ps job minutes p₀ at₀ r₀ b p at r left c) (size : n ≤ length ps) where
-  abbrev begin : Place
-  begin = record { processor = p₀; at = at₀; rows = r₀ }
+module _ {start end n : ℕ} {ps : List ℕ} {job minutes : ℕ} {first : Place} {b : List ℕ} {place : Place} {left : ℕ} {c : List ℕ}
+    (g : Going start end n ps job minutes first b place left c) where
+  -- nothing is left to be laid: no minute of the share, or no processor
+  done : ((later : List Share) →
+      rowsFrom start end n ps place (portion job left ++ later) ≡ rowsFrom start end n ps place later) →
+      ShareLaid start end n ps first place (portion job minutes) b c
+  done e = record { goes-on = λ later. rw (e later) at (g .goes-on later); inside = g .inside; few = omega (arith, g .few) }
 
-  -- no processor is left
-  pub going-end : n ≤ p → 0 < minutes →
-      ShareLaid start end n ps begin (record { processor = p; at = at; rows = r }) (portion job minutes) b c
-  going-end l m =
-      let none : drop p (take n ps) ≡ [] = drop-of-length-le (take n ps) {i = p} (rw (length-take-le n ps size) l) in
-      rw (portion-some job minutes m) (record {
-        goes-on = λ later.
-            let e = fill-no-processor start end at (share job left ∷ later) ∙ sym (fill-no-processor start end at later) in
-            let f : fill start end (drop p (take n ps)) at (share job left ∷ later)
-            ≡ fill start end (drop p (take n ps)) at later = rw none e in
-            rw f at (g .goes-on later);
-        inside = record { a-processor = g .a-processor; from-start = g .from-start; by-end = g .by-end };
-        few = omega (arith, g .few);
-      })
+  pub going-done : ltb 0 left ≡ false → ShareLaid start end n ps first place (portion job minutes) b c
+  going-done z = done (λ later. rw z)
 
-  module _ (l : p < n) where
+  pub going-end : n ≤ place .processor → ShareLaid start end n ps first place (portion job minutes) b c
+  going-end l =
+      let none = drop-of-length-le (take n ps) {i = place .processor} (rw (length-take-le n ps (g .size)) l) in
+      done (λ later. simp (none, fill-no-processor))
+
+  module _ (l : place .processor < n) (some : ltb 0 left ≡ true) where
+    abbrev number : ℕ
+    number = getD ps (place .processor) 0
+
     abbrev others : List ℕ
-    others = drop (p + 1) (take n ps)
+    others = drop (place .processor + 1) (take n ps)
 
-    here : drop p (take n ps) ≡ getD ps p 0 ∷ others
+    here : drop (place .processor) (take n ps) ≡ number ∷ others
     here =
         rw add-one
-        (drop-cons (take n ps) p 0 (rw (length-take-le n ps size) l)
-        ∙ ap (λ (x : ℕ). x ∷ drop (suc p) (take n ps)) (getD-take n ps p 0 l))
+        (drop-cons (take n ps) (place .processor) 0 (rw (length-take-le n ps (g .size)) l)
+        ∙ ap (λ (x : ℕ). x ∷ drop (suc (place .processor)) (take n ps)) (getD-take n ps (place .processor) 0 l))
 
     -- there is room for one row more
-    pub going-room : 4 * r + 4 ≤ length c
+    pub going-room : 4 * place .rows + 4 ≤ length c
     going-room =
         let q = g .goes-on [] in
-        let s : 1 ≤ length (fill start end (drop p (take n ps)) at (share job left ∷ [])) =
-        rw here (fill-some start end (getD ps p 0) others at job left []) in
+        let s : 1 ≤ length (rowsFrom start end n ps place (portion job left ++ [])) =
+        rw (some, here) (fill-some start end number others (place .at) job left []) in
         omega (arith, q .same-length, g .room, laid-room q)
 
-    -- one row more, behind what was written
-    further : (row : Row) (rest : List Row) (d : List ℕ) (later : List Share) →
-        fill start end (drop p (take n ps)) at (share job left ∷ later) ≡ row ∷ rest →
-        d ≡ take (4 * r) c ++ (row .job ∷ row .processor ∷ row .from ∷ row .to ∷ drop (4 * r + 4) c) →
-        Laid (rowsFrom start end n ps begin (share job minutes ∷ later)) rest r₀ b (r + 1) d
-    further row rest d later e f =
-        laid-then _ (row ∷ rest) rest r₀ r (r + 1) b c d (omega (arith, g .room))
-        (rw e at (g .goes-on later)) (laid-row row rest r c d going-room f)
-
-    pub going-short : left < end - at → 0 < minutes → {d : List ℕ} →
-        d ≡ take (4 * r) c ++ (job ∷ getD ps p 0 ∷ at ∷ (at + left) ∷ drop (4 * r + 4) c) →
-        ShareLaid start end n ps begin (record { processor = p; at = at + left; rows = r + 1 }) (portion job minutes) b d
-    going-short h m {d} e =
-        rw (portion-some job minutes m) (record {
-          goes-on = λ later.
-              further _ _ d later (rw here (fill-short start end (getD ps p 0) others at job left later (omega arith))) e;
-          inside = record { a-processor = g .a-processor; from-start = omega (arith, g .from-start); by-end = omega arith };
-          few = omega (arith, g .few);
-        })
-
-    module _ (h : end - at ≤ left) {d : List ℕ}
-        (e : d ≡ take (4 * r) c ++ (job ∷ getD ps p 0 ∷ at ∷ end ∷ drop (4 * r + 4) c)) where
-      pub going-exact : left - (end - at) ≡ 0 → 0 < minutes →
-          ShareLaid start end n ps begin (record { processor = p + 1; at = start; rows = r + 1 }) (portion job minutes) b d
-      going-exact z m =
-          rw (portion-some job minutes m) (record {
-            goes-on = λ later.
-                further _ _ d later
-                (rw here (fill-exact start end (getD ps p 0) others at job left later (omega (arith, g .by-end)))) e;
-            inside = record {
-              a-processor = omega arith;
-              from-start = omega arith;
-              by-end = omega (arith, g .from-start, g .by-end);
-            };
-            few = omega (arith, g .few);
-          })
-
-      pub going-long : 0 < left - (end - at) →
-          Going start end n ps job minutes p₀ at₀ r₀ b (p + 1) start (r + 1) (left - (end - at)) d
-      going-long z =
-          let k : at + left - end ≡ left - (end - at) = omega (arith, g .by-end) in
+    -- one piece more
+    module _ {part : ℕ} (fits : part ≡ min left (end - place .at)) {next : Place} {d : List ℕ}
+        (h : Laid (piece number place job part ∷ []) [] (place .rows) c (next .rows) d) where
+      further : ((later : List Share) → rowsFrom start end n ps place (portion job left ++ later)
+          ≡ piece number place job part ∷ rowsFrom start end n ps next (portion job (left - part) ++ later)) →
+          Inside start end n next × (place .processor + 1 ≤ next .processor + (1 - (left - part))) →
+          Going start end n ps job minutes first b next (left - part) d
+      further e i =
           record {
             goes-on = λ later.
-                further _ _ d later
-                (rw (here, sym k) (fill-long start end (getD ps p 0) others at job left later (omega (arith, g .by-end)))) e;
-            a-processor = omega arith;
-            from-start = omega arith;
-            by-end = omega (arith, g .from-start, g .by-end);
-            few = omega (arith, g .few);
+                laid-then _ _ _ (first .rows) (place .rows) (next .rows) b c d (omega (arith, g .room))
+                (rw (e later) at (g .goes-on later)) (laid-frame _ [] _ _ _ _ _ h);
+            inside = i .0;
+            size = g .size;
+            few = omega (arith, ltb-true, g .few, laid-room h);
             room = g .room;
           }
+
+      pub going-more : next ≡ behind start end place part → Going start end n ps job minutes first b next (left - part) d
+      going-more e =
+          elim (decLt (place .at + left) end) [
+            | yes s ↦
+                let m : part ≡ left = omega arith in
+                let z : left - left ≡ 0 = omega arith in
+                let k : next ≡ record { processor = place .processor; at = place .at + left; rows = place .rows + 1 } =
+                rw (e, m, lt-ltb (place .at + left) end s) in
+                further
+                (λ later. rw (some, k, m, z, here) (fill-short start end number others (place .at) job left later s))
+                (rw k (omega (arith, g .inside)))
+            | no s ↦
+                let m : place .at + part ≡ end = omega (arith, g .inside) in
+                let z : left - part ≡ place .at + left - end = omega arith in
+                let k : next ≡ record { processor = place .processor + 1; at = start; rows = place .rows + 1 } =
+                rw (e, m, le-ltb end end (omega arith)) in
+                further
+                (λ later. rw (some, k, m, z, here)
+                (fill-long start end number others (place .at) job left later (omega arith)))
+                (rw k (omega (arith, g .inside)))
+          ]

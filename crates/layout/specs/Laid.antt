@@ -38,6 +38,17 @@ rowsFrom start end n processors place shares =
 abbrev pub rowsBetween : (start end : ℕ) → (processors jobs : List ℕ) → (ℕ → ℕ → ℕ) → ℕ → List Row
 rowsBetween start end processors jobs a s = fill start end processors start (sharesOf a s jobs)
 
+-- the row of one piece of a share, on the processor with this number; and where the next piece goes on
+abbrev pub piece : ℕ → Place → ℕ → ℕ → Row
+piece number place job minutes =
+    record { job = job; processor = number; from = place .at; to = place .at + minutes }
+
+abbrev pub behind : (start end : ℕ) → Place → ℕ → Place
+behind start end place minutes =
+    cond (ltb (place .at + minutes) end)
+    (record { processor = place .processor; at = place .at + minutes; rows = place .rows + 1 })
+    (record { processor = place .processor + 1; at = start; rows = place .rows + 1 })
+
 -- a place among n processors, inside a stretch
 pub record Inside (start end n : ℕ) (place : Place) : Type 0 where
   pub a-processor : place .processor ≤ n

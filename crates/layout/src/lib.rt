@@ -1,6 +1,6 @@
 // McNaughton's wrap, running (document 01, "Plans"): the rows of amounts, stretch by stretch, on the processors that are open.
 mod opened; // the processors that are open in a stretch
-mod rows; // one row, one share
+mod rows; // one row, one piece, one share
 pub mod stretches; // the rows of a stretch, and of a plan
 
 // Where the next share goes on: the place in the processor order, the minute, and the number of rows written so far.

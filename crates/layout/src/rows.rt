@@ -1,11 +1,11 @@
-// One row into the lent buffer, and one share onto the processors. Each function serves this crate alone and has a
-// `requires`.
+// One row into the lent buffer, one piece of a share onto a processor, and one share onto the processors. Each function
+// serves this crate alone and has a `requires`.
 use super::Place;
 ghost use mathlib.Core.Path.{_≡_};
-ghost use Prim.Native.Nat.{_+_, _*_, _<_, _≤_};
-ghost use mathlib.Core.List.{_∷_, _++_};
+ghost use Prim.Native.Nat.{_+_, _-_, _*_, _<_, _≤_, min};
+ghost use mathlib.Core.List.{[], _∷_, _++_};
 ghost use lib.ListN.{length, take, drop};
-ghost use Rattle.layout.specs.Laid.{Inside, ShareLaid, portion, rowsFrom};
+ghost use Rattle.layout.specs.Laid.{Inside, Laid, ShareLaid, behind, piece, portion, rowsFrom};
 
 // The four numbers of a row.
 pub fn put_row(rows: &mut [u32], i: usize, job: u32, processor: u32, from: u32, to: u32)
@@ -18,6 +18,50 @@ pub fn put_row(rows: &mut [u32], i: usize, job: u32, processor: u32, from: u32, 
     rows[at + 1] = processor;
     rows[at + 2] = from;
     rows[at + 3] = to;
+}
+
+// What of a share fits between a minute and the stretch's end.
+fn fitting(left: u32, at: u32, end: u32) -> u32
+    requires { ⌜ at ≤ end ⌝ }
+    ensures { λ r. ⌜ r ≡ min left (end - at) ⌝ }
+{
+    if left < end - at {
+        return left;
+    }
+    end - at
+}
+
+// One piece of a share, on the processor with this number; answers where the next one goes on: behind it, or at the next
+// processor's beginning.
+fn lay_piece(
+    rows: &mut [u32],
+    number: u32,
+    start: u32,
+    end: u32,
+    place: Place,
+    job: u32,
+    minutes: u32,
+) -> Place
+    requires { ⌜ (place .processor < 16) × (place .rows < 100000) × (place .at + minutes ≤ end)
+        × (4 * place .rows + 4 ≤ length (now rows)) ⌝ }
+    ensures { λ r. ⌜ (r ≡ behind start end place minutes)
+        × Laid (piece number place job minutes ∷ []) [] (place .rows) (now (rows .entry)) (r .rows) (now (rows .exit)) ⌝ }
+{
+    let to = place.at + minutes;
+    let written = place.rows + 1;
+    put_row(rows, place.rows, job, number, place.at, to);
+    if to < end {
+        return Place {
+            processor: place.processor,
+            at: to,
+            rows: written,
+        };
+    }
+    Place {
+        processor: place.processor + 1,
+        at: start,
+        rows: written,
+    }
 }
 
 // A share onto the processors from a place on: fill a processor to the stretch's end, then go on at the next one's
@@ -37,39 +81,13 @@ pub fn lay_share(
     ensures { λ r. ⌜ ShareLaid start end n processors place r (portion job minutes)
         (now (rows .entry)) (now (rows .exit)) ⌝ }
 {
-    if minutes == 0 {
-        return place;
-    }
-    let mut processor = place.processor;
-    let mut at = place.at;
-    let mut written = place.rows;
+    let mut next = place;
     let mut left = minutes;
-    while processor < n {
-        let room = end - at;
-        if left < room {
-            put_row(rows, written, job, processors[processor], at, at + left);
-            return Place {
-                processor,
-                at: at + left,
-                rows: written + 1,
-            };
-        }
-        put_row(rows, written, job, processors[processor], at, end);
-        processor += 1;
-        at = start;
-        written += 1;
-        left -= room;
-        if left == 0 {
-            return Place {
-                processor,
-                at,
-                rows: written,
-            };
-        }
+    while next.processor < n && 0 < left {
+        let processor = next.processor;
+        let part = fitting(left, next.at, end);
+        next = lay_piece(rows, processors[processor], start, end, next, job, part);
+        left -= part;
     }
-    Place {
-        processor,
-        at,
-        rows: written,
-    }
+    next
 }
