@@ -1,5 +1,5 @@
--- An instance that stands for an accepted order is small enough for the engine; and where there is no reason against the
--- bound, what the engine answers of it are amounts that are feasible for the order, those that the order has at the bound.
+-- The table of an accepted order at a bound is small enough for the engine; and where there is no reason against the bound, the
+-- engine's answer is amounts for the order.
 use Prim.Native.Nat.{ℕ, suc, _≤_, _<_}
 use mathlib.Core.Path.{_≡_}
 use mathlib.Core.Bool.{Bool, true, false}
@@ -27,7 +27,7 @@ use Rattle.allot.specs.OrderFlow.{stretches-are, mark-same, counts-same,
 use Rattle.table.specs.declared.Table.{Table}
 use Rattle.order.specs.ClassLaws.{classes-few, processorsTo-few}
 use Rattle.order.specs.SortedLaws.{dues-few}
-use Rattle.order.specs.Lead.{lastDue, Workable}
+use Rattle.order.specs.Lead.{lastDue, reachAt, Workable}
 use Rattle.order.specs.LeadLaws.{workable, reach-most, deadline-lead}
 use Rattle.wrap.specs.DuePlaces.{mark-met}
 use Rattle.order.specs.Deadline.{deadlineOf}
@@ -38,14 +38,13 @@ use Rattle.allot.specs.Flows.{flowOn, Sized, TabledAt}
 -- the numbers of an accepted order at a bound in range are small enough
 module _ (o : Order) (a : Acceptable o) (bound : ℤ) (in-range : boundInRange bound ≡ true) where
   -- no mark is beyond the reach
-  mark-small : (s : ℕ) → s < stretchCount o → mark o bound (suc s) ≤ 11000000
+  mark-small : (s : ℕ) → s < stretchCount o → mark o bound (suc s) ≤ reachAt lastDue bound
   unfolding deadlineOf endOf
   mark-small s l =
       let m = mark-met o bound s l in
       omega (
         arith,
         m .2,
-        reach-most bound in-range,
         deadline-lead lastDue bound (jobOf o (suc (m .0)) .due)
             (All-at _ (o .jobs) noJob (workable o a .dues) (m .0) (m .1)),
       )
@@ -77,7 +76,8 @@ module _ (o : Order) (a : Acceptable o) (bound : ℤ) (in-range : boundInRange b
               F .marks-are s (omega arith),
               mark-up o bound s (omega arith),
             );
-        marks-small = λ s b. omega (arith, F .marks-are s (omega arith), mark-small s (omega arith));
+        marks-small = λ s b.
+            omega (arith, F .marks-are s (omega arith), mark-small s (omega arith), reach-most bound in-range);
         few-processors =
             rw last
             (omega (
