@@ -18,8 +18,8 @@ use Rattle.feasible.specs.Matches.{jobs-match}
 use Rattle.feasible.specs.PlanAmounts.{plan-amounts}
 use Rattle.feasible.specs.Overfull.{overfull-profile}
 
--- For every order that the mathematics takes, every whole number, every p from 1 on and every finite list of rows: a right plan leaves no job
--- over its end and no overfull staircase.
+-- For every order that the mathematics takes (every accepted one), every whole number, every p from 1 on and every finite list of
+-- rows: a right plan leaves no job over its end and no overfull staircase.
 pub sound : {top : ℤ} (o : Order) → Workable top o → (bound : ℤ) (p : ℕ) → 1 ≤ p → (rows : List Row) → RightInParts p o bound rows →
     ((j : ℕ) → Numbers (jobCount o) j → InTime bound (jobOf o j)) × ((dues : List ℤ) → ¬ Overfull o bound dues)
 sound o work bound p parts rows right =

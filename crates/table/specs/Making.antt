@@ -24,7 +24,8 @@ use Rattle.order.specs.LeadLaws.{lead-most}
 use Rattle.table.specs.GridLaws.{grid-small}
 
 -- the table of a struct, from its parts
-pub tabled-made : (t : OrderTable) → t .jobs ≤ 48 → t .processors ≤ 16 → (m g : Members) (cs ls ps ms ns : List ℕ) → ClassesOf (orderOf t) m → GridOf lastDue (orderOf t) g →
+pub tabled-made : (t : OrderTable) → t .jobs ≤ 48 → t .processors ≤ 16 → (m g : Members) (cs ls ps ms ns : List ℕ) →
+    ClassesOf (orderOf t) m → GridOf lastDue (orderOf t) g →
     RowOf (λ j. classOf (orderOf t) (jobAt t j)) (t .jobs) cs → RowOf (λ j. lead lastDue (getD (t .dues) j (pos 0))) (t .jobs) ls →
     RowOf (λ i. processorsIn (orderOf t) (suc i)) 16 ps →
     ms ≡ padded 16 (processorOrder (orderOf t)) → ns ≡ padded 48 (jobOrder (orderOf t)) →

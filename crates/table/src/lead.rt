@@ -1,5 +1,5 @@
-// Due times as leads, 1,000,000 less the due time, and bounds as reaches, so that no number of a sum is negative. All serve the crates above and
-// have a `requires`.
+// Due times as leads, 1,000,000 less the due time, and bounds as reaches, so that no number of a sum is negative. All serve the
+// crates above; all but `minutes_at` have a `requires`.
 use super::Members;
 use super::distinct::distinct_down;
 use order::Order;

@@ -56,9 +56,9 @@ returns-2 c =
     let o = orderOf (s .args .order) in
     let ok = order-accepted o _ (c .before .before .before .before .before .before .accept .ensures)
     (c .before .before .before .before .enum-told .given .1) in
+    let short = short-is o ok _ (c .before .before .before .table-of .ensures) _ (c .before .before .is-short .ensures) in
     least-refused-judged o (s .args .lent) BufferTooShort
-    (least-refused-9 o (s .args .lent) ok (ltb-true _ _ (sym (short-is o ok _ (c .before .before .before .table-of .ensures) _ (c .before .before .is-short .ensures))
-    ∙ c .before .if1 .taken)))
+    (least-refused-9 o (s .args .lent) ok (ltb-true _ _ (sym short ∙ c .before .if1 .taken)))
     _ (c .refuse-least2 .ensures)
 
 returns-3 : tie.Need-returns-3
@@ -67,7 +67,8 @@ returns-3 c =
     let o = orderOf (s .args .order) in
     let ok = order-accepted o _ (c .before .before .before .before .before .accept .ensures)
     (c .before .before .before .enum-told .given .1) in
-    least-open o (s .args .lent) ok (ltb-false _ _ (sym (short-is o ok _ (c .before .before .table-of .ensures) _ (c .before .is-short .ensures)) ∙ c .if1 .left)) _
+    let short = short-is o ok _ (c .before .before .table-of .ensures) _ (c .before .is-short .ensures) in
+    least-open o (s .args .lent) ok (ltb-false _ _ (sym short ∙ c .if1 .left)) _
     (c .before .before .table-of .ensures)
 
 pub judge-least-spec : {M : Type 1} → statement M
