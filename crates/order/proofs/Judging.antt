@@ -3,8 +3,6 @@ use Prim.Native.Nat.{ℕ, _≤_, _<_}
 use mathlib.Core.Path.{_≡_, sym, ap, _∙_}
 use mathlib.Core.Bool.{not}
 use mathlib.Core.List.{List, _++_}
-use lib.ListN.{getD}
-use Rattle.sums.specs.Places.{length-tabulate}
 use Rattle.order.specs.Order.{Job, Order}
 use Rattle.order.specs.Refusals.{
   limits,
@@ -21,8 +19,9 @@ use Rattle.order.specs.Refusals.{
   orderRows,
 }
 use Rattle.order.specs.RefusalLaws.{judge-refused-append, judge-accepted-append, counts-in-limits}
+use Rattle.order.specs.StructLaws.{job-count, processor-count}
 use Rattle.order.specs.TableLaws.{refused-told}
-use Rattle.order.specs.Table.{jobAt, orderOf, findingOf, acceptanceTold}
+use Rattle.order.specs.Table.{orderOf, findingOf, acceptanceTold}
 use Rattle.order.specs.declared.Order.{Order as OrderTable}
 use Rattle.order.specs.declared.Refusal.{Refusal}
 use Rattle.order.specs.declared.Acceptance.{Acceptance}
@@ -39,8 +38,7 @@ stays-refused rows later a r e is =
 
 module _ (t : OrderTable) (a : Acceptance) (e : acceptanceTold a ≡ judge (countRows limits (t .processors) (t .jobs))) where
   counts : orderRows limits (orderOf t) ≡ countRows limits (t .processors) (t .jobs) ++ jobRows (orderOf t)
-  counts =
-      rw (length-tabulate (t .processors) (λ i. getD (t .memories) i 0), length-tabulate (t .jobs) (jobAt t))
+  counts = rw (processor-count t, job-count t)
 
   pub counts-refuse : (r : Refusal) → a ≡ Refused r → acceptanceTold a ≡ judge (orderRows limits (orderOf t))
   counts-refuse r is =

@@ -1,5 +1,5 @@
--- Signed numbers of 32 bits: what the machine reads back, tests of a range, the sum of a due time and a bound.
-use Prim.Native.Nat.{ℕ, _≤_, _<_}
+-- Signed numbers of 32 bits: tests of a range, the sum of a due time and a bound.
+use Prim.Native.Nat.{ℕ, _≤_}
 use mathlib.Core.Path.{_≡_, refl, sym}
 use mathlib.Core.Bool.{true, false, _&&_}
 use native.Mathlib.Omega.{arith}
@@ -14,9 +14,6 @@ use Rattle.order.specs.Order.{endAt}
 use Rattle.order.specs.Refusals.{dueInRange, boundInRange}
 use Rattle.order.specs.Deadline.{cut}
 use Rattle.order.specs.EndLaws.{mag-end}
-
-pub read-back : (z : ℤ) → mag z < 2147483648 → toZ w32 (ofZ w32 z) ≡ z
-read-back z h = toZ-ofZ w32 z (record { sfits = h })
 
 -- the two tests of a range
 module _ (z lo hi : ℤ) (f : SFits w32 z) where

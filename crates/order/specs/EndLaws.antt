@@ -41,7 +41,8 @@ module _ (bound due other : ℤ) where
   unfolding endAt
   end-cancel e = add-cancel due other bound e
 
-mag-range : (lo hi : ℕ) (z : ℤ) → (leZ (negsuc lo) z && leZ z (pos hi)) ≡ true → mag z ≤ lo + hi
+-- a number in a range is small
+pub mag-range : (lo hi : ℕ) (z : ℤ) → (leZ (negsuc lo) z && leZ z (pos hi)) ≡ true → mag z ≤ lo + hi
 mag-range lo hi (pos n) h = omega (arith, leb-true n hi (both-true true (leb n hi) h .1))
 mag-range lo hi (negsuc n) h = omega (arith, leb-true n lo (both-true (leb n lo) true h .0))
 

@@ -7,6 +7,7 @@ pub mod Ends
 pub mod Lead
 pub mod Refusals
 pub mod Table
+pub mod Machine
 pub mod RefusalLaws
 pub mod EndLaws
 pub mod LeadLaws

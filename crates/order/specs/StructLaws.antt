@@ -39,18 +39,21 @@ tableOf-orderOf o few-processors few-jobs =
     (getD-tabulate 48 (λ j. getD (o .jobs) j noJob .need) _ j (omega arith)))
     ∙ tabulate-getD (o .jobs) noJob)
 
+-- its order has the struct's counts
+module _ (t : OrderTable) where
+  pub job-count : jobCount (orderOf t) ≡ t .jobs
+  job-count = length-tabulate (t .jobs) (jobAt t)
+
+  pub processor-count : processorCount (orderOf t) ≡ t .processors
+  processor-count = length-tabulate (t .processors) (λ i. getD (t .memories) i 0)
+
 -- what is known of the struct of an accepted order: its counts, and the due time at each place
 module _ (t : OrderTable) (a : Accepted (orderOf t)) where
   pub few-jobs : t .jobs ≤ 48
-  few-jobs = omega (arith, accepted-iff (orderOf t) .0 a .few-jobs, length-tabulate (t .jobs) (jobAt t))
+  few-jobs = omega (arith, accepted-iff (orderOf t) .0 a .few-jobs, job-count t)
 
   pub few-processors : t .processors ≤ 16
-  few-processors =
-      omega (
-        arith,
-        accepted-iff (orderOf t) .0 a .few-processors,
-        length-tabulate (t .processors) (λ i. getD (t .memories) i 0),
-      )
+  few-processors = omega (arith, accepted-iff (orderOf t) .0 a .few-processors, processor-count t)
 
   pub due-in-range-at : (j : ℕ) → j < t .jobs → dueInRange (getD (t .dues) j (pos 0)) ≡ true
   due-in-range-at j l =

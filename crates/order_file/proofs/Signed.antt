@@ -13,10 +13,6 @@ use mir.Syntax.{w32, w64}
 use Rattle.order_file.specs.Bytes.{signed, pattern}
 use Rattle.order_file.specs.ByteLaws.{pattern-small}
 
--- what the machine reads back
-pub read-back : (z : ℤ) → mag z < 2147483648 → toZ w32 (ofZ w32 z) ≡ z
-read-back z h = toZ-ofZ w32 z (record { sfits = h })
-
 -- below 2^31 a pattern stands for itself
 low : (n : ℕ) → n < 2147483648 → toZ w32 n ≡ pos n
 low n h = simp (lt-ltb n 2147483648 h)

@@ -4,12 +4,11 @@ use mathlib.Core.Path.{_≡_, refl, sym, ap, subst, _∙_}
 use mathlib.Core.List.{List, [], _∷_, _++_, map, append-assoc}
 use native.Mathlib.Omega.{arith}
 use borrow.Author.Tests.{lt-ltb, le-ltb}
-use lib.ListN.{length, getD, take, drop}
+use lib.ListN.{length, take, drop}
 use mir.Syntax.{w32}
 use mir.Val.{vint, ofList, WTs}
 use Rattle.sums.specs.Lists.{All}
-use Rattle.sums.specs.Places.{length-tabulate}
-use Rattle.order.specs.Order.{Order, processorCount, jobCount}
+use Rattle.order.specs.Order.{Order}
 use Rattle.order.specs.Refusals.{
   limits,
   TableRow,
@@ -24,8 +23,9 @@ use Rattle.order.specs.Refusals.{
   orderRows,
   roomRow,
 }
-use Rattle.order.specs.RefusalLaws.{accepted-iff, judge-refused-append, judge-accepted-append}
-use Rattle.order.specs.Table.{jobAt, orderOf, refusalTold, acceptanceTold}
+use Rattle.order.specs.RefusalLaws.{judge-refused-append, judge-accepted-append}
+use Rattle.order.specs.StructLaws.{job-count, processor-count, few-jobs, few-processors}
+use Rattle.order.specs.Table.{orderOf, refusalTold, acceptanceTold}
 use Rattle.order.specs.TableLaws.{refused-told}
 use Rattle.order.specs.declared.Order.{Order as OrderTable}
 use Rattle.order.specs.declared.Refusal.{Refusal}
@@ -57,21 +57,12 @@ pub array-small : (xs : List ℕ) → WTs (ofList (map (vint w32) (map (λ x. x)
 array-small [] h = tt
 array-small (x ∷ xs) h = (h .0 .fits, array-small xs (h .1))
 
-module _ (t : OrderTable) where
-  processors-are : processorCount (orderOf t) ≡ t .processors
-  processors-are = length-tabulate (t .processors) (λ i. getD (t .memories) i 0)
-
-  jobs-are : jobCount (orderOf t) ≡ t .jobs
-  jobs-are = length-tabulate (t .jobs) (jobAt t)
-
 module _ (t : OrderTable) (a : Acceptance) (e : acceptanceTold a ≡ judge (orderRows limits (orderOf t))) where
   good : a ≡ Accepted → judge (orderRows limits (orderOf t)) ≡ accepted
   good is = sym e ∙ ap acceptanceTold is
 
   pub counts-few : a ≡ Accepted → (t .processors ≤ 16) × (t .jobs ≤ 48)
-  counts-few is =
-      let h = accepted-iff (orderOf t) .0 (good is) in
-      (omega (arith, h .few-processors, processors-are t), omega (arith, h .few-jobs, jobs-are t))
+  counts-few is = (few-processors t (good is), few-jobs t (good is))
 
   module _ (buffer : List ℕ) where
     abbrev room : List TableRow
@@ -98,7 +89,7 @@ module _ (t : OrderTable) (a : Acceptance) (e : acceptanceTold a ≡ judge (orde
           WrittenBy verdict (orderOf t) buffer (refusal 9 0) buffer
       unfolding judge
       too-short h =
-          rw (room-decides, lt-ltb (length buffer) (fileLength (orderOf t)) (omega (arith, processors-are t, jobs-are t)))
+          rw (room-decides, lt-ltb (length buffer) (fileLength (orderOf t)) (omega (arith, processor-count t, job-count t)))
           (refl, (refl, tt))
 
       -- the three parts, stored one after the other, are the file
@@ -112,7 +103,7 @@ module _ (t : OrderTable) (a : Acceptance) (e : acceptanceTold a ≡ judge (orde
         processors-stored =
             record {
               is = e₁;
-              size = length-processorBytes (orderOf t .memories) ∙ ap (λ (n : ℕ). 4 * n) (processors-are t);
+              size = length-processorBytes (orderOf t .memories) ∙ ap (λ (n : ℕ). 4 * n) (processor-count t);
               inside = omega arith;
             }
 
@@ -125,12 +116,12 @@ module _ (t : OrderTable) (a : Acceptance) (e : acceptanceTold a ≡ judge (orde
         jobs-stored : Front buffer (4 * t .processors + jobWidth * t .jobs) (processors ++ jobs) o₂
         jobs-stored =
             front-more buffer _ _ o₁ processors-stored (jobWidth * t .jobs) jobs o₂
-            (length-jobBytes (orderOf t .jobs) ∙ ap (λ (n : ℕ). jobWidth * n) (jobs-are t)) (omega arith) e₂
+            (length-jobBytes (orderOf t .jobs) ∙ ap (λ (n : ℕ). jobWidth * n) (job-count t)) (omega arith) e₂
 
         all-stored : o₃ ≡ fileOf (orderOf t) ++ drop (fileLength (orderOf t)) buffer
         unfolding fileOf
         all-stored =
-            rw (processors-are t, jobs-are t)
+            rw (processor-count t, job-count t)
             (front-more buffer _ _ o₂ jobs-stored trailerWidth (trailerBytes (t .processors) (t .jobs)) o₃ refl enough e₃ .is
             ∙ ap (λ (l : List ℕ). l ++ drop (4 * t .processors + jobWidth * t .jobs + trailerWidth) buffer)
             (append-assoc processors jobs (trailerBytes (t .processors) (t .jobs))))
@@ -139,13 +130,13 @@ module _ (t : OrderTable) (a : Acceptance) (e : acceptanceTold a ≡ judge (orde
         unfolding judge
         accepts =
             room-decides
-            ∙ rw (le-ltb (length buffer) (fileLength (orderOf t)) (omega (arith, processors-are t, jobs-are t)))
+            ∙ rw (le-ltb (length buffer) (fileLength (orderOf t)) (omega (arith, processor-count t, job-count t)))
 
         written : o₃ ≡ writtenBy verdict (orderOf t) buffer
         written = rw accepts all-stored
 
         pub file-written : WrittenBy verdict (orderOf t) buffer (answer (4 * t .processors + jobWidth * t .jobs + trailerWidth)) o₃
         file-written = (
-          rw accepts (ap answer (omega (arith, processors-are t, jobs-are t))),
+          rw accepts (ap answer (omega (arith, processor-count t, job-count t))),
           (written, subst (ReadBackBy verdict (orderOf t)) (sym written) (read-back (orderOf t) buffer small)),
         )

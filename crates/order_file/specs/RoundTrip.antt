@@ -6,17 +6,16 @@ use mathlib.Core.List.{List, [], _∷_, _++_, append-assoc}
 use mathlib.Core.Logic.{_↔_, _⊎_, inl, inr}
 use native.Mathlib.Omega.{arith}
 use borrow.Author.Tests.{leb-true, le-leb, eqb-true, eq-eqb}
-use lib.Dec.{leb, eqb, leb→le}
-use lib.IntN.{ℤ, pos, negsuc}
+use lib.Dec.{leb, eqb}
 use lib.ListN.{length, getD, take, drop, length-append}
 use lib.Seq.{take-at}
-use lib.Signed.{mag, _≤ℤ_}
 use Rattle.sums.specs.Lists.{All, tabulate}
 use Rattle.sums.specs.Members.{All-map, All-both}
 use Rattle.sums.specs.Places.{tabulate-cong, tabulate-getD}
 use Rattle.order.specs.Order.{Job, Order, noJob, processorCount, jobCount}
-use Rattle.order.specs.Refusals.{limits, TableRow, Verdict, accepted, refused, judge, orderRows, Accepted, shortestFile, longestFile}
-use Rattle.order.specs.RefusalLaws.{Acceptable, accepted-iff, both-true, judge-refused-append}
+use Rattle.order.specs.EndLaws.{mag-range}
+use Rattle.order.specs.Refusals.{limits, Verdict, accepted, refused, judge, orderRows, Accepted, shortestFile, longestFile}
+use Rattle.order.specs.RefusalLaws.{Acceptable, accepted-iff, accepted-first, dues-in-range, both-true, true-both, either-true}
 use Rattle.order.specs.StructLaws.{same-order}
 use Rattle.order.specs.Table.{orderOf, jobAt}
 use Rattle.order.specs.declared.Order.{Order as OrderTable}
@@ -62,19 +61,12 @@ pub record Agrees (f : List ℕ) : Type 0 where
   pub placed : ((processorPlace f ≡ 0) × (jobPlace f ≡ 4 * processorsOf f))
       ⊎ ((jobPlace f ≡ 0) × (processorPlace f ≡ jobWidth * jobsOf f))
 
-either-true : (a b : Bool) → (a || b) ≡ true → (a ≡ true) ⊎ (b ≡ true)
-either-true true b e = inl refl
-either-true false b e = inr e
-
 true-left : (a b : Bool) → a ≡ true → (a || b) ≡ true
 true-left a b e = rw e
 
 true-right : (a b : Bool) → b ≡ true → (a || b) ≡ true
 true-right true b e = refl
 true-right false b e = e
-
-true-both : (a b : Bool) → a ≡ true → b ≡ true → (a && b) ≡ true
-true-both a b e f = rw (e, f)
 
 both-equal : (a b c d : ℕ) → (eqb a b && eqb c d) ≡ true → (a ≡ b) × (c ≡ d)
 both-equal a b c d e = let h = both-true (eqb a b) (eqb c d) e in (eqb-true a b (h .0), eqb-true c d (h .1))
@@ -169,11 +161,6 @@ struct-bounded t m n =
       needs = all-tabulated _ (t .jobs) (jobAt t) (λ j. small-at (t .needs) j n);
     }
 
--- a due time in range is of 32 bits
-small-due : (z : ℤ) → negsuc 999999 ≤ℤ z → z ≤ℤ pos 1000000 → mag z < 2147483648
-small-due (pos n) l h = omega (arith, leb→le n 1000000 (h .le))
-small-due (negsuc n) l h = omega (arith, leb→le n 999999 (l .le))
-
 module _ (o : Order) (a : Accepted o) (b : Bounded o) where
   good : Acceptable o
   good = accepted-iff o .0 a
@@ -182,8 +169,12 @@ module _ (o : Order) (a : Accepted o) (b : Bounded o) where
   jobs-fit =
       All-map _ _ (o .jobs)
       (λ (job : Job) h.
-      record { time = omega (arith, h .0 .0); due = small-due (job .due) (h .1 .0 .0) (h .1 .0 .1); need = h .1 .1 })
-      (All-both _ _ (o .jobs) (good .times) (All-both _ _ (o .jobs) (good .dues) (b .needs)))
+      record {
+        time = omega (arith, h .0 .0);
+        due = omega (arith, mag-range 999999 1000000 (job .due) (h .1 .0));
+        need = h .1 .1;
+      })
+      (All-both _ _ (o .jobs) (good .times) (All-both _ _ (o .jobs) (dues-in-range o good) (b .needs)))
 
   few-places : 4 * processorCount o + jobWidth * jobCount o ≤ longestFile - trailerWidth
   few-places = omega (arith, good .few-processors, good .few-jobs)
@@ -267,14 +258,6 @@ module _ (o : Order) (a : Accepted o) (b : Bounded o) where
 -- reading a written order yields the same order
 pub read-written : (o : Order) → Accepted o → Bounded o → (judge (readRows (fileOf o)) ≡ accepted) × (orderIn (fileOf o) ≡ o)
 read-written o a b = (file-accepted o a b, order-read o a b)
-
--- where a table accepts, so do its first rows
-accepted-first : (rows later : List TableRow) → judge (rows ++ later) ≡ accepted → judge rows ≡ accepted
-accepted-first rows later e = go (judge rows) refl
-  where
-    go : (v : Verdict) → judge rows ≡ v → v ≡ accepted
-    go accepted is = refl
-    go (refused number carried) is = sym (judge-refused-append rows later number carried is) ∙ e
 
 -- what the writer leaves in a lent buffer is read back as the same order
 pub read-back : (o : Order) (buffer : List ℕ) → Bounded o →

@@ -15,7 +15,8 @@ use Rattle.order.specs.declared.Order.{Order as OrderTable}
 use Rattle.plan.specs.Plan.{Row}
 use Rattle.plan.specs.Check.{wellFormed, byEnd}
 use Rattle.plan.specs.RuleLaws.{well-formed-iff}
-use Rattle.plan.proofs.Orders.{job-count, processor-count, job-of, memory-of}
+use Rattle.order.specs.StructLaws.{job-count, processor-count}
+use Rattle.plan.proofs.Orders.{job-of, memory-of}
 
 module _ (t : OrderTable) (r : Row) where
   pub job-zero : r .job < 1 → false ≡ wellFormed (orderOf t) r

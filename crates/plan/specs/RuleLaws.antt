@@ -13,7 +13,7 @@ use Rattle.sums.specs.Lists.{tabulate}
 use Rattle.sums.specs.Members.{All-map, All-both}
 use Rattle.sums.specs.Pairs.{Pairwise-map, Pairwise-both}
 use Rattle.order.specs.Order.{Order, processorCount, jobCount, Numbers, jobOf, memoryOf, endOf}
-use Rattle.order.specs.RefusalLaws.{both-true, leZ-true, true-leZ}
+use Rattle.order.specs.RefusalLaws.{both-true, either-true, leZ-true, true-leZ}
 use Rattle.plan.specs.Plan.{Row, WellFormed, Apart, lengthsOf, Right}
 use Rattle.plan.specs.Check.{every, everyTwo, wellFormed, byEnd, noOverlap, wholeJob}
 use Rattle.plan.specs.EveryLaws.{every-true, true-every, every-places, every-at, everyTwo-true, true-everyTwo}
@@ -59,10 +59,6 @@ by-end-iff o bound r =
     (λ e. rw one-part (leZ-true _ _ e), λ h. true-leZ _ _ (rw one-part at h))
 
 -- rows that share a job or a processor do not overlap
-either-true : (a b : Bool) → (a || b) ≡ true → (a ≡ true) ⊎ (b ≡ true)
-either-true true b e = inl refl
-either-true false b e = inr e
-
 apart-of : (r s : Row) → noOverlap r s ≡ true → (r .job ≡ s .job) ⊎ (r .processor ≡ s .processor) → Apart r s
 apart-of r s e h = go (times (rw shared at e))
   where

@@ -12,6 +12,7 @@ use Rattle.order.specs.Order.{Order, Job, jobCount, jobOf, noJob}
 use Rattle.order.specs.Sorted.{processorOrder, jobOrder}
 use Rattle.order.specs.Class.{classes, classOf, processorsIn, processorsTo}
 use Rattle.order.specs.RefusalLaws.{Acceptable, dues-in-range}
+use Rattle.order.specs.StructLaws.{job-count, processor-count}
 use Rattle.order.specs.Table.{orderOf, jobAt, padded}
 use Rattle.order.specs.declared.Order.{Order as OrderTable}
 use Rattle.order.specs.Lead.{lead, lastDue}
@@ -44,8 +45,8 @@ pub tabled-made : (t : OrderTable) → t .jobs ≤ 48 → t .processors ≤ 16 �
     })
 tabled-made t few-jobs few-processors m g cs ls ps ms ns c d hc hl hp hm hn =
     record {
-      jobs = sym (length-tabulate (t .jobs) (jobAt t));
-      processors = sym (length-tabulate (t .processors) (λ i. getD (t .memories) i 0));
+      jobs = sym (job-count t);
+      processors = sym (processor-count t);
       few-jobs = few-jobs;
       few-processors = few-processors;
       few-classes = c .few;

@@ -1,7 +1,7 @@
 -- Laws of frames: when a stretch lies between two minutes, the marks, the processors that are open, rows in turn.
 use Prim.Native.Nat.{ℕ, zero, suc, _+_, _*_, _≤_, _<_}
 use mathlib.Core.Path.{_≡_, refl, ap, _∙_}
-use mathlib.Core.Bool.{Bool, true, false, cond, _&&_}
+use mathlib.Core.Bool.{Bool, true, false, cond}
 use mathlib.Core.List.{List, [], _∷_}
 use mathlib.Core.Logic.{_≢_, _↔_}
 use native.Mathlib.Omega.{arith}
@@ -15,6 +15,7 @@ use Rattle.sums.specs.Members.{All-map, All-append, All-in, in-All}
 use Rattle.sums.specs.Pairs.{Pairwise-map, Pairwise-append}
 use Rattle.sums.specs.Totals.{only-le, total-append, total-le, total-ones, total-tabulate}
 use Rattle.order.specs.Order.{Order, processorCount, Numbers, memoryOf}
+use Rattle.order.specs.RefusalLaws.{both-true}
 use Rattle.order.specs.Sorted.{processorOrder}
 use Rattle.order.specs.Class.{classFor}
 use Rattle.order.specs.ClassLaws.{class-antitone}
@@ -23,14 +24,6 @@ use Rattle.plan.specs.Plan.{Row}
 use Rattle.wrap.specs.Frame.{Frame, lies, openIn, keep, openOrder, openTo, inTurn, Rising}
 
 -- a stretch that lies between two minutes, and one that does not
-both-true : (a b : Bool) → (a && b) ≡ true → (a ≡ true) × (b ≡ true)
-both-true true true e = (refl, refl)
-both-true true false e = (refl, e)
-both-true false b e = (e, absurd (false-true e))
-  where
-    false-true : false ≡ true → ⊥
-    false-true e = let z : _≡_ {A = ℕ} 0 1 = ap (λ (t : Bool). only t 1) e in omega arith
-
 module _ (f : Frame) (from to s : ℕ) where
   pub lies-true : lies f from to s ≡ true → (from ≤ f .mark s) × (f .mark (suc s) ≤ to)
   unfolding lies

@@ -1,7 +1,6 @@
 use mathlib.Core.Path.{sym, ap}
 use lib.IntN.{pos}
-use Rattle.sums.specs.Places.{length-tabulate}
-use Rattle.order.specs.StructLaws.{few-jobs, few-processors}
+use Rattle.order.specs.StructLaws.{job-count, processor-count, few-jobs, few-processors}
 use mathlib.Core.Path.{_∙_}
 use mir.ValLaws.{toZ-ofZ}
 use mir.Syntax.{w32}
@@ -50,9 +49,9 @@ returns c =
     let o = s .args .order in
     three-stored (s .args .answer .now) _ _ _ _ _ _
     (toZ-ofZ w32 _ (record { sfits = c .before .before .before .count-of .ok }) ∙ c .before .before .before .count-of .ensures
-    ∙ ap pos (sym (length-tabulate (o .processors) _)))
+    ∙ ap pos (sym (processor-count o)))
     (toZ-ofZ w32 _ (record { sfits = c .before .before .count-of2 .ok }) ∙ c .before .before .count-of2 .ensures
-    ∙ ap pos (sym (length-tabulate (o .jobs) _)))
+    ∙ ap pos (sym (job-count o)))
     (toZ-ofZ w32 _ (record { sfits = c .count-of3 .ok }) ∙ c .count-of3 .ensures ∙ ap pos (c .before .rows-asked .ensures .0))
     (s .pre .1)
 

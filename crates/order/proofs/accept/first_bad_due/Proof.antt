@@ -1,6 +1,6 @@
 use lib.ListN.{getD}
 use lib.IntN.{pos}
-use Rattle.order.proofs.Signed.{read-back}
+use Rattle.order.specs.Machine.{machine-back}
 use borrow.Author.Count.{below-none, below-more}
 use mathlib.Core.Path.{ap, _∙_}
 use Rattle.order.proofs.Ranges.{job-found, no-job-found, not-of, not-of-false}
@@ -50,7 +50,7 @@ returns c =
     let o = c .before .before .before .before .before .args .t1 in
     job-found _ o (l .j) (l .inv .1) (omega arith)
     (not-of-false _ _ (c .before .due-in-range .ensures ∙ ap dueInRange
-    (read-back (getD (o .dues) (l .j) (pos 0)) (c .before .before .due-in-range-arg .given))) (c .if1 .taken))
+    (machine-back (getD (o .dues) (l .j) (pos 0)) (c .before .before .due-in-range-arg .given))) (c .if1 .taken))
 
 loop-less : tie.Need-loop-less Inv-loop μ-loop
 loop-less c = search needs
@@ -62,7 +62,7 @@ loop-again c =
       search needs,
       below-more _ _ (l .inv .1)
           (not-of _ _ (c .before .due-in-range .ensures ∙ ap dueInRange
-          (read-back (getD (o .dues) (l .j) (pos 0)) (c .before .before .due-in-range-arg .given))) (c .if1 .left)),
+          (machine-back (getD (o .dues) (l .j) (pos 0)) (c .before .before .due-in-range-arg .given))) (c .if1 .left)),
     )
 
 returns-2 : tie.Need-returns-2 Inv-loop μ-loop

@@ -1,6 +1,6 @@
 -- `dues`: the invariant is that the places before j hold the due times, the others 0.
 use Rattle.order_file.specs.File.{jobWidth}
-use Rattle.order_file.proofs.Signed.{read-back}
+use Rattle.order.specs.Machine.{machine-back}
 use Prim.Native.Nat.{_+_, _*_, _-_, _≤_}
 use mathlib.Core.Path.{_≡_, ap, _∙_}
 use lib.IntN.{pos}
@@ -50,7 +50,7 @@ loop-again c =
     let due = c .to-signed in (
       search needs,
       padded-more 48 _ (pos 0) _ _ _ (omega arith) (c .before .before .before .loop .inv .1)
-          (read-back _ (due .ok) ∙ due .ensures ∙ ap signed (c .before .read4 .ensures)),
+          (machine-back _ (due .ok) ∙ due .ensures ∙ ap signed (c .before .read4 .ensures)),
     )
 
 returns : tie.Need-returns Inv-loop μ-loop

@@ -1,6 +1,6 @@
 -- `put_job`: three numbers stored one after the other are the job's twelve bytes.
 use Rattle.order_file.proofs.Growing.{one-job}
-use Rattle.order_file.proofs.Signed.{read-back}
+use Rattle.order.specs.Machine.{machine-back}
 use mathlib.Core.Path.{ap, _∙_}
 use Rattle.order_file.specs.Bytes.{pattern}
 use borrow.Author.Needs.{needs}
@@ -35,7 +35,7 @@ returns c =
     let start = first .before .before .before in
     let a = start .args in
     one-job (a .out .now) (a .at) (record { time = a .time; due = a .due; need = a .need }) _ _ _ _ (start .pre)
-    (second .before .to-pattern .ensures ∙ ap pattern (read-back (a .due) (start .fits .due .sfits)))
+    (second .before .to-pattern .ensures ∙ ap pattern (machine-back (a .due) (start .fits .due .sfits)))
     (first .put4 .ensures) (second .put42 .ensures) (c .before .before .put43 .ensures)
 
 pub put-job-spec : {M : Type 1} → statement M

@@ -1,7 +1,7 @@
 -- `put_jobs`: the invariant is that from `at` on the buffer holds the first j jobs and goes on as it was.
 use mathlib.Core.Path.{_≡_}
 use lib.IntN.{pos}
-use Rattle.order_file.proofs.Signed.{read-back}
+use Rattle.order.specs.Machine.{machine-back}
 use Rattle.order_file.proofs.Growing.{no-job, one-job-more, all-jobs}
 use Prim.Native.Nat.{_+_, _*_, _-_, _≤_}
 use mathlib.Core.List.{_++_}
@@ -68,7 +68,7 @@ loop-again c =
     let o = l .before .before .args .t1 in (
       search needs,
       one-job-more _ _ (jobAt o) _ _ _ _ (l .loop .inv .1) (omega arith)
-          (read-back (getD (o .dues) (l .loop .j) (pos 0)) (c .before .before .before .before .put-job-arg3 .given))
+          (machine-back (getD (o .dues) (l .loop .j) (pos 0)) (c .before .before .before .before .put-job-arg3 .given))
           (c .before .before .put-job .ensures),
     )
 

@@ -7,9 +7,11 @@ use lib.IntN.{pos}
 use lib.ListN.{getD}
 use mir.Syntax.{w32}
 use mir.ValLaws.{toZ-ofZ}
+use Rattle.order.specs.Machine.{machine-back}
 use Rattle.order.specs.Refusals.{dueInRange, boundInRange}
+use Rattle.order.specs.StructLaws.{few-jobs, due-in-range-at}
 use Rattle.plan.specs.Inside.{rowOf}
-use Rattle.plan.proofs.Orders.{read-back, read-end, few, due-good}
+use Rattle.plan.proofs.Orders.{read-end}
 use Rattle.plan.proofs.RowTests.{its-job, ends}
 use Rattle.plan.proofs.rows.by_end.Statement.{statement}
 use Rattle.plan.proofs.rows.by_end.Tie as tie
@@ -26,15 +28,15 @@ mul-deadline c = search needs
 element-copy-out-deadline : tie.Need-element-copy-out-deadline
 element-copy-out-deadline c =
     let s = c .before in
-    omega (arith, its-job (s .args .t1) (rowOf (s .args .piece)) (s .pre .1), few (s .args .t1) (s .pre .0 .0))
+    omega (arith, its-job (s .args .t1) (rowOf (s .args .piece)) (s .pre .1), few-jobs (s .args .t1) (s .pre .0 .0))
 
 deadline-requires : tie.Need-deadline-requires
 deadline-requires c κs =
     let s = c .before .before in
     let j = s .args .piece .job - 1 in
     let due = getD (s .args .t1 .dues) j (pos 0) in (
-      ap dueInRange (read-back due (c .deadline-arg .given))
-          ∙ due-good (s .args .t1) (s .pre .0 .0) j (omega (arith, its-job (s .args .t1) (rowOf (s .args .piece)) (s .pre .1))),
+      ap dueInRange (machine-back due (c .deadline-arg .given))
+          ∙ due-in-range-at (s .args .t1) (s .pre .0 .0) j (omega (arith, its-job (s .args .t1) (rowOf (s .args .piece)) (s .pre .1))),
       ap boundInRange (toZ-ofZ w32 (s .args .bound) (s .fits .bound)) ∙ s .pre .0 .1,
     )
 

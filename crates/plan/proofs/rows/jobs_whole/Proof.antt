@@ -9,7 +9,7 @@ use Rattle.order.specs.Order.{jobCount}
 use Rattle.order.specs.Table.{orderOf}
 use Rattle.plan.specs.Check.{rowsOf, wholeJob}
 use Rattle.plan.specs.EveryLaws.{every-places, every-fails}
-use Rattle.plan.proofs.Orders.{job-count}
+use Rattle.order.specs.StructLaws.{job-count}
 use Rattle.plan.proofs.Lengths.{whole-job, wrong-sum}
 use Rattle.plan.proofs.rows.jobs_whole.Statement.{statement}
 use Rattle.plan.proofs.rows.jobs_whole.Tie as tie

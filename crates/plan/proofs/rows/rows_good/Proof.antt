@@ -11,7 +11,7 @@ use mir.Val.{toZ, ofZ}
 use mir.ValLaws.{toZ-ofZ}
 use Rattle.order.specs.Refusals.{boundInRange}
 use Rattle.order.specs.Table.{orderOf}
-use Rattle.plan.proofs.Orders.{few}
+use Rattle.order.specs.StructLaws.{few-jobs, few-processors}
 use Rattle.plan.proofs.GoodRows.{passes, good-back, malformed, well-formed, by-its-end, rows-pass, row-fails}
 use Rattle.plan.proofs.rows.rows_good.Statement.{statement}
 use Rattle.plan.proofs.rows.rows_good.Tie as tie
@@ -31,8 +31,7 @@ loop-holds c = (search needs, below-none _)
 row-at-requires : tie.Need-row-at-requires Inv-loop μ-loop
 row-at-requires c κs =
     let s = c .before .before .before in
-    let h = few (s .args .order) (s .pre .0) in
-    (h .0, h .1, omega arith)
+    (few-processors (s .args .order) (s .pre .0), few-jobs (s .args .order) (s .pre .0), omega arith)
 
 enum-known-piece : tie.Need-enum-known-piece Inv-loop μ-loop
 enum-known-piece c = search needs

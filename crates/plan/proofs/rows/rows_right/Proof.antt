@@ -5,7 +5,7 @@ use mir.Syntax.{w32}
 use mir.ValLaws.{toZ-ofZ}
 use Rattle.order.specs.Refusals.{boundInRange}
 use Rattle.order.specs.Table.{orderOf}
-use Rattle.plan.proofs.Orders.{few}
+use Rattle.order.specs.StructLaws.{few-jobs}
 use Rattle.plan.proofs.GoodRows.{good-back}
 use Rattle.plan.proofs.Ranges.{good-ranged}
 use Rattle.plan.proofs.Answers.{bad-rows, overlapping, jobs-decide}
@@ -49,7 +49,7 @@ jobs-whole-requires c κs =
     let o = orderOf (s .args .order) in
     let r = s .args .rows .now in
     let is = c .before .before .before .rows-good .ensures ∙ good-back o (s .args .bound) r (s .fits .bound) in (
-      few (s .args .order) (s .pre .0) .1,
+      few-jobs (s .args .order) (s .pre .0),
       s .pre .2,
       good-ranged o (s .args .bound) (s .pre .0) (s .pre .1) r (sym is ∙ not-false _ (c .before .before .if1 .left)),
     )

@@ -2,12 +2,10 @@ use Prim.Native.Nat.{ℕ, _+_, _-_, _*_}
 use mathlib.Core.Path.{_≡_, refl, _∙_}
 use native.Mathlib.Omega.{arith}
 use borrow.Author.Needs.{needs}
-use lib.ListN.{getD}
-use Rattle.sums.specs.Places.{length-tabulate}
 use Rattle.order.specs.Lead.{lastDue}
 use Rattle.order.specs.RefusalLaws.{accepted-iff}
-use Rattle.order.specs.StructLaws.{few-jobs, few-processors}
-use Rattle.order.specs.Table.{orderOf, jobAt}
+use Rattle.order.specs.StructLaws.{job-count, processor-count, few-jobs, few-processors}
+use Rattle.order.specs.Table.{orderOf}
 use Rattle.order.specs.declared.Order.{Order as OrderTable}
 use Rattle.wrap.specs.Stretches.{stretchCount}
 use Rattle.allot.specs.GridMarks.{grid-counted}
@@ -16,8 +14,7 @@ use Rattle.planner.proofs.room.rows_asked.Statement.{statement}
 use Rattle.planner.proofs.room.rows_asked.Tie as tie
 
 asked : (t : OrderTable) (q : ℕ) → q ≡ stretchCount (orderOf t) → q * (t .jobs + t .processors - 1) ≡ rowsAsked (orderOf t)
-asked t q e =
-    rw (e, length-tabulate (t .jobs) (jobAt t), length-tabulate (t .processors) (λ i. getD (t .memories) i 0)) refl
+asked t q e = rw (e, job-count t, processor-count t) refl
 
 grid-of-requires : tie.Need-grid-of-requires
 grid-of-requires c κs = search needs
@@ -33,7 +30,7 @@ rows-of-requires c κs =
     let s = c .before .before .before in
     let o = s .args .order in (
       c .before .before .grid-of .ensures .few,
-      omega (arith, accepted-iff (orderOf o) .0 (s .pre) .some-job, length-tabulate (o .jobs) (jobAt o)),
+      omega (arith, accepted-iff (orderOf o) .0 (s .pre) .some-job, job-count o),
       few-jobs o (s .pre),
       few-processors o (s .pre),
     )
