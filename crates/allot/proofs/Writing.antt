@@ -3,27 +3,11 @@ use Prim.Native.Nat.{ℕ, _+_, _*_, _<_}
 use mathlib.Core.Path.{_≡_, refl, _∙_}
 use mathlib.Core.List.{List}
 use native.Mathlib.Decide.{ℕ-discrete}
-use native.Mathlib.Numerals.{add-one}
 use native.Mathlib.Omega.{arith}
-use lib.ListN.{length, getD, set}
+use lib.ListN.{length, set}
 use lib.Seq.{getD-set-same, getD-set-other}
-use Rattle.sums.specs.Sum.{sum}
 use Rattle.engine.specs.View.{in-rows}
 use Rattle.allot.specs.Tables.{Put, Rows}
-
--- a sum of one more
-pub sum-more : (i : ℕ) (f : ℕ → ℕ) → sum (i + 1) f ≡ sum i f + f i
-unfolding sum
-sum-more i f = rw add-one refl
-
--- places from the first on
-pub store-more : (ys : List ℕ) (k v : ℕ) (f : ℕ → ℕ) → k < length ys → v ≡ f k →
-    ((i : ℕ) → i < k → getD ys i 0 ≡ f i) → (i : ℕ) → i < k + 1 → getD (set ys k v) i 0 ≡ f i
-store-more ys k v f l e h i b =
-    elim (ℕ-discrete i k) [
-      | yes z ↦ rw z (getD-set-same ys k v 0 l ∙ e)
-      | no z ↦ getD-set-other ys k i v 0 z ∙ h i (omega arith)
-    ]
 
 -- places from `at` on
 pub put-none : (xs : List ℕ) (at : ℕ) (f : ℕ → ℕ) → Put xs xs at 0 f

@@ -9,7 +9,6 @@ use lib.ListN.{length, getD, set, length-set}
 use lib.Seq.{getD-set-same, getD-set-other}
 use native.Mathlib.Decide.{decLt, ℕ-discrete}
 use native.Mathlib.Omega.{arith}
-use borrow.Author.Count.{below-more}
 use Rattle.engine.specs.Start.{IdleRow}
 use Rattle.engine.specs.View.{Transferred, Lowered, Raised, Least, FirstZero, grid, Found, Stands}
 use Rattle.amounts.specs.State.{Fill, Barred}
@@ -105,14 +104,6 @@ barred-more o x j u s z B new =
 -- what the search found, by its answer
 pub found-as : (o : Flow) (x : Fill) (j : ℕ) (r t : Move) → Found o x j r → r ≡ t → Found o x j t
 found-as o x j r t f e = subst (λ (r : Move). Found o x j r) e f
-
--- a list filled from the front: what holds of each entry below i, and of v, holds of each below i + 1 after v is stored at i
-pub fill-at : (P : ℕ → ℕ → Type 0) (xs : List ℕ) (i v : ℕ) → i < length xs → ((k : ℕ) → k < i → P k (getD xs k 0)) →
-    P i v → (k : ℕ) → k < i + 1 → P k (getD (set xs i v) k 0)
-fill-at P xs i v h old new =
-    below-more (λ (k : ℕ). P k (getD (set xs i v) k 0)) i
-    (λ k l. rw (getD-set-other xs i k v 0 (λ e. omega arith)) (old k l))
-    (rw (getD-set-same xs i v 0 h) new)
 
 pub idle-more : (room xs ys : List ℕ) (n q m u : ℕ) → n * q + u < length ys → IdleRow room xs ys n q m u →
     IdleRow room xs (set ys (n * q + u) (getD room (u * m + (m - 1)) 0)) n q m (u + 1)

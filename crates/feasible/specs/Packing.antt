@@ -1,8 +1,8 @@
 -- What of a row lies in a stretch of time. Document 01: "two rows of one job never overlap, nor two rows of one processor".
 -- Rows that never overlap fill a stretch at most once.
 use Prim.Native.Nat.{ℕ, zero, suc, _+_, _-_, _≤_, _<_, min, max}
-use mathlib.Core.Path.{_≡_, refl, sym, _∙_}
-use mathlib.Core.Bool.{Bool, true, false}
+use mathlib.Core.Path.{_≡_, sym, _∙_}
+use mathlib.Core.Bool.{Bool, true}
 use mathlib.Core.List.{List, [], _∷_}
 use mathlib.Core.Logic.{inl, inr}
 use native.Mathlib.Omega.{arith}
@@ -10,8 +10,9 @@ use native.Mathlib.Nat.{le-of-lt}
 use lib.Dec.{eqb}
 use borrow.Author.Tests.{eqb-true}
 use Rattle.sums.specs.Sum.{sum}
-use Rattle.sums.specs.Lists.{All, Pairwise, total, only}
+use Rattle.sums.specs.Lists.{All, Pairwise, total, only, keep}
 use Rattle.sums.specs.Members.{All-map}
+use Rattle.sums.specs.Kept.{keep-all, keep-passing, keep-total}
 use Rattle.sums.specs.Pairs.{Pairwise-map}
 use Rattle.plan.specs.Plan.{Row, Apart}
 
@@ -58,57 +59,14 @@ packing (r ∷ rs) d w a b =
       packing rs (d .1) (w .1) (max (r .to) a) b,
     )
 
--- the rows that pass a test
-add : Bool → Row → List Row → List Row
-add true r rs = r ∷ rs
-add false r rs = rs
-
-keep : (Row → Bool) → List Row → List Row
-keep p [] = []
-keep p (r ∷ rs) = add (p r) r (keep p rs)
-
-add-total : (c : Bool) (r : Row) (rs : List Row) (f : Row → ℕ) → total (add c r rs) f ≡ only c (f r) + total rs f
-unfolding add
-add-total true r rs f = refl
-add-total false r rs f = omega arith
-
-keep-total : (p : Row → Bool) (rs : List Row) (f : Row → ℕ) → total (keep p rs) f ≡ total rs (λ r. only (p r) (f r))
-unfolding keep
-keep-total p [] f = refl
-keep-total p (r ∷ rs) f = omega (arith, add-total (p r) r (keep p rs) f, keep-total p rs f)
-
-add-all : (Q : Row → Type 0) (c : Bool) (r : Row) (rs : List Row) → (c ≡ true → Q r) → All Q rs → All Q (add c r rs)
-unfolding add
-add-all Q true r rs h k = (h refl, k)
-add-all Q false r rs h k = k
-
-keep-all : (Q : Row → Type 0) (p : Row → Bool) (rs : List Row) → All (λ s. p s ≡ true → Q s) rs → All Q (keep p rs)
-unfolding keep
-keep-all Q p [] h = tt
-keep-all Q p (r ∷ rs) h = add-all Q (p r) r (keep p rs) (h .0) (keep-all Q p rs (h .1))
-
-add-pairwise : (R : Row → Row → Type 0) (c : Bool) (r : Row) (rs : List Row) → (c ≡ true → All (R r) rs) →
-    Pairwise R rs → Pairwise R (add c r rs)
-unfolding add
-add-pairwise R true r rs h k = (h refl, k)
-add-pairwise R false r rs h k = k
-
-keep-pairwise : (R : Row → Row → Type 0) (p : Row → Bool) (rs : List Row) →
-    Pairwise (λ r s. p r ≡ true → p s ≡ true → R r s) rs → Pairwise R (keep p rs)
-unfolding keep
-keep-pairwise R p [] h = tt
-keep-pairwise R p (r ∷ rs) h =
-    add-pairwise R (p r) r (keep p rs) (λ e. keep-all (R r) p rs (All-map _ _ rs (λ s k. k e) (h .0)))
-    (keep-pairwise R p rs (h .1))
-
 -- the same of the rows that pass a test, where no two of those overlap
 packing-of : (p : Row → Bool) (rs : List Row) → Pairwise (λ r s. p r ≡ true → p s ≡ true → Apart r s) rs →
     All Forward rs → (a b : ℕ) → total rs (λ r. only (p r) (clip a b r)) ≤ b - a
 packing-of p rs d w a b =
     omega (
       arith,
-      keep-total p rs (clip a b),
-      packing (keep p rs) (keep-pairwise Apart p rs d) (keep-all Forward p rs (All-map _ _ rs (λ s k e. k) w)) a b,
+      keep-total p (clip a b) rs,
+      packing (keep p rs) (keep-passing p Apart rs d) (keep-all p Forward rs (All-map _ _ rs (λ s k e. k) w)) a b,
     )
 
 -- the rows of one job, or of one processor, fill [a, b) at most once

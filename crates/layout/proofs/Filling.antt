@@ -10,7 +10,8 @@ use lib.Dec.{ltb}
 use lib.ListN.{length}
 use Rattle.plan.specs.Plan.{Row}
 use Rattle.wrap.specs.Layout.{Share, fill, sharesOf}
-use Rattle.layout.specs.Laid.{share, portion}
+use Rattle.layout.specs.Laid.{portion}
+use Rattle.wrap.specs.Shares.{share}
 
 abbrev row : ℕ → ℕ → ℕ → ℕ → Row
 row job processor from to = record { job = job; processor = processor; from = from; to = to }

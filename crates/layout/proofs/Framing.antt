@@ -6,10 +6,11 @@ use native.Mathlib.Omega.{arith}
 use native.Mathlib.Numerals.{add-one}
 use native.Mathlib.Decide.{decLe}
 use lib.ListN.{length, getD, take, drop, length-append}
+use Rattle.sums.specs.Lists.{keep}
 use Rattle.plan.specs.Plan.{Row}
 use Rattle.plan.specs.Check.{numbersOf}
 use Rattle.wrap.specs.Flows.{amountIn}
-use Rattle.wrap.specs.Frame.{Frame, Rising, keep, lies, inTurn}
+use Rattle.wrap.specs.Frame.{Frame, Rising, lies, inTurn}
 use Rattle.table.specs.declared.Table.{Table}
 use Rattle.layout.specs.Planned.{openAt, lentFrame, rowsIn, laidOut, planned}
 use Rattle.layout.specs.Laid.{Laid, Numbered, rowsBetween}

@@ -1,39 +1,16 @@
 -- The open processors found so far: of the first k in their order, those that pass the test.
-use Prim.Native.Nat.{ℕ, zero, suc, _+_, _-_, _≤_, _<_, pred}
+use Prim.Native.Nat.{ℕ, _+_, _-_, _≤_, _<_, pred}
 use mathlib.Core.Path.{_≡_, refl, sym, ap, _∙_}
 use mathlib.Core.Bool.{Bool, true, false, cond, _&&_}
-use mathlib.Core.List.{List, [], _∷_, _++_}
+use mathlib.Core.List.{List, [], _∷_, _++_, append-nil}
 use native.Mathlib.Omega.{arith}
-use native.Mathlib.Nat.{le-of-suc-le-suc}
 use native.Mathlib.Numerals.{add-one}
 use lib.Dec.{leb}
 use lib.ListN.{length, getD, take, set, length-set}
-use Rattle.wrap.specs.Frame.{keep}
+use lib.Seq.{take-suc, take-suc-set}
+use Rattle.sums.specs.Lists.{keep}
+use Rattle.sums.specs.Kept.{keep-append}
 use Rattle.layout.specs.Planned.{openAt}
-
-take-next : (xs : List ℕ) (k : ℕ) → k < length xs → take (suc k) xs ≡ take k xs ++ (getD xs k 0 ∷ [])
-take-next [] k l = absurd (omega arith)
-take-next (x ∷ xs) zero l = refl
-take-next (x ∷ xs) (suc k) l = ap (λ (ys : List ℕ). x ∷ ys) (take-next xs k (le-of-suc-le-suc l))
-
-take-put : (xs : List ℕ) (k v : ℕ) → k < length xs → take (suc k) (set xs k v) ≡ take k xs ++ (v ∷ [])
-take-put [] k v l = absurd (omega arith)
-take-put (x ∷ xs) zero v l = refl
-take-put (x ∷ xs) (suc k) v l = ap (λ (ys : List ℕ). x ∷ ys) (take-put xs k v (le-of-suc-le-suc l))
-
-keep-append : (test : ℕ → Bool) (xs ys : List ℕ) → keep test (xs ++ ys) ≡ keep test xs ++ keep test ys
-unfolding keep
-keep-append test [] ys = refl
-keep-append test (x ∷ xs) ys = go (test x) (keep-append test xs ys)
-  where
-    go : (b : Bool) → keep test (xs ++ ys) ≡ keep test xs ++ keep test ys →
-        cond b (x ∷ keep test (xs ++ ys)) (keep test (xs ++ ys)) ≡ cond b (x ∷ keep test xs) (keep test xs) ++ keep test ys
-    go true e = ap (λ (zs : List ℕ). x ∷ zs) e
-    go false e = e
-
-append-none : (xs : List ℕ) → xs ++ [] ≡ xs
-append-none [] = refl
-append-none (x ∷ xs) = ap (λ (ys : List ℕ). x ∷ ys) (append-none xs)
 
 pub record Opening (opens closes : List ℕ) (start end : ℕ) (processors : List ℕ) (k : ℕ) (list : List ℕ) (count : ℕ)
     : Type 0 where
@@ -62,7 +39,7 @@ module _ {opens closes : List ℕ} {start end : ℕ} {processors : List ℕ} {k 
 
     one-more : (b : Bool) → test i ≡ b → keep test (take (k + 1) processors) ≡ keep test (take k processors) ++ cond b (i ∷ []) []
     unfolding keep
-    one-more b e = rw (add-one, take-next processors k l, keep-append test (take k processors) (i ∷ []), e) refl
+    one-more b e = rw (add-one, take-suc processors k 0 l, keep-append test (take k processors) (i ∷ []), e) refl
 
     -- the test as the code makes it
     read : (r b : Bool) → r ≡ (leb (getD opens (i - 1) 0) start && leb end (getD closes (i - 1) 0)) → r ≡ b → test i ≡ b
@@ -78,7 +55,7 @@ module _ {opens closes : List ℕ} {start end : ℕ} {processors : List ℕ} {k 
           size = length-set list count i ∙ o .size;
           are =
               rw (one-more true (read r true e f))
-              (rw add-one (take-put list count i (omega (arith, o .few, o .size))
+              (rw add-one (take-suc-set list count i (omega (arith, o .few, o .size))
               ∙ ap (λ (ys : List ℕ). ys ++ (i ∷ [])) (o .are)));
         }
 
@@ -88,5 +65,5 @@ module _ {opens closes : List ℕ} {start end : ℕ} {processors : List ℕ} {k 
         record {
           few = omega (arith, o .few);
           size = o .size;
-          are = o .are ∙ sym (append-none (keep test (take k processors))) ∙ sym (one-more false (read r false e f));
+          are = o .are ∙ sym (append-nil (keep test (take k processors))) ∙ sym (one-more false (read r false e f));
         }

@@ -7,6 +7,7 @@ use lib.ListN.{length, take, drop, set, length-append, length-drop, take-append-
 use lib.Seq.{drop-append-add, drop-drop, length-take-le, take-at, sets-eq}
 use Rattle.plan.specs.Plan.{Row}
 use Rattle.plan.specs.Check.{numbersOf}
+use Rattle.plan.specs.NumberLaws.{length-numbers}
 use Rattle.layout.specs.Laid.{withRows, Laid}
 
 -- four numbers to a row
@@ -15,11 +16,6 @@ unfolding numbersOf
 numbers-append [] ys = refl
 numbers-append (x ∷ xs) ys =
     ap (λ (l : List ℕ). x .job ∷ x .processor ∷ x .from ∷ x .to ∷ l) (numbers-append xs ys)
-
-pub length-numbers : (xs : List Row) → length (numbersOf xs) ≡ 4 * length xs
-unfolding numbersOf
-length-numbers [] = refl
-length-numbers (x ∷ xs) = omega (arith, length-numbers xs)
 
 -- four stores one after the other
 pub four-stores : (s : List ℕ) (a b₀ b₁ b₂ b₃ : ℕ) → a + 4 ≤ length s →

@@ -8,6 +8,7 @@ use lib.ListN.{length, getD, take, drop}
 use Rattle.plan.specs.Plan.{Row}
 use Rattle.plan.specs.Check.{numbersOf}
 use Rattle.wrap.specs.Layout.{Share, fill, sharesOf}
+pub use Rattle.wrap.specs.Shares.{share}
 use Rattle.layout.specs.declared.Place.{Place}
 
 -- a buffer with these rows from row r on, and all its other numbers as they were
@@ -22,10 +23,7 @@ pub record Laid (whole rest : List Row) (first : ℕ) (before : List ℕ) (next 
   pub buffer : after ≡ withRows first laid before
   pub same-length : length after ≡ length before
 
--- a job's share of a stretch, and its part of the shares: none where it has no minute
-abbrev pub share : ℕ → ℕ → Share
-share job minutes = record { job = job; minutes = minutes }
-
+-- a job's part of the shares: none where it has no minute
 abbrev pub portion : ℕ → ℕ → List Share
 portion job minutes = cond (ltb 0 minutes) (share job minutes ∷ []) []
 

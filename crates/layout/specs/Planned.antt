@@ -5,11 +5,11 @@ use mathlib.Core.Bool.{Bool, _&&_}
 use mathlib.Core.List.{List}
 use lib.Dec.{leb}
 use lib.ListN.{getD, take}
-use Rattle.sums.specs.Lists.{nth}
+use Rattle.sums.specs.Lists.{nth, keep}
 use Rattle.plan.specs.Plan.{Row}
 use Rattle.wrap.specs.Layout.{fill, sharesOf}
 use Rattle.wrap.specs.Flows.{amountIn}
-use Rattle.wrap.specs.Frame.{Frame, openIn, keep, inTurn}
+use Rattle.wrap.specs.Frame.{Frame, openIn, inTurn}
 use Rattle.table.specs.declared.Table.{Table}
 
 -- processor number i is open from minute start to minute end

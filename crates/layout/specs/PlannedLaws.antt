@@ -1,12 +1,12 @@
 -- The plan laid out of an order's table is the order's layout in a frame with the same marks, where the same processors are open.
 use Prim.Native.Nat.{ℕ, zero, suc, _≤_, _<_}
 use mathlib.Core.Path.{_≡_, refl, sym, ap, _∙_}
-use mathlib.Core.Bool.{Bool}
-use mathlib.Core.List.{List, [], _∷_}
+use mathlib.Core.List.{List}
 use native.Mathlib.Omega.{arith}
 use lib.ListN.{length, getD, take}
 use lib.IntN.{ℤ}
-use Rattle.sums.specs.Lists.{All}
+use Rattle.sums.specs.Kept.{keep-same}
+use Rattle.sums.specs.Lists.{keep}
 use Rattle.sums.specs.Members.{All-at, All-map}
 use Rattle.sums.specs.Places.{getD-tabulate, take-tabulate}
 use Rattle.order.specs.Order.{Order, processorCount, jobCount, Numbers}
@@ -14,7 +14,7 @@ use Rattle.order.specs.Sorted.{processorOrder, jobOrder}
 use Rattle.order.specs.OrderingLaws.{processors-ordered, jobs-ordered}
 use Rattle.order.specs.Table.{padded}
 use Rattle.plan.specs.Plan.{Row}
-use Rattle.wrap.specs.Frame.{Frame, openIn, keep, openOrder, stretchRowsIn, inTurn, layoutIn}
+use Rattle.wrap.specs.Frame.{Frame, openIn, openOrder, stretchRowsIn, inTurn, layoutIn}
 use Rattle.table.specs.Tabled.{Tabled}
 use Rattle.table.specs.declared.Table.{Table}
 use Rattle.layout.specs.Laid.{Numbered}
@@ -56,11 +56,6 @@ module _ {top : ℤ} (o : Order) (t : Table) (m : Tabled top o t) where
       }
 
 -- two frames with the same marks, in which the same processors are open, have the same rows
-keep-same : (test test′ : ℕ → Bool) (xs : List ℕ) → All (λ i. test i ≡ test′ i) xs → keep test xs ≡ keep test′ xs
-unfolding keep
-keep-same test test′ [] h = refl
-keep-same test test′ (x ∷ xs) h = rw (h .0, keep-same test test′ xs (h .1)) refl
-
 turn-same : (rows rows′ : ℕ → List Row) (n : ℕ) → ((s : ℕ) → s < n → rows s ≡ rows′ s) → inTurn rows n ≡ inTurn rows′ n
 unfolding inTurn
 turn-same rows rows′ zero h = refl

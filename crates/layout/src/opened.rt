@@ -6,7 +6,7 @@ ghost use mathlib.Core.Bool.{_&&_};
 ghost use Prim.Native.Nat.{_≤_};
 ghost use lib.Dec.{leb};
 ghost use lib.ListN.{length, take};
-ghost use Rattle.wrap.specs.Frame.{keep};
+ghost use Rattle.sums.specs.Lists.{keep};
 ghost use Rattle.layout.specs.Laid.{Numbered};
 ghost use Rattle.layout.specs.Planned.{openAt};
 

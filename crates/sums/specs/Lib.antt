@@ -5,6 +5,7 @@ pub mod Members
 pub mod Places
 pub mod Pairs
 pub mod Totals
+pub mod Kept
 pub mod Reversed
 pub mod Rearranged
 pub mod Most

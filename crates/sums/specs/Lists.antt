@@ -1,6 +1,7 @@
--- Lists: what holds of each member, what holds of each two, sums over the members, a list given by its places.
+-- Lists: what holds of each member, what holds of each two, sums over the members, those that pass a test, a list given by
+-- its places.
 use Prim.Native.Nat.{ℕ, zero, suc, _+_}
-use mathlib.Core.Bool.{Bool, true, false}
+use mathlib.Core.Bool.{Bool, true, false, cond}
 use mathlib.Core.Path.{_≡_}
 use mathlib.Core.List.{List, [], _∷_}
 use mathlib.Core.Logic.{_⊎_}
@@ -30,6 +31,11 @@ total (x ∷ xs) f = f x + total xs f
 abbrev pub only : Bool → ℕ → ℕ
 only true x = x
 only false x = 0
+
+-- those that pass a test, as they stood
+unfoldable pub keep : {A : Type 0} → (A → Bool) → List A → List A
+keep test [] = []
+keep test (x ∷ xs) = cond (test x) (x ∷ keep test xs) (keep test xs)
 
 -- f 0, f 1, .. f (n - 1)
 abbrev pub tabulate {ℓ} : {A : Type ℓ} → ℕ → (ℕ → A) → List A

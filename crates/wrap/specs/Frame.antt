@@ -4,12 +4,12 @@
 -- other ends.
 use Prim.Native.Nat.{ℕ, zero, suc, _-_, _*_, _≤_, _<_}
 use mathlib.Core.Path.{_≡_}
-use mathlib.Core.Bool.{Bool, cond, _&&_}
-use mathlib.Core.List.{List, [], _∷_, _++_}
+use mathlib.Core.Bool.{Bool, _&&_}
+use mathlib.Core.List.{List, [], _++_}
 use mathlib.Core.Logic.{_⊎_}
 use lib.Dec.{leb}
 use Rattle.sums.specs.Sum.{sum}
-use Rattle.sums.specs.Lists.{All, Pairwise, total, only}
+use Rattle.sums.specs.Lists.{All, Pairwise, total, only, keep}
 use Rattle.order.specs.Order.{Order, processorCount, jobCount, Numbers, jobOf, memoryOf}
 use Rattle.order.specs.Sorted.{processorOrder, jobOrder}
 use Rattle.order.specs.Class.{classFor}
@@ -60,11 +60,6 @@ capIn f j s = only (lies f (f .ready j) (f .until j) s) (lengthIn f s)
 -- processor number i is open in stretch s, from its beginning to its end
 abbrev pub openIn : Frame → ℕ → ℕ → Bool
 openIn f s i = lies f (f .opens i) (f .closes i) s
-
--- those that pass a test, as they stood
-unfoldable pub keep : (ℕ → Bool) → List ℕ → List ℕ
-keep test [] = []
-keep test (x ∷ xs) = cond (test x) (x ∷ keep test xs) (keep test xs)
 
 -- the processors that are open in stretch s, by falling memory, ties in input order
 unfoldable pub openOrder : Order → Frame → ℕ → List ℕ

@@ -9,6 +9,7 @@ use native.Mathlib.Nat.{mul-le-mul-left}
 use native.Mathlib.Decide.{decLe, decLt}
 use lib.Dec.{leb}
 use lib.IntN.{ℤ}
+use Rattle.sums.specs.Kept.{keep-whole}
 use Rattle.sums.specs.Lists.{total, only}
 use Rattle.sums.specs.Members.{All-map, All-both, in-All}
 use Rattle.sums.specs.Totals.{only-le, total-numbers}
@@ -36,7 +37,7 @@ use Rattle.wrap.specs.Frame.{
   layoutIn,
   Framed,
 }
-use Rattle.wrap.specs.FrameLaws.{lies-true, lies-is, only-some, keep-whole, processorClass}
+use Rattle.wrap.specs.FrameLaws.{lies-true, lies-is, only-some, processorClass}
 use Rattle.wrap.specs.FrameAt.{Times, InWindows, frameAt, by-end-is, timed-in, timed-out}
 
 -- Document 01's frame ------------------------------------------------------------------------------------------------------

@@ -1,8 +1,8 @@
 -- Laws of frames: when a stretch lies between two minutes, the marks, the processors that are open, rows in turn.
-use Prim.Native.Nat.{ℕ, zero, suc, _+_, _*_, _≤_, _<_}
+use Prim.Native.Nat.{ℕ, zero, suc, _*_, _≤_, _<_}
 use mathlib.Core.Path.{_≡_, refl, ap, _∙_}
-use mathlib.Core.Bool.{Bool, true, false, cond}
-use mathlib.Core.List.{List, [], _∷_}
+use mathlib.Core.Bool.{Bool, true, false}
+use mathlib.Core.List.{List}
 use mathlib.Core.Logic.{_≢_, _↔_}
 use native.Mathlib.Omega.{arith}
 use native.Mathlib.Decide.{ℕ-discrete}
@@ -13,6 +13,7 @@ use Rattle.sums.specs.Sum.{sum}
 use Rattle.sums.specs.Lists.{All, Pairwise, total, only}
 use Rattle.sums.specs.Members.{All-map, All-append, All-in, in-All}
 use Rattle.sums.specs.Pairs.{Pairwise-map, Pairwise-append}
+use Rattle.sums.specs.Kept.{keep-all, keep-pairs, keep-total, keep-few}
 use Rattle.sums.specs.Totals.{only-le, total-append, total-le, total-ones, total-tabulate}
 use Rattle.order.specs.Order.{Order, processorCount, Numbers, memoryOf}
 use Rattle.order.specs.RefusalLaws.{both-true}
@@ -21,7 +22,7 @@ use Rattle.order.specs.Class.{classFor}
 use Rattle.order.specs.ClassLaws.{class-antitone}
 use Rattle.order.specs.OrderingLaws.{processors-ordered, prefix-counted}
 use Rattle.plan.specs.Plan.{Row}
-use Rattle.wrap.specs.Frame.{Frame, lies, openIn, keep, openOrder, openTo, inTurn, Rising}
+use Rattle.wrap.specs.Frame.{Frame, lies, openIn, openOrder, openTo, inTurn, Rising}
 
 -- a stretch that lies between two minutes, and one that does not
 module _ (f : Frame) (from to s : ℕ) where
@@ -49,54 +50,6 @@ marks-mono f up i (suc k) h l =
       | no e ↦ omega (arith, marks-mono f up i k (omega arith) (omega arith), up k l)
     ]
 
-module _ (test : ℕ → Bool) where
-  -- those that pass a test: they pass it, and what held of all holds of them
-  pub keep-all : (P : ℕ → Type 0) (xs : List ℕ) → All P xs → All (λ x. P x × (test x ≡ true)) (keep test xs)
-  unfolding keep
-  keep-all P [] h = tt
-  keep-all P (x ∷ xs) h = go (test x) refl (keep-all P xs (h .1))
-    where
-      go : (b : Bool) → test x ≡ b → All (λ x. P x × (test x ≡ true)) (keep test xs) →
-          All (λ x. P x × (test x ≡ true)) (cond b (x ∷ keep test xs) (keep test xs))
-      go true e r = ((h .0, e), r)
-      go false e r = r
-
-  pub keep-pairs : (R : ℕ → ℕ → Type 0) (xs : List ℕ) → Pairwise R xs → Pairwise R (keep test xs)
-  unfolding keep
-  keep-pairs R [] h = tt
-  keep-pairs R (x ∷ xs) h =
-      go (test x) (All-map _ _ (keep test xs) (λ y k. k .0) (keep-all (R x) xs (h .0))) (keep-pairs R xs (h .1))
-    where
-      go : (b : Bool) → All (R x) (keep test xs) → Pairwise R (keep test xs) →
-          Pairwise R (cond b (x ∷ keep test xs) (keep test xs))
-      go true k r = (k, r)
-      go false k r = r
-
-  pub keep-total : (g : ℕ → ℕ) (xs : List ℕ) → total (keep test xs) g ≡ total xs (λ x. only (test x) (g x))
-  unfolding keep
-  keep-total g [] = refl
-  keep-total g (x ∷ xs) = go (test x) (keep-total g xs)
-    where
-      go : (b : Bool) → total (keep test xs) g ≡ total xs (λ x. only (test x) (g x)) →
-          total (cond b (x ∷ keep test xs) (keep test xs)) g ≡ only b (g x) + total xs (λ x. only (test x) (g x))
-      go true r = omega arith
-      go false r = omega arith
-
-  pub keep-few : (xs : List ℕ) → length (keep test xs) ≤ length xs
-  unfolding keep
-  keep-few [] = omega arith
-  keep-few (x ∷ xs) = go (test x) (keep-few xs)
-    where
-      go : (b : Bool) → length (keep test xs) ≤ length xs → length (cond b (x ∷ keep test xs) (keep test xs)) ≤ suc (length xs)
-      go true r = omega arith
-      go false r = omega arith
-
-  -- where all pass, all are kept
-  pub keep-whole : (xs : List ℕ) → All (λ x. test x ≡ true) xs → keep test xs ≡ xs
-  unfolding keep
-  keep-whole [] h = refl
-  keep-whole (x ∷ xs) h = rw (h .0) (ap (λ (ys : List ℕ). x ∷ ys) (keep-whole xs (h .1)))
-
 -- the class of the processor with a number
 abbrev pub processorClass : Order → ℕ → ℕ
 processorClass o i = classFor o (memoryOf o i)
@@ -111,7 +64,9 @@ module _ (o : Order) (f : Frame) (s : ℕ) where
   -- the open processors are processors, each once
   pub open-are : All (λ i. Numbers (processorCount o) i × (openIn f s i ≡ true)) (openOrder o f s)
   unfolding openOrder
-  open-are = keep-all (openIn f s) (Numbers (processorCount o)) (processorOrder o) (processors-ordered o .no-other)
+  open-are =
+      keep-all (openIn f s) _ (processorOrder o)
+      (All-map (Numbers (processorCount o)) _ (processorOrder o) (λ i h e. (h, e)) (processors-ordered o .no-other))
 
   pub open-once : Pairwise (λ x y. x ≢ y) (openOrder o f s)
   unfolding openOrder

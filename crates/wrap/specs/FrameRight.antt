@@ -12,6 +12,7 @@ use borrow.Author.Tests.{le-leb}
 use lib.Dec.{leb, eqb}
 use lib.ListN.{length, getD}
 use Rattle.sums.specs.Sum.{sum-cong}
+use Rattle.sums.specs.Kept.{keep-pairs}
 use Rattle.sums.specs.Lists.{All, Pairwise, total, only}
 use Rattle.sums.specs.Members.{All-map, All-both, in-All, nth-in}
 use Rattle.sums.specs.Totals.{only-le, total-cong, total-tabulate}
@@ -57,7 +58,6 @@ use Rattle.wrap.specs.FrameLaws.{
   lies-true,
   only-some,
   marks-mono,
-  keep-pairs,
   processorClass,
   open-are,
   open-once,

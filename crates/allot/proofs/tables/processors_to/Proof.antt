@@ -3,8 +3,7 @@ use mathlib.Core.Path.{_≡_, refl}
 use native.Mathlib.Omega.{arith}
 use borrow.Author.Needs.{needs}
 use Rattle.sums.specs.Gate.{sum-mono}
-use Rattle.sums.specs.Sum.{sum}
-use Rattle.allot.proofs.Writing.{sum-more}
+use Rattle.sums.specs.Sum.{sum, sum-more}
 use Rattle.allot.specs.Tables.{countOf}
 use Rattle.allot.proofs.tables.processors_to.Statement.{statement}
 use Rattle.allot.proofs.tables.processors_to.Tie as tie

@@ -5,7 +5,7 @@ use borrow.Author.Count.{below-none}
 use borrow.Author.Needs.{needs}
 use lib.ListN.{length, getD, length-set}
 use Rattle.allot.proofs.Idle.{classes-done}
-use Rattle.allot.proofs.Writing.{store-more}
+use Rattle.sums.specs.Arrays.{fill-at}
 use Rattle.allot.proofs.tables.put_classes.Statement.{statement}
 use Rattle.allot.proofs.tables.put_classes.Tie as tie
 
@@ -44,7 +44,11 @@ loop-less c = search needs
 loop-again : tie.Need-loop-again Inv-loop μ-loop
 loop-again c =
     let l = c .before .before .loop in
-    (search needs, simp length-set (l .inv .1), store-more (l .class) (l .j) _ _ (omega arith) refl (l .inv .2))
+    let t = c .before .before .before .args .t2 in (
+      search needs,
+      simp length-set (l .inv .1),
+      fill-at (λ (i x : ℕ). x ≡ getD (t .classes) i 0) 0 (l .class) (l .j) _ (omega arith) (l .inv .2) refl,
+    )
 
 add-class : tie.Need-add-class Inv-loop μ-loop
 add-class c = search needs

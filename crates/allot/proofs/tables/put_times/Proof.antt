@@ -5,7 +5,7 @@ use borrow.Author.Count.{below-none}
 use borrow.Author.Needs.{needs}
 use lib.ListN.{length, getD, length-set}
 use Rattle.allot.proofs.Shares.{room-small}
-use Rattle.allot.proofs.Writing.{store-more}
+use Rattle.sums.specs.Arrays.{fill-at}
 use Rattle.allot.proofs.Idle.{times-done}
 use Rattle.allot.proofs.tables.put_times.Statement.{statement}
 use Rattle.allot.proofs.tables.put_times.Tie as tie
@@ -42,7 +42,11 @@ loop-less c = search needs
 loop-again : tie.Need-loop-again Inv-loop μ-loop
 loop-again c =
     let l = c .before .before .loop in
-    (search needs, simp length-set (l .inv .1), store-more (l .time) (l .j) _ _ (omega arith) refl (l .inv .2))
+    let t = c .before .before .before .before .args .t2 in (
+      search needs,
+      simp length-set (l .inv .1),
+      fill-at (λ (i x : ℕ). x ≡ getD (t .times) i 0) 0 (l .time) (l .j) _ (omega arith) (l .inv .2) refl,
+    )
 
 processors-to-requires : tie.Need-processors-to-requires Inv-loop μ-loop
 processors-to-requires c κs =

@@ -5,7 +5,7 @@ use Prim.Native.Nat.{ℕ, _≤_, _-_}
 use lib.ListN.{length, length-set}
 use lib.Seq.{getD-set-same, getD-set-other}
 use Rattle.engine.specs.Start.{Filled}
-use Rattle.engine.proofs.Laws.{fill-at}
+use Rattle.sums.specs.Arrays.{fill-at}
 use Rattle.engine.proofs.filling.level.Statement.{statement}
 use Rattle.engine.proofs.filling.level.Tie as tie
 use Rattle.engine.proofs.filling.level.Reads as reads
@@ -37,7 +37,7 @@ loop-again c =
     let l = c .before .loop in (
       search needs,
       simp length-set (l .inv .1),
-      record { each = fill-at (λ (k x : ℕ). x ≡ 1) (l .height) (l .k) _ (omega arith) (l .inv .2 .each) refl },
+      record { each = fill-at (λ (k x : ℕ). x ≡ 1) 0 (l .height) (l .k) _ (omega arith) (l .inv .2 .each) refl },
     )
 
 mul-height-2 : tie.Need-mul-height-2 Inv-loop μ-loop

@@ -5,7 +5,7 @@ use mathlib.Core.Path.{_≡_}
 use Prim.Native.Nat.{ℕ, _≤_, _-_}
 use lib.ListN.{length, getD, length-set}
 use Rattle.engine.specs.Start.{Copied}
-use Rattle.engine.proofs.Laws.{fill-at}
+use Rattle.sums.specs.Arrays.{fill-at}
 use Rattle.engine.proofs.slices.copy.Statement.{statement}
 use Rattle.engine.proofs.slices.copy.Tie as tie
 use Rattle.engine.proofs.slices.copy.Reads as reads
@@ -44,7 +44,7 @@ loop-again c =
       search needs,
       simp length-set (l .inv .1),
       record {
-        each = fill-at (λ (k x : ℕ). x ≡ getD (c .before .before .before .args .from .now) k 0) (l .xs) (l .k) _ (omega arith)
+        each = fill-at (λ (k x : ℕ). x ≡ getD (c .before .before .before .args .from .now) k 0) 0 (l .xs) (l .k) _ (omega arith)
             (l .inv .2 .each) refl;
       },
     )

@@ -5,7 +5,7 @@ use mathlib.Core.Path.{_≡_}
 use Prim.Native.Nat.{ℕ, _≤_, _-_}
 use lib.ListN.{length, length-set}
 use Rattle.engine.specs.Start.{Filled}
-use Rattle.engine.proofs.Laws.{fill-at}
+use Rattle.sums.specs.Arrays.{fill-at}
 use Rattle.engine.proofs.slices.put_all.Statement.{statement}
 use Rattle.engine.proofs.slices.put_all.Tie as tie
 use Rattle.engine.proofs.slices.put_all.Reads as reads
@@ -37,7 +37,7 @@ loop-again c =
     let l = c .before .loop in (
       search needs,
       simp length-set (l .inv .1),
-      record { each = fill-at (λ (k x : ℕ). x ≡ c .before .before .args .v) (l .xs) (l .k) _ (omega arith) (l .inv .2 .each) refl },
+      record { each = fill-at (λ (k x : ℕ). x ≡ c .before .before .args .v) 0 (l .xs) (l .k) _ (omega arith) (l .inv .2 .each) refl },
     )
 
 same-length : tie.Need-same-length Inv-loop μ-loop
