@@ -21,7 +21,7 @@ use Rattle.profile.specs.ReasonLaws.{NoReason}
 use Rattle.wrap.specs.Stretches.{stretchCount, mark, FeasibleFor}
 use Rattle.wrap.specs.Marks.{mark-up}
 use Rattle.wrap.specs.DuePlaces.{dueIndex-mark}
-use Rattle.wrap.specs.Flows.{jobsFor, jobs-met, jobs-classed, jobs-in-time, jobs-fine, jobs-high, amountIn}
+use Rattle.wrap.specs.Flows.{jobsFor, jobs-met, jobs-classed, jobs-in-time, jobs-on-marks, jobs-high, amountIn}
 use Rattle.feasible.specs.Overfull.{profile-overfull}
 use Rattle.allot.specs.OrderFlow.{stretches-are, mark-same, counts-same, feasible-same, cut-same, run-same, amounts-by-number}
 use Rattle.table.specs.declared.Table.{Table}
@@ -94,7 +94,7 @@ module _ {top : ℤ} (o : Order) (work : Workable top o) (bound : ℤ) (none : N
   no-cut : ¬ Cut (flowOn t ds ms) (suc (t .s))
   no-cut c =
       let p : Profile (jobsFor o bound) (length (classes o)) =
-      cut-profile (jobsFor o bound) (jobs-fine o bound work (none .0)) (length (classes o))
+      cut-profile (jobsFor o bound) (jobs-on-marks o bound work (none .0)) (length (classes o))
       (jobs-in-time o bound work (none .0)) (jobs-met o bound) (cut-same top o bound t ds ms F c) in
       let stairs = profile-overfull o bound (none .0) (jobsFor o bound) (jobs-match o bound) (omega arith) p in
       none .1 (stairs .0) (stairs .1)

@@ -11,7 +11,7 @@ use lib.ListN.{length, getD}
 use Rattle.sums.specs.Sum.{sum, sum-cong}
 use Rattle.sums.specs.Lists.{nth}
 use Rattle.amounts.specs.Flow.{Feasible, Cut}
-use Rattle.amounts.specs.Exchange.{flowOf}
+use Rattle.amounts.specs.Exchange.{commonFlow}
 use Rattle.amounts.specs.Profile.{stretchesOf}
 use Rattle.engine.specs.View.{grid}
 use Rattle.engine.specs.Run.{RunOf}
@@ -75,7 +75,7 @@ module _ (top : ℤ) (o : Order) (bound : ℤ) where
         feasible-out o bound _ (holds-feasible o (baseFrame o bound) (flowOn t deadlines marks) (t .s) holds a f)
 
     pub cut-same : Cut (flowOn t deadlines marks) (suc (t .s)) →
-        Cut (flowOf (stretchesOf (jobsFor o bound))) (suc (length (classes o)))
+        Cut (commonFlow (stretchesOf (jobsFor o bound))) (suc (length (classes o)))
     cut-same c = base-cut o bound (holds-cut o (baseFrame o bound) (flowOn t deadlines marks) (t .s) holds c)
 
     -- the table's run is the order's

@@ -21,8 +21,9 @@ pub record Stretches : Type 0 where
   pub ends : ℕ → ℕ
   pub count : ℕ → ℕ
 
-abbrev pub flowOf : Stretches → Flow
-flowOf o =
+-- a job may have the whole of each of its stretches; the classes up to k have the room of their processors
+abbrev pub commonFlow : Stretches → Flow
+commonFlow o =
     record {
       q = o .q;
       n = o .n;
@@ -87,15 +88,15 @@ module _ (o : Stretches) (κ : ℕ → ℕ) (s s' : ℕ) (before : s < s') (insi
   abbrev B : ℕ → ℕ
   B = put κ s (κ s')
 
-  exchange-left : (o .length s + o .length s') * left (flowOf o) κ
-      ≤ o .length s * left (flowOf o) A + o .length s' * left (flowOf o) B
+  exchange-left : (o .length s + o .length s') * left (commonFlow o) κ
+      ≤ o .length s * left (commonFlow o) A + o .length s' * left (commonFlow o) B
   unfolding left covered
   exchange-left =
       let l : ℕ = o .length s in
       let l' : ℕ = o .length s' in
-      let x : ℕ → ℕ = owedBy (flowOf o) κ in
-      let a : ℕ → ℕ = owedBy (flowOf o) A in
-      let b : ℕ → ℕ = owedBy (flowOf o) B in
+      let x : ℕ → ℕ = owedBy (commonFlow o) κ in
+      let a : ℕ → ℕ = owedBy (commonFlow o) A in
+      let b : ℕ → ℕ = owedBy (commonFlow o) B in
       let g : ℕ → ℕ → ℕ → ℕ = λ j k i. gate k (o .class j) (gate i (o .ends j) (o .length i)) in
       omega (
         arith,
@@ -104,13 +105,13 @@ module _ (o : Stretches) (κ : ℕ → ℕ) (s s' : ℕ) (before : s < s') (insi
         sum-mul (o .n) l' b,
         sum-add (o .n) (λ j. l * a j) (λ j. l' * b j),
         sum-le (o .n) (λ j. (l + l') * x j) (λ j. l * a j + l' * b j) (λ j _.
-            job-convex l l' (o .time j) (covered (flowOf o) κ j) (covered (flowOf o) A j) (covered (flowOf o) B j) (κ s)
+            job-convex l l' (o .time j) (covered (commonFlow o) κ j) (covered (commonFlow o) A j) (covered (commonFlow o) B j) (κ s)
             (κ s') (o .class j) (o .ends j) s s' rise before (sum-put (o .q) (g j) κ s' (κ s) inside)
             (sum-put (o .q) (g j) κ s (κ s') (omega arith))),
       )
 
-  exchange-right : o .length s * right (flowOf o) A + o .length s' * right (flowOf o) B
-      ≡ (o .length s + o .length s') * right (flowOf o) κ
+  exchange-right : o .length s * right (commonFlow o) A + o .length s' * right (commonFlow o) B
+      ≡ (o .length s + o .length s') * right (commonFlow o) κ
   unfolding right
   exchange-right =
       let g : ℕ → ℕ → ℕ = λ k i. sum k (o .count) * o .length i in
@@ -121,14 +122,14 @@ module _ (o : Stretches) (κ : ℕ → ℕ) (s s' : ℕ) (before : s < s') (insi
       )
 
   -- the excess of A is at least that of κ, or the excess of B is larger
-  exchange : 0 < o .length s → ¬ (left (flowOf o) κ + right (flowOf o) A ≤ left (flowOf o) A + right (flowOf o) κ) →
-      left (flowOf o) κ + right (flowOf o) B < left (flowOf o) B + right (flowOf o) κ
+  exchange : 0 < o .length s → ¬ (left (commonFlow o) κ + right (commonFlow o) A ≤ left (commonFlow o) A + right (commonFlow o) κ) →
+      left (commonFlow o) κ + right (commonFlow o) B < left (commonFlow o) B + right (commonFlow o) κ
   exchange pos not-a =
-      elim (decLt (left (flowOf o) κ + right (flowOf o) B) (left (flowOf o) B + right (flowOf o) κ)) [
+      elim (decLt (left (commonFlow o) κ + right (commonFlow o) B) (left (commonFlow o) B + right (commonFlow o) κ)) [
         | yes h ↦ h
         | no h ↦
-            let ha : left (flowOf o) A + right (flowOf o) κ < left (flowOf o) κ + right (flowOf o) A = omega arith in
-            let hb : left (flowOf o) B + right (flowOf o) κ ≤ left (flowOf o) κ + right (flowOf o) B = omega arith in
+            let ha : left (commonFlow o) A + right (commonFlow o) κ < left (commonFlow o) κ + right (commonFlow o) A = omega arith in
+            let hb : left (commonFlow o) B + right (commonFlow o) κ ≤ left (commonFlow o) κ + right (commonFlow o) B = omega arith in
             absurd (omega (
               arith,
               exchange-left,
@@ -159,17 +160,17 @@ course κ q =
 
 -- a violating cut of classes below m that never rises
 pub record FallingCut (o : Stretches) (m : ℕ) : Type 0 where
-  pub cut : Cut (flowOf o) m
+  pub cut : Cut (commonFlow o) m
   pub falling : Falls (cut .κ) (o .q)
 
-left-≤-times : (o : Stretches) (κ : ℕ → ℕ) → left (flowOf o) κ ≤ sum (o .n) (o .time)
+left-≤-times : (o : Stretches) (κ : ℕ → ℕ) → left (commonFlow o) κ ≤ sum (o .n) (o .time)
 unfolding left
 left-≤-times o κ = sum-le (o .n) _ (o .time) (omega arith)
 
 module _ (o : Stretches) (pos : (s : ℕ) → s < o .q → 0 < o .length s) (m : ℕ) where
   -- g bounds what the excess can still gain, k what the cut can still lose
-  fall : (g k : ℕ) (κ : ℕ → ℕ) → Violating (flowOf o) κ → ((i : ℕ) → κ i < m) →
-      sum (o .n) (o .time) + right (flowOf o) κ < left (flowOf o) κ + g → sum (o .q) κ < k → FallingCut o m
+  fall : (g k : ℕ) (κ : ℕ → ℕ) → Violating (commonFlow o) κ → ((i : ℕ) → κ i < m) →
+      sum (o .n) (o .time) + right (commonFlow o) κ < left (commonFlow o) κ + g → sum (o .q) κ < k → FallingCut o m
   fall zero k κ v b e h = absurd (omega (arith, left-≤-times o κ))
   fall (suc g) zero κ v b e h = absurd (omega arith)
   fall (suc g) (suc k) κ v b e h =
@@ -178,7 +179,7 @@ module _ (o : Stretches) (pos : (s : ℕ) → s < o .q → 0 < o .length s) (m :
         | rises s i r ↦
             let A : ℕ → ℕ = put κ (suc s) (κ s) in
             let B : ℕ → ℕ = put κ s (κ (suc s)) in
-            elim (decLe (left (flowOf o) κ + right (flowOf o) A) (left (flowOf o) A + right (flowOf o) κ)) [
+            elim (decLe (left (commonFlow o) κ + right (commonFlow o) A) (left (commonFlow o) A + right (commonFlow o) κ)) [
               | yes y ↦
                   fall (suc g) k A (omega arith) (put-all (λ k. k < m) κ (suc s) (κ s) b (b s)) (omega arith)
                   (omega (arith, sum-put (o .q) (λ k _. k) κ (suc s) (κ s) i))
@@ -189,7 +190,7 @@ module _ (o : Stretches) (pos : (s : ℕ) → s < o .q → 0 < o .length s) (m :
             ]
       ]
 
-  pub cut-falls : Cut (flowOf o) m → FallingCut o m
+  pub cut-falls : Cut (commonFlow o) m → FallingCut o m
   cut-falls C =
-      fall (suc (sum (o .n) (o .time) + right (flowOf o) (C .κ))) (suc (sum (o .q) (C .κ))) (C .κ) (C .violating)
+      fall (suc (sum (o .n) (o .time) + right (commonFlow o) (C .κ))) (suc (sum (o .q) (C .κ))) (C .κ) (C .violating)
       (C .below) (omega arith) (omega arith)

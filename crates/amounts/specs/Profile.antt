@@ -11,7 +11,7 @@ use Rattle.sums.specs.Sum.{sum, sum-cong}
 use Rattle.sums.specs.Gate.{at, sum-mono}
 use Rattle.amounts.specs.Flow.{Feasible, Cut, cut-not-feasible}
 use Rattle.amounts.specs.Complete.{complete}
-use Rattle.amounts.specs.Exchange.{Stretches, flowOf, cut-falls}
+use Rattle.amounts.specs.Exchange.{Stretches, commonFlow, cut-falls}
 use Rattle.amounts.specs.Steps.{upto, owed, Sound, Steps, cut-steps, steps-cut}
 
 -- n jobs; `count i` processors have the class i + 1; q stretches, s from `mark s` to `mark (s + 1)`;
@@ -26,7 +26,8 @@ pub record Jobs : Type 0 where
   pub mark : ℕ → ℕ
   pub index : ℕ → ℕ
 
-pub record Fine (a : Jobs) : Type 0 where
+-- the marks rise from 0, and each job has a class and its deadline among them
+pub record OnMarks (a : Jobs) : Type 0 where
   pub start : a .mark 0 ≡ 0
   pub rises : (s : ℕ) → s < a .q → a .mark s < a .mark (suc s)
   pub some : 0 < a .q
@@ -56,8 +57,8 @@ pub record Profile (a : Jobs) (S : ℕ) : Type 0 where
       < sum k (λ i. sum (a .n) (λ j. at (a .class j) (suc i) (a .time j - (a .deadline j - T (suc i)))))
 
 -- no job's time is beyond its deadline
-abbrev pub InTime : Jobs → Type 0
-InTime a = (j : ℕ) → j < a .n → a .time j ≤ a .deadline j
+abbrev pub NoneTooLong : Jobs → Type 0
+NoneTooLong a = (j : ℕ) → j < a .n → a .time j ≤ a .deadline j
 
 -- every mark but the first is a deadline
 abbrev pub Met : Jobs → Type 0
@@ -67,7 +68,7 @@ Met a = (p : ℕ) → 0 < p → p ≤ a .q → (j : ℕ) × (j < a .n) × (a .de
 abbrev Marked : Jobs → ℕ → ℕ → Type 0
 Marked a t p = (0 < p) × (p ≤ a .q) × (t ≡ a .mark p)
 
-module _ (a : Jobs) (F : Fine a) where
+module _ (a : Jobs) (F : OnMarks a) where
   upto-mark : (p : ℕ) → p ≤ a .q → upto (stretchesOf a) p ≡ a .mark p
   unfolding upto sum
   upto-mark zero b = omega (arith, F .start)
@@ -105,7 +106,7 @@ module _ (a : Jobs) (F : Fine a) where
   )
 
   module _ (S : ℕ) where
-    pub cut-profile : InTime a → Met a → Cut (flowOf (stretchesOf a)) (suc S) → Profile a S
+    pub cut-profile : NoneTooLong a → Met a → Cut (commonFlow (stretchesOf a)) (suc S) → Profile a S
     cut-profile in-time met C =
         steps-profile (cut-steps (stretchesOf a) sound
         (λ j b. omega (arith, in-time j b, F .indexed j b .2, upto-mark (a .index j) (F .indexed j b .1))) S
@@ -177,15 +178,15 @@ module _ (a : Jobs) (F : Fine a) where
                   )
             ]
 
-    pub profile-cut : Profile a S → Cut (flowOf (stretchesOf a)) (suc S)
+    pub profile-cut : Profile a S → Cut (commonFlow (stretchesOf a)) (suc S)
     profile-cut t = steps-cut (stretchesOf a) sound S (profile-steps t)
 
     -- where besides the jobs' classes are 1 to S: amounts in whole minutes, if no profile is overfull
-    pub no-profile-feasible : InTime a → Met a → ((j : ℕ) → j < a .n → a .class j ≤ S) → ¬ Profile a S →
-        (w : ℕ → ℕ → ℕ) × Feasible (flowOf (stretchesOf a)) 1 w
+    pub no-profile-feasible : NoneTooLong a → Met a → ((j : ℕ) → j < a .n → a .class j ≤ S) → ¬ Profile a S →
+        (w : ℕ → ℕ → ℕ) × Feasible (commonFlow (stretchesOf a)) 1 w
     unfolding sum
     no-profile-feasible in-time met high no-profile =
-        elim (complete (flowOf (stretchesOf a)) (suc S)
+        elim (complete (commonFlow (stretchesOf a)) (suc S)
         (record {
           some = omega arith;
           low = F .classed;
@@ -198,5 +199,5 @@ module _ (a : Jobs) (F : Fine a) where
           | inr C ↦ absurd (no-profile (cut-profile in-time met C))
         ]
 
-    pub feasible-no-profile : {p : ℕ} {w : ℕ → ℕ → ℕ} → Feasible (flowOf (stretchesOf a)) p w → ¬ Profile a S
+    pub feasible-no-profile : {p : ℕ} {w : ℕ → ℕ → ℕ} → Feasible (commonFlow (stretchesOf a)) p w → ¬ Profile a S
     feasible-no-profile f t = cut-not-feasible (profile-cut t) f

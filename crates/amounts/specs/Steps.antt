@@ -18,7 +18,7 @@ use Rattle.sums.specs.Gate.{
   sum-mono,
 }
 use Rattle.amounts.specs.Flow.{covered, owedBy, left, right, Violating, Cut}
-use Rattle.amounts.specs.Exchange.{Stretches, flowOf, Falls, FallingCut}
+use Rattle.amounts.specs.Exchange.{Stretches, commonFlow, Falls, FallingCut}
 
 -- the end of the first p stretches; a job's deadline is the end of those that it may use
 unfoldable pub upto : Stretches → ℕ → ℕ
@@ -135,7 +135,7 @@ module _ (o : Stretches) (κ : ℕ → ℕ) where
   unfolding top upto
   top-upto c r = sum-below κ c (o .q) r (o .length)
 
-  right-tops : (S : ℕ) → ((i : ℕ) → κ i ≤ S) → right (flowOf o) κ ≡ sum S (λ i. o .count i * top (suc i))
+  right-tops : (S : ℕ) → ((i : ℕ) → κ i ≤ S) → right (commonFlow o) κ ≡ sum S (λ i. o .count i * top (suc i))
   unfolding right top
   right-tops S b =
       sum-cong (o .q) _ _ (λ s _. term s)
@@ -155,7 +155,7 @@ module _ (o : Stretches) (κ : ℕ → ℕ) where
           )
 
   covered-upto : (j : ℕ) → o .ends j ≤ o .q → (c : ℕ) → o .class j ≡ c → (r : Split κ c (o .q)) →
-      covered (flowOf o) κ j ≡ upto o (o .ends j) - upto o (r .p)
+      covered (commonFlow o) κ j ≡ upto o (o .ends j) - upto o (r .p)
   unfolding covered upto
   covered-upto j b c e r = rw e (sum-above κ c (o .q) r (o .length) (o .ends j) b)
 
@@ -182,7 +182,7 @@ module _ (o : Stretches) (g : Sound o) (in-time : (j : ℕ) → j < o .n → o .
   beyond c h = elim (decLt 0 (at-class c .p)) [ yes z ↦ omega (arith, at-class c .below 0 z) | no z ↦ omega arith ]
 
   owedBy-≤-owed : (j : ℕ) → j < o .n →
-      owedBy (flowOf o) κ j ≤ sum (κ 0) (λ i. at (o .class j) (suc i) (owed o j (top o κ (suc i))))
+      owedBy (commonFlow o) κ j ≤ sum (κ 0) (λ i. at (o .class j) (suc i) (owed o j (top o κ (suc i))))
   unfolding owed
   owedBy-≤-owed j d =
       elim (decLt (κ 0) (o .class j)) [
@@ -201,7 +201,7 @@ module _ (o : Stretches) (g : Sound o) (in-time : (j : ℕ) → j < o .n → o .
       upto-zero = unfold upto sum in refl
 
       one : (i : ℕ) → o .class j ≡ suc i → i < κ 0 →
-          owedBy (flowOf o) κ j ≤ sum (κ 0) (λ i. at (o .class j) (suc i) (owed o j (top o κ (suc i))))
+          owedBy (commonFlow o) κ j ≤ sum (κ 0) (λ i. at (o .class j) (suc i) (owed o j (top o κ (suc i))))
       one i e h =
           omega (
             arith,
@@ -249,7 +249,7 @@ module _ (o : Stretches) (g : Sound o) (in-time : (j : ℕ) → j < o .n → o .
             C .cut .violating,
             right-tops o κ S κ-≤,
             sum-mono (κ 0) S (λ i. o .count i * top o κ (suc i)) (κ-≤ 0),
-            sum-le (o .n) (owedBy (flowOf o) κ) _ owedBy-≤-owed,
+            sum-le (o .n) (owedBy (commonFlow o) κ) _ owedBy-≤-owed,
             sum-swap (o .n) (κ 0) (λ j i. at (o .class j) (suc i) (owed o j (top o κ (suc i)))),
           )
 
@@ -310,7 +310,7 @@ module _ (o : Stretches) (g : Sound o) (S : ℕ) (v : Steps o S) where
       }
 
   owed-≤-owedBy : (j : ℕ) → j < o .n →
-      sum (v .k) (λ i. at (o .class j) (suc i) (owed o j (upto o (v .p (suc i))))) ≤ owedBy (flowOf o) stepped j
+      sum (v .k) (λ i. at (o .class j) (suc i) (owed o j (upto o (v .p (suc i))))) ≤ owedBy (commonFlow o) stepped j
   unfolding stepped-split owed
   owed-≤-owedBy j b =
       elim (decLt (o .class j - 1) (v .k)) [
@@ -326,7 +326,7 @@ module _ (o : Stretches) (g : Sound o) (S : ℕ) (v : Steps o S) where
       w : ℕ → ℕ
       w i = at (o .class j) (suc i) (owed o j (upto o (v .p (suc i))))
 
-      one : (i : ℕ) → o .class j ≡ suc i → i < v .k → sum (v .k) w ≤ owedBy (flowOf o) stepped j
+      one : (i : ℕ) → o .class j ≡ suc i → i < v .k → sum (v .k) w ≤ owedBy (commonFlow o) stepped j
       one i e h =
           omega (
             arith,
@@ -339,7 +339,7 @@ module _ (o : Stretches) (g : Sound o) (S : ℕ) (v : Steps o S) where
   unfolding stepped
   stepped-≤ s = cut-≤ (v .k) (v .p) (v .falling) s
 
-  stepped-violating : Violating (flowOf o) stepped
+  stepped-violating : Violating (commonFlow o) stepped
   unfolding left stepped-split
   stepped-violating =
       omega (
@@ -348,10 +348,10 @@ module _ (o : Stretches) (g : Sound o) (S : ℕ) (v : Steps o S) where
         right-tops o stepped (v .k) stepped-≤,
         sum-cong (v .k) (λ i. o .count i * top o stepped (suc i)) (λ i. o .count i * upto o (v .p (suc i)))
             (λ i h. ap (λ x. o .count i * x) (top-upto o stepped (suc i) (stepped-split i h))),
-        sum-le (o .n) _ (owedBy (flowOf o) stepped) owed-≤-owedBy,
+        sum-le (o .n) _ (owedBy (commonFlow o) stepped) owed-≤-owedBy,
         sum-swap (o .n) (v .k) (λ j i. at (o .class j) (suc i) (owed o j (upto o (v .p (suc i))))),
       )
 
-  pub steps-cut : Cut (flowOf o) (suc S)
+  pub steps-cut : Cut (commonFlow o) (suc S)
   steps-cut =
       record { κ = stepped; below = λ s. omega (arith, stepped-≤ s, v .few); violating = stepped-violating }

@@ -14,7 +14,7 @@ use Rattle.amounts.specs.Profile.{no-profile-feasible}
 use Rattle.wrap.specs.Stretches.{FeasibleFor}
 use Rattle.wrap.specs.Layout.{layout}
 use Rattle.wrap.specs.LayoutRight.{layout-right}
-use Rattle.wrap.specs.Flows.{jobsFor, byNumber, flow-feasible, jobs-met, jobs-in-time, jobs-fine, jobs-high}
+use Rattle.wrap.specs.Flows.{jobsFor, byNumber, flow-feasible, jobs-met, jobs-in-time, jobs-on-marks, jobs-high}
 use Rattle.feasible.specs.Matches.{jobs-match}
 use Rattle.feasible.specs.Overfull.{profile-overfull}
 
@@ -22,7 +22,7 @@ use Rattle.feasible.specs.Overfull.{profile-overfull}
 pub amounts-exist : {top : ℤ} (o : Order) → Workable top o → (bound : ℤ) → NoReason o bound → (a : ℕ → ℕ → ℕ) × FeasibleFor o bound a
 amounts-exist o work bound none =
     let found =
-    no-profile-feasible (jobsFor o bound) (jobs-fine o bound work (none .0)) (length (classes o))
+    no-profile-feasible (jobsFor o bound) (jobs-on-marks o bound work (none .0)) (length (classes o))
     (jobs-in-time o bound work (none .0)) (jobs-met o bound) (λ j l. jobs-high o j)
     (λ profile.
     let full = profile-overfull o bound (none .0) (jobsFor o bound) (jobs-match o bound) (omega arith) profile in

@@ -12,7 +12,7 @@ use Rattle.order.specs.Class.{processorsTo}
 use Rattle.order.specs.Deadline.{deadlineOf}
 use Rattle.plan.specs.Plan.{Row, RightInParts}
 use Rattle.amounts.specs.Flow.{Feasible, Cut}
-use Rattle.amounts.specs.Exchange.{flowOf}
+use Rattle.amounts.specs.Exchange.{commonFlow}
 use Rattle.amounts.specs.Profile.{stretchesOf}
 use Rattle.amounts.specs.Same.{same-violating, same-feasible}
 use Rattle.wrap.specs.Stretches.{stretchCount, stretchLength}
@@ -53,23 +53,23 @@ module _ (o : Order) (bound : ℤ) where
       ]
 
   pub plan-amounts : {p : ℕ} {rows : List Row} → 1 ≤ p → RightInParts p o bound rows →
-      Feasible (flowOf (stretchesOf (jobsFor o bound))) p (amountsIn p (baseFrame o bound) rows)
+      Feasible (commonFlow (stretchesOf (jobsFor o bound))) p (amountsIn p (baseFrame o bound) rows)
   unfolding processorsTo
   plan-amounts {p} {rows} parts right =
       let f = baseFrame o bound in
       let flow = flowIn o f in
-      let common = flowOf (stretchesOf (jobsFor o bound)) in
+      let common = commonFlow (stretchesOf (jobsFor o bound)) in
       same-feasible (jobCount o) (stretchCount o) (flow .time) (common .time) (flow .class) (common .class)
       (flow .cap) (common .cap) (flow .room) (common .room) (λ j b. refl) (λ j b. refl) cap-is
       (λ s k l. omega (arith, ap (λ (x : ℕ). x * stretchLength o bound s) (open-counts o bound s l k)))
       p (amountsIn p f rows) (plan-amounts-in o f (base-framed o bound) (right-in o bound p rows right) parts)
 
   -- so a cut that violates in the frame violates there
-  pub base-cut : {m : ℕ} → Cut (flowIn o (baseFrame o bound)) m → Cut (flowOf (stretchesOf (jobsFor o bound))) m
+  pub base-cut : {m : ℕ} → Cut (flowIn o (baseFrame o bound)) m → Cut (commonFlow (stretchesOf (jobsFor o bound))) m
   unfolding processorsTo
   base-cut {m} c =
       let flow = flowIn o (baseFrame o bound) in
-      let common = flowOf (stretchesOf (jobsFor o bound)) in
+      let common = commonFlow (stretchesOf (jobsFor o bound)) in
       record {
         κ = c .κ;
         below = c .below;

@@ -12,7 +12,7 @@ use Rattle.plan.specs.Plan.{Row, RightInParts}
 use Rattle.profile.specs.Profile.{Overfull}
 use Rattle.profile.specs.Reason.{Reason, overEnd, stairs, InTime, IsReason}
 use Rattle.amounts.specs.Profile.{feasible-no-profile}
-use Rattle.wrap.specs.Flows.{jobsFor, jobs-fine}
+use Rattle.wrap.specs.Flows.{jobsFor, jobs-on-marks}
 use Rattle.feasible.specs.InTime.{plan-in-time}
 use Rattle.feasible.specs.Matches.{jobs-match}
 use Rattle.feasible.specs.PlanAmounts.{plan-amounts}
@@ -26,7 +26,7 @@ sound o work bound p parts rows right =
     let in-time = plan-in-time work parts right in (
       in-time,
       λ dues full.
-          feasible-no-profile (jobsFor o bound) (jobs-fine o bound work in-time) (length (classes o))
+          feasible-no-profile (jobsFor o bound) (jobs-on-marks o bound work in-time) (length (classes o))
           (plan-amounts o bound parts right)
           (overfull-profile o bound in-time (jobsFor o bound) (jobs-match o bound) dues full),
     )

@@ -15,7 +15,7 @@ use Rattle.sums.specs.Members.{All-at, All-from}
 use Rattle.sums.specs.Pairs.{Pairwise-at, Pairwise-from}
 use Rattle.sums.specs.Places.{length-tabulate, getD-tabulate}
 use Rattle.sums.specs.Rearranged.{Rearranged, rearranged-length, rearranged-all, rearranged-two}
-use Rattle.spans.specs.Heap.{at, Rising}
+use Rattle.spans.specs.Heap.{at, Sorted}
 use Rattle.spans.specs.Line.{keyOf, startOf, stopOf, Span, Spans, Apart, AllApart, clear, upTo}
 
 pub true-is-not : {A : Type 0} → false ≡ true → A
@@ -118,7 +118,7 @@ module _ (numbers : List ℕ) (by : ℕ) where
             omega (arith, ap (at stop xs) e, ap (at start xs) f)
       ]
 
-  module _ (xs : List ℕ) (spans : All (Span numbers by) xs) (rising : Rising start xs) where
+  module _ (xs : List ℕ) (spans : All (Span numbers by) xs) (rising : Sorted start xs) where
     pub linked-clear : (n : ℕ) → Linked xs n → length xs ≤ n → Pairwise Clear xs
     linked-clear n h l = Pairwise-from Clear xs 0 (λ i k a b. rw (le-leb (at stop xs i) (at start xs k) (far i k a b)))
       where

@@ -22,8 +22,8 @@ use Rattle.order.specs.Deadline.{cut, cut-le, deadlineOf}
 use Rattle.order.specs.Lead.{Workable}
 use Rattle.order.specs.RefusalLaws.{true-leZ}
 use Rattle.amounts.specs.Flow.{held, Feasible}
-use Rattle.amounts.specs.Exchange.{flowOf}
-use Rattle.amounts.specs.Profile.{Jobs, Fine, stretchesOf, InTime, Met}
+use Rattle.amounts.specs.Exchange.{commonFlow}
+use Rattle.amounts.specs.Profile.{Jobs, OnMarks, stretchesOf, NoneTooLong, Met}
 use Rattle.wrap.specs.Stretches.{stretchCount, mark, stretchLength, heldUpTo, FeasibleFor}
 use Rattle.wrap.specs.Marks.{mark-zero, mark-rises, mark-mono}
 use Rattle.wrap.specs.DuePlaces.{dueIndex, dueIndex-mark, mark-met}
@@ -59,7 +59,7 @@ gate-only c k v =
     ]
 
 module _ (o : Order) (bound : ℤ) where
-  flow-by-deadline : {a : ℕ → ℕ → ℕ} → Feasible (flowOf (stretchesOf (jobsFor o bound))) 1 a →
+  flow-by-deadline : {a : ℕ → ℕ → ℕ} → Feasible (commonFlow (stretchesOf (jobsFor o bound))) 1 a →
       (j s : ℕ) → j < jobCount o → s < stretchCount o → deadlineOf bound (jobOf o (suc j)) < mark o bound (suc s) →
       a j s ≡ 0
   flow-by-deadline f j s b l h =
@@ -71,12 +71,12 @@ module _ (o : Order) (bound : ℤ) where
       ]
 
   held-flow : (a : ℕ → ℕ → ℕ) (s k : ℕ) →
-      held (flowOf (stretchesOf (jobsFor o bound))) a s k ≡ heldUpTo o (byNumber a) k s
+      held (commonFlow (stretchesOf (jobsFor o bound))) a s k ≡ heldUpTo o (byNumber a) k s
   unfolding heldUpTo
   held-flow a s k = sum-cong (jobCount o) _ _ (λ j b. gate-only (classOf o (jobOf o (suc j))) k (a j s))
 
   -- feasible amounts of the flow are those from which a plan is laid out
-  pub flow-feasible : {a : ℕ → ℕ → ℕ} → Feasible (flowOf (stretchesOf (jobsFor o bound))) 1 a →
+  pub flow-feasible : {a : ℕ → ℕ → ℕ} → Feasible (commonFlow (stretchesOf (jobsFor o bound))) 1 a →
       FeasibleFor o bound (byNumber a)
   unfolding processorsTo
   flow-feasible {a} f =
@@ -119,7 +119,7 @@ module _ (o : Order) (bound : ℤ) where
 
     -- and no job's time exceeds its end
     module _ (in-time : (j : ℕ) → Numbers (jobCount o) j → pos (jobOf o j .time) ≤ℤ endOf bound (jobOf o j)) where
-      pub jobs-in-time : InTime (jobsFor o bound)
+      pub jobs-in-time : NoneTooLong (jobsFor o bound)
       unfolding deadlineOf
       jobs-in-time j b =
           let job = jobOf o (suc j) in
@@ -137,8 +137,8 @@ module _ (o : Order) (bound : ℤ) where
       rises (suc s) l = mark-rises o bound s l (mark-some s (omega arith))
 
       -- the marks rise, and each job has a class and a deadline among them
-      pub jobs-fine : Fine (jobsFor o bound)
-      jobs-fine =
+      pub jobs-on-marks : OnMarks (jobsFor o bound)
+      jobs-on-marks =
           record {
             start = mark-zero o bound;
             rises = rises;
