@@ -4,16 +4,8 @@ use mathlib.Core.Path.{_≡_, refl, sym, ap, _∙_}
 use mathlib.Core.List.{List, [], _∷_, _++_, append-assoc}
 use native.Mathlib.Omega.{arith}
 use native.Mathlib.Numerals.{add-one}
-use borrow.Author.Tests.{lt-ltb}
-use lib.IntN.{pos}
 use lib.ListN.{length, getD, set, take, drop, length-append, length-drop, take-append-drop}
 use lib.Seq.{sets-eq, take-suc, take-at, drop-append-add, drop-drop, length-take-le, take-length}
-use mir.Val.{toZ}
-use mir.Syntax.{w32}
-
--- a number below 2^31 is read back as itself
-pub low : (n : ℕ) → n < 2147483648 → toZ w32 n ≡ pos n
-low n h = simp (lt-ltb n 2147483648 h)
 
 module _ {A : Type 0} where
   pub one-stored : (s : List A) (a x : A) → x ≡ a → 1 ≤ length s → set s 0 x ≡ a ∷ drop 1 s

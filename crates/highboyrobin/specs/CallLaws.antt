@@ -50,7 +50,7 @@ use Rattle.profile.specs.Search.{Found, nothing, found, reasonOf}
 use Rattle.planner.specs.NoPlan.{NoPlan, reason-no-plan, none-where-met}
 use Rattle.planner.specs.Rows.{rowsAsked, bufferRow, isFound, leastRows, earlierRows, planRows}
 use Rattle.planner.specs.Demand.{Demand3}
-use Rattle.planner.specs.DemandMet.{tight-refused, demand-3}
+use Rattle.planner.specs.DemandMet.{tight-refused, not-found, demand-3}
 use Rattle.planner.specs.WrittenOne.{written-one}
 use Rattle.highboyrobin.specs.Results.{answerRow, fileCall}
 use Rattle.highboyrobin.specs.Calls.{leastCall, planCall, PlanBy, reasonCall, reasonNumbers, reasonAnswer, checkCall, checkAnswer}
@@ -77,10 +77,6 @@ tight-found : (f : Found Reason) → ¬ (f ≡ nothing) → judge (tightRow (isF
 unfolding judge
 tight-found nothing h = absurd (h refl)
 tight-found (found r) h = refl
-
-not-found : (f : Found Reason) → isFound f ≡ false → f ≡ nothing
-not-found nothing e = refl
-not-found (found r) e = let z : _≡_ {A = ℕ} 0 1 = cc in absurd (omega arith)
 
 one-true : (b : Bool) → pos (cond b 1 0) ≡ pos 1 → b ≡ true
 one-true true e = refl

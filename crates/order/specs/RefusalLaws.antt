@@ -7,7 +7,7 @@ use mathlib.Core.List.{List, [], _∷_, _++_}
 use mathlib.Core.Logic.{_↔_, _⊎_, inl, inr}
 use native.Mathlib.Omega.{arith}
 use native.Mathlib.Nat.{le-of-suc-le-suc}
-use borrow.Author.Tests.{leb-true, le-leb, ltb-false, le-ltb, eqb-false, ne-eqb}
+use borrow.Author.Tests.{not-false, leb-true, le-leb, ltb-false, le-ltb, eqb-false, ne-eqb}
 use lib.Dec.{T, leb}
 use lib.ListN.{length, getD}
 use lib.IntN.{ℤ, pos, negsuc}
@@ -176,7 +176,7 @@ unfolding firstAfter
 first-none test [] k h = refl
 first-none test (x ∷ xs) k h = rw (h .0) (first-none test xs (suc k) (h .1))
 
-first-clear : {A : Type 0} (test : A → Bool) (xs : List A) (k : ℕ) → firstAfter k test xs ≡ clear → All (λ x. test x ≡ false) xs
+pub first-clear : {A : Type 0} (test : A → Bool) (xs : List A) (k : ℕ) → firstAfter k test xs ≡ clear → All (λ x. test x ≡ false) xs
 unfolding firstAfter
 first-clear test [] k e = tt
 first-clear test (x ∷ xs) k e = go (test x) refl e (first-clear test xs (suc k))
@@ -187,10 +187,6 @@ first-clear test (x ∷ xs) k e = go (test x) refl e (first-clear test xs (suc k
     go false t h f = (t, f h)
 
 -- tests as facts
-not-false : (b : Bool) → not b ≡ false → b ≡ true
-not-false true e = refl
-not-false false e = cc
-
 false-not : (b : Bool) → b ≡ true → not b ≡ false
 false-not b e = rw e
 

@@ -10,21 +10,19 @@ use lib.Signed.{mag, leZ, ltZ, nonNeg}
 use mir.Val.{toZ, ofZ, Fits, SFits}
 use mir.ValLaws.{toZ-ofZ}
 use mir.Syntax.{w32, w64}
+use Rattle.order.specs.Machine.{machine-low}
 use Rattle.order_file.specs.Bytes.{signed, pattern}
 use Rattle.order_file.specs.ByteLaws.{pattern-small}
 
 -- below 2^31 a pattern stands for itself
-low : (n : ℕ) → n < 2147483648 → toZ w32 n ≡ pos n
-low n h = simp (lt-ltb n 2147483648 h)
-
 pub low-signed : (n : ℕ) → n < 2147483648 → toZ w32 n ≡ signed n
-low-signed n h = rw (low n h, lt-ltb n 2147483648 h)
+low-signed n h = rw (machine-low n h, lt-ltb n 2147483648 h)
 
 -- a number of 31 bits, and one of 32 bits that is not above 0 more, is of 32 bits
 pub sum-fits : (n : ℕ) (z : ℤ) → 2147483648 ≤ n → n < 4294967296 → leZ z (pos 0) ≡ true → ltb (mag z) 2147483648 ≡ true →
     SFits w32 (toZ w32 (n - 2147483648) +ℤ z)
 sum-fits n z h f below small =
-    rw (low (n - 2147483648) (omega arith))
+    rw (machine-low (n - 2147483648) (omega arith))
     (record { sfits = go (n - 2147483648) z (omega arith) (ltb-true (mag z) 2147483648 small) below })
   where
     either : (t : Bool) (m k : ℕ) → m < 2147483648 → k < 2147483648 →
@@ -40,7 +38,7 @@ sum-fits n z h f below small =
 module _ (n : ℕ) (h : 2147483648 ≤ n) (f : n < 4294967296) where
   sum-is : toZ w32 (n - 2147483648) +ℤ negsuc 2147483647 ≡ signed n
   sum-is =
-      rw (low (n - 2147483648) (omega arith), le-ltb n 2147483648 h, lt-ltb (n - 2147483648) 2147483648 (omega arith))
+      rw (machine-low (n - 2147483648) (omega arith), le-ltb n 2147483648 h, lt-ltb (n - 2147483648) 2147483648 (omega arith))
       (ap negsuc (omega arith))
 
   fits : SFits w32 (signed n)

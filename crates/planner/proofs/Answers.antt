@@ -57,6 +57,7 @@ use Rattle.reason.specs.declared.Reason.{Reason as CodeReason}
 use Rattle.reason.specs.declared.Tightness.{Tightness}
 use Rattle.reason.specs.declared.Tightness.the-variants.{Tight as TooTight, Met}
 use Rattle.reason.specs.declared.Why.{Why}
+use Rattle.planner.specs.DemandMet.{not-found}
 use Rattle.planner.specs.AnswerLaws.{carried-none, plan-begins}
 use Rattle.planner.specs.Rows.{rowsAsked, bufferRow, isFound, leastRows, earlierRows, planRows}
 use Rattle.planner.specs.Told.{plannedTold, rowsOf, reasonCarried, tightnessOf, whyIn, ReasonTold, leastTold, leastCount, LeastIn}
@@ -112,10 +113,6 @@ met-none o (found (stairs dues)) e = let z : _≡_ {A = ℕ} 0 1 = cc in absurd 
 
 pub told-met : (o : Order) (f : Found Reason) (w : Why) → w ≡ whyOf o f → w .tightness ≡ Met → f ≡ nothing
 told-met o f w e h = met-none o f (sym (ap (λ (w : Why). w .tightness) e) ∙ h)
-
-not-found : (f : Found Reason) → isFound f ≡ false → f ≡ nothing
-not-found nothing e = refl
-not-found (found r) e = let z : _≡_ {A = ℕ} 0 1 = cc in absurd (omega arith)
 
 -- a table has room for sixteen classes
 pub classes-few : (o : Order) {t : Table} → Tabled lastDue o t → length (classes o) ≤ 16

@@ -1,5 +1,6 @@
 -- Demand 3 holds of the least lateness of every accepted order.
 use Prim.Native.Nat.{ℕ}
+use mathlib.Core.Bool.{false}
 use mathlib.Core.Path.{_≡_, refl, sym, ap, _∙_}
 use mathlib.Core.List.{List, [], _∷_}
 use mathlib.Core.Logic.{_↔_, _≢_, inl, inr}
@@ -38,6 +39,10 @@ tight-refused (found r) e = (r, refl)
 refused-tight : (f : Found Reason) (r : Reason) → f ≡ found r → judge (tightRow (isFound f) ∷ []) ≡ refused 10 0
 unfolding judge
 refused-tight f r e = rw e
+
+pub not-found : (f : Found Reason) → isFound f ≡ false → f ≡ nothing
+not-found nothing e = refl
+not-found (found r) e = let z : _≡_ {A = ℕ} 0 1 = cc in absurd (omega arith)
 
 module _ (o : Order) (ok : Accepted o) where
   abbrev work : Workable lastDue o

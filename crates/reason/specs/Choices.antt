@@ -12,7 +12,7 @@ use Rattle.sums.specs.Members.{All-map, All-append}
 use Rattle.profile.specs.Search.{Found, nothing, found, choices, ranked, firstSuch}
 use Rattle.sums.specs.Most.{largest}
 use Rattle.stairs.specs.Places.{profiles, ranking}
-use Rattle.stairs.specs.PlacesLaws.{Below}
+use Rattle.stairs.specs.PlacesLaws.{Below, below-mono}
 
 -- images of lists
 module _ {A B : Type 0} (g : A → B) where
@@ -75,10 +75,6 @@ ranked-places f (suc k) b =
 -- profiles by places: how many classes they have, and that their places are below the bound
 abbrev pub Sized : ℕ → ℕ → List ℕ → Type 0
 Sized k b ds = (length ds ≡ k) × Below b ds
-
-below-mono : (b c : ℕ) (ds : List ℕ) → b ≤ c → Below b ds → Below c ds
-below-mono b c [] l h = tt
-below-mono b c (d ∷ ds) l h = (omega (arith, h .0), below-mono b c ds l (h .1))
 
 behind : (k b : ℕ) (xs : List (List ℕ)) → All (Sized k (suc b)) xs →
     All (Sized (suc k) (suc b)) (map (λ (ds : List ℕ). b ∷ ds) xs)

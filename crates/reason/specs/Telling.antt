@@ -15,7 +15,7 @@ use Rattle.sums.specs.Members.{All-map, All-at, All-from}
 use Rattle.order.specs.Order.{Order, Job, jobCount, jobOf, noJob, endOf}
 use Rattle.order.specs.Sorted.{dueTimes}
 use Rattle.order.specs.Refusals.{Finding, clear, holds, firstAfter, first}
-use Rattle.order.specs.RefusalLaws.{Acceptable}
+use Rattle.order.specs.RefusalLaws.{Acceptable, first-clear}
 use Rattle.profile.specs.Search.{Found, nothing, found, isOverfull, firstOverfull, firstOverEnd, reasonBy, reasonOf}
 use Rattle.order.specs.Lead.{lead, reachAt, lastDue, Workable}
 use Rattle.order.specs.LeadLaws.{late-reach, workable}
@@ -60,17 +60,6 @@ first-holds test (x ∷ xs) k c e = at (test x) e (first-holds test xs (suc k) c
     at true e f = let q : c ≡ suc k = cc in (0, omega arith, omega arith)
     at false e f = let r = f e in (suc (r .0), omega (arith, r .1), omega (arith, r .2))
 
-first-nowhere : {A : Type 0} (test : A → Bool) (xs : List A) (k : ℕ) → firstAfter k test xs ≡ clear →
-    All (λ x. test x ≡ false) xs
-unfolding firstAfter
-first-nowhere test [] k e = tt
-first-nowhere test (x ∷ xs) k e = at (test x) refl e (first-nowhere test xs (suc k))
-  where
-    at : (b : Bool) → test x ≡ b → cond b (holds (suc k)) (firstAfter (suc k) test xs) ≡ clear →
-        (firstAfter (suc k) test xs ≡ clear → All (λ x. test x ≡ false) xs) → (test x ≡ false) × All (λ x. test x ≡ false) xs
-    at true t e f = let z : _≡_ {A = ℕ} 0 1 = cc in absurd (omega arith)
-    at false t e f = (t, f e)
-
 module _ (o : Order) (t : Table) (m : Tabled lastDue o t) (a : Acceptable o) (bound : ℤ) where
   abbrev reach : ℕ
   reach = reachAt lastDue bound
@@ -103,7 +92,7 @@ module _ (o : Order) (t : Table) (m : Tabled lastDue o t) (a : Acceptable o) (bo
     in-time =
         All-from _ (o .jobs) noJob (λ j l.
         ltb-false reach _ (sym (over-late j l)
-        ∙ All-at (λ (job : Job). over job ≡ false) (o .jobs) noJob (first-nowhere over (o .jobs) 0 c) j l))
+        ∙ All-at (λ (job : Job). over job ≡ false) (o .jobs) noJob (first-clear over (o .jobs) 0 c) j l))
 
     dues-in : (ds : List ℕ) → Below (t .q) ds → All (λ (d : ℤ). In d (dueTimes o)) (map (dueIn o t m) ds)
     dues-in [] h = tt

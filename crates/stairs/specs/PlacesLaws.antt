@@ -48,9 +48,9 @@ abbrev pub Below : ℕ → List ℕ → Type 0
 Below b [] = Unit {0}
 Below b (d ∷ ds) = (d < b) × Below b ds
 
-below-more : (b c : ℕ) (ds : List ℕ) → b ≤ c → Below b ds → Below c ds
-below-more b c [] l h = tt
-below-more b c (d ∷ ds) l h = (omega (arith, h .0), below-more b c ds l (h .1))
+pub below-mono : (b c : ℕ) (ds : List ℕ) → b ≤ c → Below b ds → Below c ds
+below-mono b c [] l h = tt
+below-mono b c (d ∷ ds) l h = (omega (arith, h .0), below-mono b c ds l (h .1))
 
 pub first-cong : (k b : ℕ) (p p' : List ℕ → Bool) → ((ds : List ℕ) → length ds ≡ k → Below b ds → p ds ≡ p' ds) →
     firstSuch p (profiles k b) ≡ firstSuch p' (profiles k b)
@@ -58,7 +58,7 @@ unfolding profiles firstSuch
 first-cong zero b p p' h = rw (h [] refl tt)
 first-cong (suc k) zero p p' h = refl
 first-cong (suc k) (suc b) p p' h =
-    let e = first-cong (suc k) b p p' (λ ds l m. h ds l (below-more b (suc b) ds (omega arith) m)) in
+    let e = first-cong (suc k) b p p' (λ ds l m. h ds l (below-mono b (suc b) ds (omega arith) m)) in
     let f = first-cong k (suc b) (λ ds. p (b ∷ ds)) (λ ds. p' (b ∷ ds)) (λ ds l m. h (b ∷ ds) (ap suc l) (omega arith, m)) in
     first-step p k b ∙ rw (e, f) (sym (first-step p' k b))
 
