@@ -9,6 +9,7 @@ use lib.Dec.{T}
 use mir.Syntax.{w32}
 use mir.Val.{toZ, ofZ, SFits, Fits}
 use mir.ValLaws.{toZ-pos, toZ-ofZ}
+use Rattle.order.specs.Machine.{machine-back}
 use Rattle.order.specs.Order.{endAt}
 use Rattle.order.specs.Refusals.{dueInRange}
 use Rattle.order.specs.Lead.{lead, dueAt, boundAt, lastDue}
@@ -56,4 +57,4 @@ module _ (n : ℕ) (h : n ≤ 640000000) where
   bound-fits = rw less-is (record { sfits = bound-small n h })
 
   pub bound-read : toZ w32 (ofZ w32 less) ≡ boundAt lastDue n
-  bound-read = rw less-is (toZ-ofZ w32 (boundAt lastDue n) (record { sfits = bound-small n h }))
+  bound-read = rw less-is (machine-back (boundAt lastDue n) (bound-small n h))

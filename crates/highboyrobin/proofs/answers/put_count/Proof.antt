@@ -1,6 +1,5 @@
 use mathlib.Core.Path.{_∙_}
-use mir.ValLaws.{toZ-ofZ}
-use mir.Syntax.{w32}
+use Rattle.order.specs.Machine.{machine-back}
 use Rattle.highboyrobin.proofs.Stored.{one-stored}
 use borrow.Author.Needs.{needs}
 use Rattle.highboyrobin.proofs.answers.put_count.Statement.{statement}
@@ -19,7 +18,7 @@ same-length : tie.Need-same-length
 same-length c = search needs
 
 returns : tie.Need-returns
-returns c = one-stored (c .before .args .answer .now) _ _ (toZ-ofZ w32 _ (record { sfits = c .count-of .ok }) ∙ c .count-of .ensures)
+returns c = one-stored (c .before .args .answer .now) _ _ (machine-back _ (c .count-of .ok) ∙ c .count-of .ensures)
     (c .before .pre .1)
 
 pub put-count-spec : {M : Type 1} → statement M

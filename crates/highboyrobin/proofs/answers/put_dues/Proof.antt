@@ -1,6 +1,5 @@
 use lib.IntN.{pos}
-use mir.ValLaws.{toZ-ofZ}
-use mir.Syntax.{w32}
+use Rattle.order.specs.Machine.{machine-back}
 use Rattle.highboyrobin.proofs.Stored.{none-stored, next-stored, all-stored, stored-length}
 use Prim.Native.Nat.{_+_, _-_, _≤_}
 use mathlib.Core.Path.{_≡_}
@@ -58,7 +57,7 @@ loop-again c =
       search needs,
       l .inv .1,
       next-stored (s .args .answer .now) (s .args .t2) _ 3 (l .i) (pos 0) _ (l .inv .2)
-          (omega (arith, l .inv .1)) (omega (arith, l .inv .0, s .good .1 .0)) (toZ-ofZ w32 _ (record { sfits = c .answer .given })),
+          (omega (arith, l .inv .1)) (omega (arith, l .inv .0, s .good .1 .0)) (machine-back _ (c .answer .given)),
     )
 
 same-length : tie.Need-same-length Inv-loop μ-loop

@@ -1,6 +1,7 @@
 use mathlib.Core.Path.{_∙_}
 use mir.ValLaws.{toZ-ofZ}
 use mir.Syntax.{w32}
+use Rattle.order.specs.Machine.{machine-back}
 use Rattle.highboyrobin.proofs.Stored.{two-stored}
 use borrow.Author.Needs.{needs}
 use Rattle.highboyrobin.proofs.answers.put_least.Statement.{statement}
@@ -24,7 +25,7 @@ same-length c = search needs
 returns : tie.Need-returns
 returns c =
     two-stored (c .before .args .answer .now) _ _ _ _ (toZ-ofZ w32 _ (c .before .fits .lateness))
-    (toZ-ofZ w32 _ (record { sfits = c .count-of .ok }) ∙ c .count-of .ensures)
+    (machine-back _ (c .count-of .ok) ∙ c .count-of .ensures)
     (c .before .pre .1)
 
 pub put-least-spec : {M : Type 1} → statement M

@@ -1,9 +1,8 @@
 use mathlib.Core.Path.{sym, ap}
 use lib.IntN.{pos}
+use Rattle.order.specs.Machine.{machine-back}
 use Rattle.order.specs.StructLaws.{job-count, processor-count, few-jobs, few-processors}
 use mathlib.Core.Path.{_∙_}
-use mir.ValLaws.{toZ-ofZ}
-use mir.Syntax.{w32}
 use lib.ListN.{length-set}
 use Rattle.highboyrobin.proofs.Stored.{three-stored}
 use borrow.Author.Needs.{needs}
@@ -48,11 +47,11 @@ returns c =
     let s = c .before .before .before .before in
     let o = s .args .order in
     three-stored (s .args .answer .now) _ _ _ _ _ _
-    (toZ-ofZ w32 _ (record { sfits = c .before .before .before .count-of .ok }) ∙ c .before .before .before .count-of .ensures
+    (machine-back _ (c .before .before .before .count-of .ok) ∙ c .before .before .before .count-of .ensures
     ∙ ap pos (sym (processor-count o)))
-    (toZ-ofZ w32 _ (record { sfits = c .before .before .count-of2 .ok }) ∙ c .before .before .count-of2 .ensures
+    (machine-back _ (c .before .before .count-of2 .ok) ∙ c .before .before .count-of2 .ensures
     ∙ ap pos (sym (job-count o)))
-    (toZ-ofZ w32 _ (record { sfits = c .count-of3 .ok }) ∙ c .count-of3 .ensures ∙ ap pos (c .before .rows-asked .ensures .0))
+    (machine-back _ (c .count-of3 .ok) ∙ c .count-of3 .ensures ∙ ap pos (c .before .rows-asked .ensures .0))
     (s .pre .1)
 
 pub put-sizes-spec : {M : Type 1} → statement M

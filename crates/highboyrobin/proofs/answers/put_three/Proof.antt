@@ -1,7 +1,6 @@
 use mathlib.Core.Path.{_∙_}
-use mir.ValLaws.{toZ-ofZ}
-use mir.Syntax.{w32}
 use lib.ListN.{length-set}
+use Rattle.order.specs.Machine.{machine-back}
 use Rattle.highboyrobin.proofs.Stored.{three-stored}
 use borrow.Author.Needs.{needs}
 use native.Mathlib.Omega.{arith}
@@ -35,9 +34,9 @@ same-length c = search needs
 returns : tie.Need-returns
 returns c =
     three-stored (c .before .before .before .args .answer .now) _ _ _ _ _ _
-    (toZ-ofZ w32 _ (record { sfits = c .before .before .count-of .ok }) ∙ c .before .before .count-of .ensures)
-    (toZ-ofZ w32 _ (record { sfits = c .before .count-of2 .ok }) ∙ c .before .count-of2 .ensures)
-    (toZ-ofZ w32 _ (record { sfits = c .count-of3 .ok }) ∙ c .count-of3 .ensures) (c .before .before .before .pre .3)
+    (machine-back _ (c .before .before .count-of .ok) ∙ c .before .before .count-of .ensures)
+    (machine-back _ (c .before .count-of2 .ok) ∙ c .before .count-of2 .ensures)
+    (machine-back _ (c .count-of3 .ok) ∙ c .count-of3 .ensures) (c .before .before .before .pre .3)
 
 pub put-three-spec : {M : Type 1} → statement M
 put-three-spec =

@@ -2,8 +2,7 @@ use Prim.Native.Nat.{_+_, _*_, _-_, _≤_}
 use mathlib.Core.Path.{_≡_, _∙_}
 use lib.IntN.{pos}
 use lib.ListN.{getD}
-use mir.ValLaws.{toZ-ofZ}
-use mir.Syntax.{w32}
+use Rattle.order.specs.Machine.{machine-back}
 use Rattle.order_file.specs.Bytes.{signed}
 use Rattle.order_file.specs.Inside.{paddedTo}
 use Rattle.order_file.specs.PaddedLaws.{padded-none, padded-more}
@@ -56,7 +55,7 @@ loop-again c =
     let due = c .to-signed in (
       search needs,
       padded-more 48 _ (pos 0) _ _ _ (omega arith) (c .before .before .before .loop .inv .1)
-          (toZ-ofZ w32 _ (record { sfits = due .ok }) ∙ due .ensures),
+          (machine-back _ (due .ok) ∙ due .ensures),
     )
 
 returns : tie.Need-returns Inv-loop μ-loop

@@ -3,8 +3,7 @@ use mathlib.Core.Path.{ap, sym}
 use native.Mathlib.Omega.{arith}
 use borrow.Author.Needs.{needs}
 use lib.ListN.{take}
-use mir.Syntax.{w32}
-use mir.ValLaws.{toZ-ofZ}
+use Rattle.order.specs.Machine.{machine-back}
 use Rattle.lines.specs.Text.{signedNumber, Put}
 use Rattle.lines.specs.LineLaws.{numbers-taken, numbers-none, numbers-more}
 use Rattle.lines.specs.Lines.{signedNumbers}
@@ -48,7 +47,7 @@ loop-again c =
     let l = c .before .before .before .before .before .before .loop in
     let q = c .before .before .put-signed .ensures in
     let z = c .before .before .before .put-signed-arg2 .given in
-    let more = put-as (ap signedNumber (toZ-ofZ w32 _ (record { sfits = z }))) (q .0) in
+    let more = put-as (ap signedNumber (machine-back _ z)) (q .0) in
     let size = s .good in
     (omega arith, omega arith, put-as (numbers-more (s .args .t3) (l .i) (omega arith)) (put-both (l .inv .2) more))
 

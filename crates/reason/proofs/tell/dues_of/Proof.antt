@@ -4,8 +4,7 @@ use native.Mathlib.Omega.{arith}
 use borrow.Author.Needs.{needs}
 use lib.IntN.{pos}
 use lib.ListN.{length, getD}
-use mir.Syntax.{w32}
-use mir.ValLaws.{toZ-ofZ}
+use Rattle.order.specs.Machine.{machine-back}
 use Rattle.order.specs.LeadLaws.{due-small}
 use Rattle.reason.specs.Asked.{dueOr}
 use Rattle.reason.proofs.Dues.{dues-none, dues-more}
@@ -58,7 +57,7 @@ loop-again c =
     let l = c .before .before .loop in
     let small : getD (s .args .t1) (getD (s .args .t2) (l .i) 0) 0 ≤ 2000000 =
     s .pre .2 _ (s .pre .1 (l .i) (omega arith)) in
-    let e = toZ-ofZ w32 (c .due-of .result) (record { sfits = rw (c .due-of .ensures) (due-small _ small) }) ∙ c .due-of .ensures in
+    let e = machine-back (c .due-of .result) (rw (c .due-of .ensures) (due-small _ small)) ∙ c .due-of .ensures in
     (search needs, search needs, dues-more (s .args .t1) (s .args .t2) (l .r) (l .i) _ (omega arith) e (l .inv .2))
 
 returns : tie.Need-returns Inv-loop μ-loop

@@ -1,7 +1,6 @@
 use mathlib.Core.Path.{ap, _∙_}
 use borrow.Author.Needs.{needs}
-use mir.Syntax.{w32}
-use mir.ValLaws.{toZ-ofZ}
+use Rattle.order.specs.Machine.{machine-back}
 use Rattle.order.specs.Lead.{boundAt, lastDue}
 use Rattle.order.specs.LeadLaws.{bound-small}
 use Rattle.reason.proofs.tell.least_in.Statement.{statement}
@@ -15,8 +14,8 @@ bound-of-requires c κs = c .least-reach .ensures .1
 
 returns : tie.Need-returns
 returns c =
-    toZ-ofZ w32 (c .bound-of .result)
-    (record { sfits = rw (c .bound-of .ensures) (bound-small _ (c .before .least-reach .ensures .1)) })
+    machine-back (c .bound-of .result)
+    (rw (c .bound-of .ensures) (bound-small _ (c .before .least-reach .ensures .1)))
     ∙ (c .bound-of .ensures ∙ ap (boundAt lastDue) (c .before .least-reach .ensures .0))
 
 pub least-in-spec : {M : Type 1} → statement M

@@ -4,8 +4,7 @@ use native.Mathlib.Omega.{arith}
 use borrow.Author.Needs.{needs}
 use lib.IntN.{pos}
 use lib.ListN.{length, getD}
-use mir.Syntax.{w32}
-use mir.ValLaws.{toZ-ofZ}
+use Rattle.order.specs.Machine.{machine-back}
 use Rattle.order.specs.Refusals.{dueInRange}
 use Rattle.order.specs.Lead.{lead, lastDue}
 use Rattle.sums.specs.Arrays.{RowOf, fill-at}
@@ -37,7 +36,7 @@ lead-of-requires : tie.Need-lead-of-requires Inv-loop μ-loop
 lead-of-requires c κs =
     let s = c .before .before .before in
     let l = c .before .before .loop in
-    ap dueInRange (toZ-ofZ w32 (getD (s .args .t1 .dues) (l .j) (pos 0)) (record { sfits = c .lead-of-arg .given }))
+    ap dueInRange (machine-back (getD (s .args .t1 .dues) (l .j) (pos 0)) (c .lead-of-arg .given))
     ∙ due-in-range-at (s .args .t1) (s .pre) (l .j) (omega arith)
 
 mul-r : tie.Need-mul-r Inv-loop μ-loop
@@ -57,8 +56,8 @@ loop-again c =
     let s = c .before .before .before .before in
     let l = c .before .before .before .loop in
     let e : c .lead-of .result ≡ lead lastDue (getD (s .args .t1 .dues) (l .j) (pos 0))
-    = c .lead-of .ensures ∙ ap (lead lastDue) (toZ-ofZ w32 (getD (s .args .t1 .dues) (l .j) (pos 0))
-    (record { sfits = c .before .lead-of-arg .given })) in (
+    = c .lead-of .ensures ∙ ap (lead lastDue) (machine-back (getD (s .args .t1 .dues) (l .j) (pos 0))
+    (c .before .lead-of-arg .given)) in (
       search needs,
       search needs,
       search needs,
