@@ -23,12 +23,6 @@ set-pad zero xs d h = absurd (omega arith)
 set-pad (suc n) [] d h = refl
 set-pad (suc n) (x ∷ xs) d h = ap (λ (l : List ℕ). x ∷ l) (set-pad n xs d (omega arith))
 
-pub length-pad : (n : ℕ) (xs : List ℕ) → length (pad n xs) ≡ n
-unfolding pad
-length-pad zero xs = refl
-length-pad (suc n) [] = ap suc (length-pad n [])
-length-pad (suc n) (x ∷ xs) = ap suc (length-pad n xs)
-
 pub getD-pad : (n d : ℕ) (xs : List ℕ) → d < length xs → length xs ≤ n → getD (pad n xs) d 0 ≡ getD xs d 0
 unfolding pad
 getD-pad n d [] h l = absurd (omega arith)

@@ -4,7 +4,7 @@ use mathlib.Core.Path.{_≡_, refl, sym, ap, _∙_}
 use mathlib.Core.List.{List, [], _∷_}
 use mathlib.Core.Logic.{inl, inr}
 use native.Mathlib.Omega.{arith}
-use native.Mathlib.Decide.{decLt, ℕ-discrete}
+use native.Mathlib.Decide.{ℕ-discrete}
 use native.Mathlib.Nat.{div-lt-iff-lt-mul}
 use lib.ListN.{length, getD}
 use Rattle.sums.specs.Lists.{All, In}
@@ -59,16 +59,6 @@ unfolding most
 most-ge zero k f h = absurd (omega arith)
 most-ge (suc n) k f h =
     elim (ℕ-discrete k n) [ yes e ↦ omega (arith, ap f e) | no e ↦ omega (arith, most-ge n k f (omega arith)) ]
-
--- one of them is the largest
-pub most-at : (n : ℕ) (g : ℕ → ℕ) → 0 < most n g → (j : ℕ) × (j < n) × (g j ≡ most n g)
-unfolding most
-most-at zero g h = absurd (omega arith)
-most-at (suc n) g h =
-    elim (decLt (most n g) (g n)) [
-      | yes l ↦ (n, omega arith, omega arith)
-      | no l ↦ let x = most-at n g (omega arith) in (x .0, omega (arith, x .1), omega (arith, x .2))
-    ]
 
 most-first : (n : ℕ) (f : ℕ → ℕ) → most (suc n) f ≡ max (f 0) (most n (λ i. f (suc i)))
 unfolding most
