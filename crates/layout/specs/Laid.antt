@@ -8,7 +8,7 @@ use lib.ListN.{length, getD, take, drop}
 use Rattle.plan.specs.Plan.{Row}
 use Rattle.plan.specs.Check.{numbersOf}
 use Rattle.wrap.specs.Layout.{Share, fill, sharesOf}
-pub use Rattle.wrap.specs.Shares.{share}
+use Rattle.wrap.specs.Shares.{share}
 use Rattle.layout.specs.declared.Place.{Place}
 
 -- a buffer with these rows from row r on, and all its other numbers as they were

@@ -57,7 +57,8 @@ module _ (due bound : ℤ) (f : SFits w32 due) (g : SFits w32 bound) (d : dueInR
   end-negative h = sym (cut-negative (endAt bound due) (rw back at h))
 
   module _ (h : ltZ (toZ w32 (ofZ w32 read)) (pos 0) ≡ false) where
-    other : T (nonNeg (endAt bound due)) × (natAbs (endAt bound due) ≡ cut (endAt bound due)) × (natAbs (endAt bound due) ≤ mag (endAt bound due))
+    other : T (nonNeg (endAt bound due)) × (natAbs (endAt bound due) ≡ cut (endAt bound due))
+        × (natAbs (endAt bound due) ≤ mag (endAt bound due))
     other = cut-other (endAt bound due) (rw back at h)
 
     pub end-casts : T (nonNeg (toZ w32 (ofZ w32 read))) × Fits w32 (natAbs (toZ w32 (ofZ w32 read)))

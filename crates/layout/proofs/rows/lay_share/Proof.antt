@@ -1,5 +1,5 @@
 -- The loop's invariant: what is left of the share goes on from the place that the loop has come to.
-use Prim.Native.Nat.{_+_, _-_, _≤_}
+use Prim.Native.Nat.{_+_, _-_}
 use mathlib.Core.List.{[]}
 use mathlib.Core.Path.{_≡_}
 use native.Mathlib.Omega.{arith}
