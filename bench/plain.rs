@@ -126,7 +126,7 @@ fn make_plan(order: &Order, setting: &Setting, bound: i32, rows: &mut [u32]) -> 
     let mut amounts = Amounts::start(order, setting, bound, ends);
     let filled = amounts.fill(&mut ());
     debug_assert!(filled);
-    wrap::lay(order, ends, &amounts, rows)
+    wrap::lay(order, setting, ends, &amounts, rows)
 }
 
 fn try_reason(file: &[u8], bound: i32, answer: &mut [i32]) -> Result<(), Refusal> {

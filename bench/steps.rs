@@ -70,7 +70,7 @@ fn steps(file: &[u8]) -> (Steps, [usize; 3]) {
     let mut steps = Steps::default();
     assert!(amounts.fill(&mut steps), "an order is not filled");
     let mut rows = vec![0; 4 * highboyrobin::MOST_ROWS];
-    let count = wrap::lay(&order, ends, &amounts, &mut rows);
+    let count = wrap::lay(&order, &setting, ends, &amounts, &mut rows);
     compare(file, bound, &rows[..4 * count]);
     let sizes = [order.job_count, setting.due_count, order.processor_count];
     (steps, sizes)

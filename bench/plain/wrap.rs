@@ -3,7 +3,8 @@
 //! from its beginning.
 
 use super::amounts::Amounts;
-use super::order::{Order, MOST_JOBS, MOST_PROCESSORS};
+use super::order::Order;
+use super::setting::Setting;
 
 /// Where the next share goes on: the place in the processor order, the minute, the rows written so
 /// far.
@@ -13,32 +14,15 @@ struct Place {
     written: usize,
 }
 
-/// How many keys stand before the one at a place: the larger ones, and of equal ones the earlier.
-fn rank(keys: impl Iterator<Item = u32>, key: u32, place: usize) -> usize {
-    keys.enumerate()
-        .filter(|&(k, other)| key < other || (key == other && k < place))
-        .count()
-}
-
-fn processor_order(order: &Order, sorted: &mut [usize; MOST_PROCESSORS]) {
-    for (i, &memory) in order.memories().iter().enumerate() {
-        sorted[rank(order.memories().iter().copied(), memory, i)] = i;
-    }
-}
-
-fn job_order(order: &Order, sorted: &mut [usize; MOST_JOBS]) {
-    for (j, job) in order.jobs().iter().enumerate() {
-        sorted[rank(order.jobs().iter().map(|job| job.need), job.need, j)] = j;
-    }
-}
-
 /// The rows of all stretches, from row 0 on; answers how many there are.
-pub fn lay(order: &Order, ends: &[u32], amounts: &Amounts, rows: &mut [u32]) -> usize {
-    let mut processors = [0; MOST_PROCESSORS];
-    let mut jobs = [0; MOST_JOBS];
-    processor_order(order, &mut processors);
-    job_order(order, &mut jobs);
-    let processors = &processors[..order.processor_count];
+pub fn lay(
+    order: &Order,
+    setting: &Setting,
+    ends: &[u32],
+    amounts: &Amounts,
+    rows: &mut [u32],
+) -> usize {
+    let processors = &setting.by_memory[..order.processor_count];
     let mut written = 0;
     let mut start = 0;
     for (s, &end) in ends.iter().enumerate() {
@@ -47,7 +31,7 @@ pub fn lay(order: &Order, ends: &[u32], amounts: &Amounts, rows: &mut [u32]) -> 
             minute: start,
             written,
         };
-        for &j in &jobs[..order.job_count] {
+        for &j in &setting.by_need[..order.job_count] {
             lay_share(
                 rows,
                 processors,
