@@ -50,8 +50,8 @@ use Rattle.planner.specs.declared.Planned.{Planned}
 use Rattle.planner.specs.declared.Planned.the-variants.{Rows, Tight, Refused}
 use Rattle.lines.specs.Lines.{refusedLine, planLines, boundLine}
 use Rattle.lines.specs.LineLaws.{rows-first}
-use Rattle.lines.specs.TextLaws.{put-as}
-use Rattle.lines.specs.SignedLaws.{signed-fits}
+use Rattle.text.specs.TextLaws.{put-as}
+use Rattle.text.specs.SignedLaws.{signed-fits}
 use Rattle.lines.specs.Programs.{
   rowsLent,
   isRefused,

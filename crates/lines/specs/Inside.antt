@@ -14,7 +14,7 @@ use Rattle.planner.specs.Rows.{leastRows, planRows}
 use Rattle.planner.specs.Told.{reasonCarried}
 use Rattle.planner.specs.declared.Planned.{Planned}
 use Rattle.planner.specs.declared.Planned.the-variants.{Rows, Tight, Refused}
-use Rattle.lines.specs.Text.{Put}
+use Rattle.text.specs.Text.{Put}
 use Rattle.lines.specs.Lines.{refusedLine, meetsLine, tightLine, boundLine}
 use Rattle.lines.specs.Programs.{rowsLent, isRefused, PlanOrderText}
 use Rattle.lines.specs.declared.Output.{Output}

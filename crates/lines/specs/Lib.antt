@@ -1,6 +1,3 @@
-pub mod Text
-pub mod TextLaws
-pub mod SignedLaws
 pub mod Lines
 pub mod LineLaws
 pub mod Programs

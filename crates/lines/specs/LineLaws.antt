@@ -12,7 +12,7 @@ use Rattle.sums.specs.Places.{tabulate-more, tabulate-cong}
 use Rattle.plan.specs.Plan.{Row}
 use Rattle.plan.specs.Check.{numbersOf, rowAt}
 use Rattle.plan.specs.NumberLaws.{rows-of-numbers, length-numbers}
-use Rattle.lines.specs.Text.{signedNumber}
+use Rattle.text.specs.Text.{signedNumber}
 use Rattle.lines.specs.Lines.{pieceLine, pieceLines, signedNumbers}
 
 pieces-snoc : (rows : List Row) (r : Row) → pieceLines (rows ++ (r ∷ [])) ≡ pieceLines rows ++ pieceLine r

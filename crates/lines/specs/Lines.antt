@@ -7,7 +7,7 @@ use Rattle.order.specs.Refusals.{Verdict, accepted, refused}
 use Rattle.plan.specs.Plan.{Row}
 use Rattle.profile.specs.Reason.{Reason, overEnd, stairs}
 use Rattle.profile.specs.Search.{Found, nothing, found}
-use Rattle.lines.specs.Text.{ascii, lineEnd, number, signedNumber}
+use Rattle.text.specs.Text.{ascii, lineEnd, number, signedNumber}
 
 -- "A refusal prints `refused` with number and job"
 unfoldable pub refusedLine : ℕ → ℕ → List ℕ

@@ -1,17 +1,16 @@
 -- What plan-order writes is determined by the file.
-use Prim.Native.Nat.{ℕ, _+_}
+use Prim.Native.Nat.{ℕ}
 use mathlib.Core.Path.{_≡_, sym, ap, _∙_}
 use mathlib.Core.Bool.{Bool}
 use mathlib.Core.List.{List}
 use native.Mathlib.Omega.{arith}
-use lib.ListN.{length, take, drop}
-use lib.Seq.{take-at}
+use lib.ListN.{length, take}
 use Rattle.order.specs.Order.{Order}
 use Rattle.order.specs.Refusals.{Verdict, accepted, refused, judge}
 use Rattle.order_file.specs.File.{orderIn}
 use Rattle.profile.specs.Least.{leastLateness}
 use Rattle.planner.specs.WrittenOne.{plan-one}
-use Rattle.lines.specs.Text.{Put}
+use Rattle.text.specs.TextLaws.{put-first}
 use Rattle.lines.specs.Lines.{planLines}
 use Rattle.lines.specs.Programs.{planOrderRows, PlanOrderText, PlanOrderOutput}
 use Rattle.lines.specs.declared.Output.{Output}
@@ -21,10 +20,6 @@ text-one accepted o text text′ T U =
     T .text-is ∙ ap (planLines (leastLateness o)) (plan-one o (leastLateness o) (T .plan) (U .plan) (T .plan-of) (U .plan-of))
     ∙ sym (U .text-is)
 text-one (refused number carried) o text text′ T U = T ∙ sym U
-
-put-first : {buffer text after : List ℕ} {next : ℕ} → Put buffer 0 text after next → take next after ≡ text
-put-first {buffer} {text} {next = next} p =
-    ap (take next) (p .after-is) ∙ take-at text (drop (0 + length text) buffer) next (omega (arith, p .next-is))
 
 -- the bytes written and the answer, whatever buffer is lent
 pub plan-order-one : (file buffer after buffer′ after′ : List ℕ) (r r′ : Output) →

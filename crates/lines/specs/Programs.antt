@@ -16,7 +16,7 @@ use Rattle.profile.specs.Search.{reasonOf}
 use Rattle.planner.specs.Rows.{leastRows, planRows}
 use Rattle.planner.specs.Told.{reasonCarried}
 use Rattle.planner.specs.Written.{PlanOf}
-use Rattle.lines.specs.Text.{Put}
+use Rattle.text.specs.Text.{Put}
 use Rattle.lines.specs.Lines.{refusedLine, planLines, boundLine}
 use Rattle.lines.specs.declared.Output.{Output}
 

@@ -1,19 +1,19 @@
 // The line of a refusal and of an answer at a bound. All serve this crate and those above, and have a `requires`.
-use super::put::put_bytes;
-use super::put::put_number;
-use super::put::put_signed;
 use order::Refusal;
 use order::told::carried_of;
 use order::told::number_of;
 use planner::PlanAnswer;
 use planner::Planned;
 use reason::Reason;
+use text::put::put_bytes;
+use text::put::put_number;
+use text::put::put_signed;
 ghost use mathlib.Core.Path.{_≡_};
 ghost use Prim.Native.Nat.{_+_, _≤_, min};
 ghost use lib.ListN.{length, take};
 ghost use Rattle.profile.specs.Reason.{overEnd, stairs};
 ghost use Rattle.reason.specs.Told.{reasonTold};
-ghost use Rattle.lines.specs.Text.{Put};
+ghost use Rattle.text.specs.Text.{Put};
 ghost use Rattle.lines.specs.Lines.{signedNumbers, tightLine};
 ghost use Rattle.lines.specs.Inside.{refusalLine, plannedLine};
 

@@ -2,7 +2,6 @@
 pub mod answers; // the lines of answers
 pub mod programs; // what each program writes for the bytes that it reads
 pub mod plans; // the lines of a plan
-pub mod put; // text put into a buffer
 
 // The length of what is to be written, and whether it says `refused` or `tight`.
 pub struct Output {

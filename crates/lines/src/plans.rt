@@ -1,12 +1,12 @@
 // The lines of a plan: the least lateness, a line for each row, their count. All serve this crate and have a `requires`.
-use super::put::put_bytes;
-use super::put::put_number;
-use super::put::put_signed;
+use text::put::put_bytes;
+use text::put::put_number;
+use text::put::put_signed;
 ghost use Prim.Native.Nat.{_+_, _*_, _≤_};
 ghost use lib.ListN.{length};
 ghost use Rattle.sums.specs.Lists.{tabulate};
 ghost use Rattle.plan.specs.Check.{rowAt};
-ghost use Rattle.lines.specs.Text.{Put};
+ghost use Rattle.text.specs.Text.{Put};
 ghost use Rattle.lines.specs.Lines.{leastLine, pieceLine, pieceLines, endLine, planLines};
 
 fn put_least(out: &mut [u8], at: usize, lateness: i32) -> usize

@@ -4,10 +4,10 @@ use native.Mathlib.Omega.{arith}
 use borrow.Author.Needs.{needs}
 use lib.ListN.{take}
 use Rattle.order.specs.Machine.{machine-back}
-use Rattle.lines.specs.Text.{signedNumber, Put}
+use Rattle.text.specs.Text.{signedNumber, Put}
 use Rattle.lines.specs.LineLaws.{numbers-taken, numbers-none, numbers-more}
 use Rattle.lines.specs.Lines.{signedNumbers}
-use Rattle.lines.specs.TextLaws.{put-none, put-as, put-both}
+use Rattle.text.specs.TextLaws.{put-none, put-as, put-both}
 use Rattle.lines.proofs.answers.put_dues.Statement.{statement}
 use Rattle.lines.proofs.answers.put_dues.Tie as tie
 

@@ -1,7 +1,7 @@
 use native.Mathlib.Omega.{arith}
 use borrow.Author.Needs.{needs}
 use Rattle.lines.specs.Lines.{tightLine}
-use Rattle.lines.specs.TextLaws.{put-both}
+use Rattle.text.specs.TextLaws.{put-both}
 use Rattle.lines.proofs.answers.put_job.Statement.{statement}
 use Rattle.lines.proofs.answers.put_job.Tie as tie
 

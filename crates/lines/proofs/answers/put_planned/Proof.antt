@@ -4,7 +4,7 @@ use borrow.Author.Needs.{needs}
 use Rattle.planner.specs.declared.Planned.{Planned}
 use Rattle.lines.specs.Lines.{meetsLine}
 use Rattle.lines.specs.Inside.{plannedLine}
-use Rattle.lines.specs.TextLaws.{put-as}
+use Rattle.text.specs.TextLaws.{put-as}
 use Rattle.lines.proofs.answers.put_planned.Statement.{statement}
 use Rattle.lines.proofs.answers.put_planned.Tie as tie
 

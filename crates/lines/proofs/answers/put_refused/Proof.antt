@@ -1,9 +1,9 @@
 use mathlib.Core.Path.{ap}
 use native.Mathlib.Omega.{arith}
 use borrow.Author.Needs.{needs}
-use Rattle.lines.specs.Text.{number}
+use Rattle.text.specs.Text.{number}
 use Rattle.lines.specs.Lines.{refusedLine}
-use Rattle.lines.specs.TextLaws.{put-both, put-as}
+use Rattle.text.specs.TextLaws.{put-both, put-as}
 use Rattle.lines.proofs.answers.put_refused.Statement.{statement}
 use Rattle.lines.proofs.answers.put_refused.Tie as tie
 

@@ -4,7 +4,7 @@ use borrow.Author.Needs.{needs}
 use Rattle.reason.specs.Told.{reasonTold}
 use Rattle.reason.specs.declared.Reason.{Reason}
 use Rattle.lines.specs.Lines.{tightLine}
-use Rattle.lines.specs.TextLaws.{put-as}
+use Rattle.text.specs.TextLaws.{put-as}
 use Rattle.lines.proofs.answers.put_tight.Statement.{statement}
 use Rattle.lines.proofs.answers.put_tight.Tie as tie
 

@@ -3,9 +3,9 @@ use native.Mathlib.Omega.{arith}
 use borrow.Author.Needs.{needs}
 use mir.Syntax.{w32}
 use mir.ValLaws.{toZ-ofZ}
-use Rattle.lines.specs.Text.{signedNumber}
+use Rattle.text.specs.Text.{signedNumber}
 use Rattle.lines.specs.Lines.{leastLine}
-use Rattle.lines.specs.TextLaws.{put-both, put-as}
+use Rattle.text.specs.TextLaws.{put-both, put-as}
 use Rattle.lines.proofs.plans.put_least.Statement.{statement}
 use Rattle.lines.proofs.plans.put_least.Tie as tie
 

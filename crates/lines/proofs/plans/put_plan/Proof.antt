@@ -6,7 +6,7 @@ use mir.ValLaws.{toZ-ofZ}
 use Rattle.sums.specs.Places.{length-tabulate}
 use Rattle.plan.specs.Check.{rowAt}
 use Rattle.lines.specs.Lines.{leastLine, endLine, planLines}
-use Rattle.lines.specs.TextLaws.{put-both, put-as}
+use Rattle.text.specs.TextLaws.{put-both, put-as}
 use Rattle.lines.proofs.plans.put_plan.Statement.{statement}
 use Rattle.lines.proofs.plans.put_plan.Tie as tie
 

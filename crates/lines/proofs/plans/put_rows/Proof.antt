@@ -4,10 +4,10 @@ use native.Mathlib.Omega.{arith}
 use borrow.Author.Needs.{needs}
 use Rattle.sums.specs.Lists.{tabulate}
 use Rattle.plan.specs.Check.{rowAt}
-use Rattle.lines.specs.Text.{Put}
+use Rattle.text.specs.Text.{Put}
 use Rattle.lines.specs.Lines.{pieceLines}
 use Rattle.lines.specs.LineLaws.{pieces-none, pieces-more}
-use Rattle.lines.specs.TextLaws.{put-none, put-as, put-both}
+use Rattle.text.specs.TextLaws.{put-none, put-as, put-both}
 use Rattle.lines.proofs.plans.put_rows.Statement.{statement}
 use Rattle.lines.proofs.plans.put_rows.Tie as tie
 

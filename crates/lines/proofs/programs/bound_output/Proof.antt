@@ -3,7 +3,7 @@ use borrow.Author.Needs.{needs}
 use mir.Syntax.{w32}
 use mir.ValLaws.{toZ-ofZ}
 use Rattle.order.specs.Table.{orderOf}
-use Rattle.lines.specs.TextLaws.{put-as}
+use Rattle.text.specs.TextLaws.{put-as}
 use Rattle.lines.proofs.Told.{blank, blank-size, planned-line, planned-refused-is, bound-moved}
 use Rattle.lines.proofs.programs.bound_output.Statement.{statement}
 use Rattle.lines.proofs.programs.bound_output.Tie as tie

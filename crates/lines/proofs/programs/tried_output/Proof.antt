@@ -7,7 +7,7 @@ use Rattle.order_file.specs.ReaderLaws.{order-is, file-refused, file-read}
 use Rattle.planner.specs.AnswerLaws.{plan-begins}
 use Rattle.planner.specs.Rows.{planRows}
 use Rattle.lines.specs.Programs.{tryBoundRows, boundIn}
-use Rattle.lines.specs.TextLaws.{put-as}
+use Rattle.text.specs.TextLaws.{put-as}
 use Rattle.lines.proofs.Told.{refused-true, read-part, bound-read, tried-short, tried-refused, tried-moved}
 use Rattle.lines.proofs.programs.tried_output.Statement.{statement}
 use Rattle.lines.proofs.programs.tried_output.Tie as tie

@@ -5,10 +5,10 @@ use borrow.Author.Needs.{needs}
 use mir.Syntax.{w32}
 use mir.ValLaws.{toZ-ofZ}
 use Rattle.order_file.specs.Bytes.{pattern}
-use Rattle.lines.specs.TextLaws.{decimal-short, put-both, put-as}
-use Rattle.lines.specs.SignedLaws.{signed-positive, signed-negative}
-use Rattle.lines.proofs.put.put_signed.Statement.{statement}
-use Rattle.lines.proofs.put.put_signed.Tie as tie
+use Rattle.text.specs.TextLaws.{decimal-short, put-both, put-as}
+use Rattle.text.specs.SignedLaws.{signed-positive, signed-negative}
+use Rattle.text.proofs.put.put_signed.Statement.{statement}
+use Rattle.text.proofs.put.put_signed.Tie as tie
 
 to-pattern-requires : tie.Need-to-pattern-requires
 to-pattern-requires c κs = search needs

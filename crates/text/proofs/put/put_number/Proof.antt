@@ -1,8 +1,8 @@
 use native.Mathlib.Omega.{arith}
 use borrow.Author.Needs.{needs}
-use Rattle.lines.specs.TextLaws.{decimal-short, put-both}
-use Rattle.lines.proofs.put.put_number.Statement.{statement}
-use Rattle.lines.proofs.put.put_number.Tie as tie
+use Rattle.text.specs.TextLaws.{decimal-short, put-both}
+use Rattle.text.proofs.put.put_number.Statement.{statement}
+use Rattle.text.proofs.put.put_number.Tie as tie
 
 slice-aggregate-put-bytes : tie.Need-slice-aggregate-put-bytes
 slice-aggregate-put-bytes c = search needs

@@ -3,10 +3,10 @@ use native.Mathlib.Omega.{arith}
 use borrow.Author.Needs.{needs}
 use lib.ListN.{length, take}
 use lib.Seq.{take-all}
-use Rattle.lines.specs.Text.{Put}
-use Rattle.lines.specs.TextLaws.{put-none, put-at, put-as, put-more}
-use Rattle.lines.proofs.put.put_bytes.Statement.{statement}
-use Rattle.lines.proofs.put.put_bytes.Tie as tie
+use Rattle.text.specs.Text.{Put}
+use Rattle.text.specs.TextLaws.{put-none, put-at, put-as, put-more}
+use Rattle.text.proofs.put.put_bytes.Statement.{statement}
+use Rattle.text.proofs.put.put_bytes.Tie as tie
 
 abbrev Inv-loop : tie.InvT-loop
 Inv-loop out₀ at bytes i₀ out i = (i ≤ length bytes) × Put out₀ at (take i bytes) out (at + i)

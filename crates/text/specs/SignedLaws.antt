@@ -9,7 +9,7 @@ use lib.IntN.{ℤ, pos, negsuc}
 use mir.Syntax.{w32}
 use mir.Val.{SFits}
 use Rattle.order_file.specs.Bytes.{pattern, signed}
-use Rattle.lines.specs.Text.{ascii, decimal, signedDecimal, number, signedNumber}
+use Rattle.text.specs.Text.{ascii, decimal, signedDecimal, number, signedNumber}
 
 pub signed-positive : (z : ℤ) → SFits w32 z → (n : ℕ) → n ≡ pattern z → n < 2147483648 → number n ≡ signedNumber z
 unfolding signedDecimal

@@ -1,8 +1,8 @@
 use native.Mathlib.Omega.{arith}
 use borrow.Author.Needs.{needs}
-use Rattle.lines.specs.TextLaws.{put-one}
-use Rattle.lines.proofs.put.put_digit.Statement.{statement}
-use Rattle.lines.proofs.put.put_digit.Tie as tie
+use Rattle.text.specs.TextLaws.{put-one}
+use Rattle.text.proofs.put.put_digit.Statement.{statement}
+use Rattle.text.proofs.put.put_digit.Tie as tie
 
 cast-out : tie.Need-cast-out
 cast-out c = search needs

@@ -7,7 +7,7 @@ use native.Mathlib.Decide.{decLt}
 use borrow.Author.Tests.{lt-ltb, le-ltb}
 use lib.ListN.{length, getD, take, drop, set, length-append, length-set, take-append-drop}
 use lib.Seq.{drop-drop, drop-append-add, length-take-le, take-at, take-suc, set-split}
-use Rattle.lines.specs.Text.{digitsWithin, decimal, Put}
+use Rattle.text.specs.Text.{digitsWithin, decimal, Put}
 
 -- enough is enough
 digits-same : (a b n : ℕ) → n < a → n < b → digitsWithin a n ≡ digitsWithin b n
@@ -103,3 +103,8 @@ put-more {s} {at} {t} bytes i h room p =
     let k : length (take i bytes) ≡ i = length-take-le i bytes (omega arith) in
     let inside : at + i < length t = omega (arith, p .same-length) in
     rw n (put-as (sym (take-suc bytes i 0 h)) (put-at (omega arith) (put-both p (put-one t (at + i) (getD bytes i 0) inside))))
+
+-- text put at the beginning stands there
+pub put-first : {buffer text after : List ℕ} {next : ℕ} → Put buffer 0 text after next → take next after ≡ text
+put-first {buffer} {text} {next = next} p =
+    ap (take next) (p .after-is) ∙ take-at text (drop (0 + length text) buffer) next (omega (arith, p .next-is))

@@ -5,13 +5,13 @@ use borrow.Author.Needs.{needs}
 use borrow.Fn.Kinds.{In}
 use borrow.Fn.PlainCycle.{Measures, is, falls, and}
 use lib.ListN.{length}
-use Rattle.lines.specs.TextLaws.{decimal-digit, decimal-more, decimal-longer, put-both, put-as}
-use Rattle.lines.proofs.put.+put_decimal.{statement}
-use Rattle.lines.proofs.put.+put_decimal.Tie.{close}
-use Rattle.lines.proofs.put.put_decimal.Reads as put-decimal
-use Rattle.lines.proofs.put.put_decimal.Kinds as put-decimal-kinds
-use Rattle.lines.proofs.put.+put_decimal.Lts-put_decimal as put-decimal-lts
-use Rattle.lines.proofs.put.put_digit.Reads as put-digit-reads
+use Rattle.text.specs.TextLaws.{decimal-digit, decimal-more, decimal-longer, put-both, put-as}
+use Rattle.text.proofs.put.+put_decimal.{statement}
+use Rattle.text.proofs.put.+put_decimal.Tie.{close}
+use Rattle.text.proofs.put.put_decimal.Reads as put-decimal
+use Rattle.text.proofs.put.put_decimal.Kinds as put-decimal-kinds
+use Rattle.text.proofs.put.+put_decimal.Lts-put_decimal as put-decimal-lts
+use Rattle.text.proofs.put.put_digit.Reads as put-digit-reads
 
 abbrev μ-put-decimal : Measures 1 put-decimal-kinds.ps ℕ
 μ-put-decimal κs a = a .1 .1 .0

@@ -4,7 +4,7 @@ use order_file::bytes::to_pattern;
 ghost use mathlib.Core.List.{[], _∷_};
 ghost use Prim.Native.Nat.{_+_, _<_, _≤_};
 ghost use lib.ListN.{length};
-ghost use Rattle.lines.specs.Text.{decimal, number, signedNumber, Put};
+ghost use Rattle.text.specs.Text.{decimal, number, signedNumber, Put};
 
 // These bytes.
 pub fn put_bytes(out: &mut [u8], at: usize, bytes: &[u8]) -> usize
