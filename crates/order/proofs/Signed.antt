@@ -50,19 +50,28 @@ module _ (due bound : ℤ) (f : SFits w32 due) (g : SFits w32 bound) (d : dueInR
   pub end-fits : SFits w32 read
   end-fits = rw read-is fits-end
 
-  back : toZ w32 (ofZ w32 read) ≡ endAt bound due
-  back = rw read-is (toZ-ofZ w32 (endAt bound due) fits-end)
+  pub end-back : toZ w32 (ofZ w32 read) ≡ endAt bound due
+  end-back = rw read-is (toZ-ofZ w32 (endAt bound due) fits-end)
 
-  pub end-negative : ltZ (toZ w32 (ofZ w32 read)) (pos 0) ≡ true → 0 ≡ cut (endAt bound due)
-  end-negative h = sym (cut-negative (endAt bound due) (rw back at h))
+  -- what is handed on as the machine reads it back
+  pub handed-on : (dueInRange (toZ w32 (ofZ w32 due)) ≡ true) × (boundInRange (toZ w32 (ofZ w32 bound)) ≡ true)
+  handed-on = (rw (toZ-ofZ w32 due f) d, rw (toZ-ofZ w32 bound g) b)
 
-  module _ (h : ltZ (toZ w32 (ofZ w32 read)) (pos 0) ≡ false) where
-    other : T (nonNeg (endAt bound due)) × (natAbs (endAt bound due) ≡ cut (endAt bound due))
-        × (natAbs (endAt bound due) ≤ mag (endAt bound due))
-    other = cut-other (endAt bound due) (rw back at h)
+  -- the same of an end that was answered
+  module _ (end : ℤ) (e : end ≡ endAt (toZ w32 (ofZ w32 bound)) (toZ w32 (ofZ w32 due))) where
+    back : toZ w32 (ofZ w32 end) ≡ endAt bound due
+    back = rw (e, toZ-ofZ w32 due f, toZ-ofZ w32 bound g) (toZ-ofZ w32 (endAt bound due) fits-end)
 
-    pub end-casts : T (nonNeg (toZ w32 (ofZ w32 read))) × Fits w32 (natAbs (toZ w32 (ofZ w32 read)))
-    end-casts = rw back (other .0, record { fits = omega (arith, other .2, mag-end due bound d b) })
+    pub end-negative : ltZ (toZ w32 (ofZ w32 end)) (pos 0) ≡ true → 0 ≡ cut (endAt bound due)
+    end-negative h = sym (cut-negative (endAt bound due) (rw back at h))
 
-    pub end-is : natAbs (toZ w32 (ofZ w32 read)) ≡ cut (endAt bound due)
-    end-is = rw back (other .1)
+    module _ (h : ltZ (toZ w32 (ofZ w32 end)) (pos 0) ≡ false) where
+      other : T (nonNeg (endAt bound due)) × (natAbs (endAt bound due) ≡ cut (endAt bound due))
+          × (natAbs (endAt bound due) ≤ mag (endAt bound due))
+      other = cut-other (endAt bound due) (rw back at h)
+
+      pub end-casts : T (nonNeg (toZ w32 (ofZ w32 end))) × Fits w32 (natAbs (toZ w32 (ofZ w32 end)))
+      end-casts = rw back (other .0, record { fits = omega (arith, other .2, mag-end due bound d b) })
+
+      pub end-is : natAbs (toZ w32 (ofZ w32 end)) ≡ cut (endAt bound due)
+      end-is = rw back (other .1)

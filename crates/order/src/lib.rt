@@ -1,6 +1,6 @@
 // What an order is (document 01, "Order and file"), whether it is accepted, and its orderings.
 pub mod accept; // refusals 1 to 7
-pub mod deadline; // a job's end, cut off at minute 0
+pub mod deadline; // a job's end, and the end cut off at minute 0
 pub mod orderings; // processors by falling memory, jobs by falling need
 pub mod told; // refusals as numbers
 
