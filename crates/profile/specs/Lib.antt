@@ -5,6 +5,8 @@ pub mod Least
 pub mod Ranking
 pub mod SearchLaws
 pub mod ReasonLaws
+pub mod Standing
+pub mod StandingLaws
 pub mod Weights
 pub mod LeastLaws
 pub mod Threshold

@@ -5,7 +5,7 @@ use mathlib.Core.List.{List}
 use lib.IntN.{ℤ, pos}
 use lib.Signed.{_≤ℤ_, _<ℤ_}
 use Rattle.order.specs.Order.{Job, Order, jobCount, Numbers, jobOf, endOf}
-use Rattle.profile.specs.Profile.{minutesOwed, minutesOnHand, FirstOverfull}
+use Rattle.profile.specs.Profile.{minutesOwed, minutesOnHand, Overfull, FirstOverfull}
 
 pub data Reason : Type 0 where
   overEnd : ℕ → Reason
@@ -40,3 +40,9 @@ owedOf o bound (stairs dues) = minutesOwed o bound dues
 abbrev pub onHandOf : Order → ℤ → Reason → ℤ
 onHandOf o bound (overEnd j) = endOf bound (jobOf o j)
 onHandOf o bound (stairs dues) = minutesOnHand o bound dues
+
+-- Document 02, §1: "Reasons here are every job over its end or, with none such, every overfull staircase." Document 01's reason is
+-- the first of them.
+abbrev pub Stands : Order → ℤ → Reason → Type 0
+Stands o bound (overEnd j) = Numbers (jobCount o) j × OverEnd bound (jobOf o j)
+Stands o bound (stairs dues) = ((j : ℕ) → Numbers (jobCount o) j → InTime bound (jobOf o j)) × Overfull o bound dues

@@ -97,6 +97,14 @@ module _ (o : Order) (bound : ℤ) where
   none-found : ((j : ℕ) → Numbers (jobCount o) j → InTime bound (jobOf o j)) → firstOverEnd o bound ≡ clear
   none-found h = first-none isOver (o .jobs) 0 (All-map _ _ (o .jobs) (λ (job : Job) t. false-ltZ _ _ t) (in-time-all .0 h))
 
+  -- no job is found over its end exactly if all are in time
+  pub none-over-end : (firstOverEnd o bound ≡ clear) ↔ ((j : ℕ) → Numbers (jobCount o) j → InTime bound (jobOf o j))
+  none-over-end = (λ e. go e tried, none-found)
+    where
+      go : firstOverEnd o bound ≡ clear → Tried → (j : ℕ) → Numbers (jobCount o) j → InTime bound (jobOf o j)
+      go e (all-in-time c t) = t
+      go e (one-over j c t) = let z : _≡_ {A = ℕ} 0 1 = cc in absurd (omega arith)
+
   found-is : (r : Reason) → reasonOf o bound ≡ found r → IsReason o bound r
   unfolding reasonOf
   found-is r e = go tried

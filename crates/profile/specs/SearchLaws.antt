@@ -24,7 +24,7 @@ use Rattle.profile.specs.Ranking.{Falls, Chosen, ranked-in, ranked-sorte
 
 -- the first that passes: it is a member and passes, and every other that passes stands behind it
 module _ {A : Type 0} (test : A → Bool) where
-  found-passes : (xs : List A) (x : A) → firstSuch test xs ≡ found x → In x xs × (test x ≡ true)
+  pub found-passes : (xs : List A) (x : A) → firstSuch test xs ≡ found x → In x xs × (test x ≡ true)
   unfolding firstSuch
   found-passes [] x e = let z : _≡_ {A = ℕ} 0 1 = cc in absurd (omega arith)
   found-passes (y ∷ xs) x e = go (test y) refl e (found-passes xs x)
@@ -34,7 +34,7 @@ module _ {A : Type 0} (test : A → Bool) where
       go true t e f = let q : x ≡ y = cc in (inl q, ap test q ∙ t)
       go false t e f = let r = f e in (inr (r .0), r .1)
 
-  found-first : (R : A → A → Type 0) (xs : List A) (x : A) → Pairwise R xs → firstSuch test xs ≡ found x →
+  pub found-first : (R : A → A → Type 0) (xs : List A) (x : A) → Pairwise R xs → firstSuch test xs ≡ found x →
       (y : A) → In y xs → test y ≡ true → (y ≡ x) ⊎ R x y
   unfolding firstSuch
   found-first R [] x s e y i p = absurd i
@@ -47,7 +47,7 @@ module _ {A : Type 0} (test : A → Bool) where
       go false t e (inl q) f = let w : _≡_ {A = ℕ} 0 1 = cc (ap test q) in absurd (omega arith)
       go false t e (inr m) f = f e y m p
 
-  nothing-passes : (xs : List A) → firstSuch test xs ≡ nothing → (x : A) → In x xs → test x ≡ false
+  pub nothing-passes : (xs : List A) → firstSuch test xs ≡ nothing → (x : A) → In x xs → test x ≡ false
   unfolding firstSuch
   nothing-passes [] e x i = absurd i
   nothing-passes (y ∷ xs) e x i = go (test y) refl e i (nothing-passes xs)

@@ -54,7 +54,7 @@ module _ (top bound : ℤ) (reach : ℕ) (e : endAt bound top ≡ pos reach) whe
       ∙ ap (λ (x : ℕ). job .time - x) (omega (arith, h .within, k .within)))
 
   module _ (o : Order) (jobs : All (λ (job : Job). Reached top reach (job .due)) (o .jobs)) where
-    class-owes : (k : ℕ) (due : ℤ) → Reached top reach due →
+    pub class-owes : (k : ℕ) (due : ℤ) → Reached top reach due →
         classOwes o bound k (endAt bound due)
         ≡ total (o .jobs) (λ (job : Job). only (eqb (classOf o job) k) (owedAt top (lead top due) job))
     unfolding classOwes

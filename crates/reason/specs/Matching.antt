@@ -18,7 +18,7 @@ use Rattle.sums.specs.Most.{largest, ceiling, most, most-cong, largest-most}
 use Rattle.table.specs.Tabled.{Tabled}
 use Rattle.table.specs.declared.Table.{Table}
 use Rattle.stairs.specs.Places.{profiles, value, best}
-use Rattle.reason.specs.Asked.{owes, minutesAt, weight, procsTo, latestOf, leastFor, leastReachOf}
+use Rattle.reason.specs.Asked.{owedBy, minutesAt, weight, procsTo, latestOf, leastFor, leastReachOf}
 use Rattle.order.specs.LeadLaws.{lead-due}
 use Rattle.reason.specs.Choices.{largest-image, largest-agree, choices-places, profiles-sized, Sized}
 
@@ -27,14 +27,23 @@ module _ (o : Order) (t : Table) (m : Tabled lastDue o t) where
   abbrev pub dueIn : ℕ → ℤ
   dueIn d = dueAt lastDue (getD (t .grid) d 0)
 
+  -- what the jobs of a class owe by the time of a lead
+  pub owes-same : (k g : ℕ) →
+      total (o .jobs) (λ (job : Job). only (eqb (classOf o job) k) (owedAt lastDue g job))
+      ≡ sum (t .n) (λ j. only (eqb (getD (t .classes) j 0) k) (owedBy (getD (t .times) j 0) (getD (t .leads) j 0) g))
+  owes-same k g =
+      total-places (o .jobs) noJob (λ (job : Job). only (eqb (classOf o job) k) (owedAt lastDue g job))
+      ∙ (sum-cong (jobCount o) _ (λ j. only (eqb (getD (t .classes) j 0) k) (owedBy (getD (t .times) j 0) (getD (t .leads) j 0) g))
+      (λ j l. rw (m .times j l, m .leads j l, m .classes-of j l) refl)
+      ∙ ap (λ (n : ℕ). sum n (λ j. only (eqb (getD (t .classes) j 0) k) (owedBy (getD (t .times) j 0) (getD (t .leads) j 0) g)))
+      (sym (m .jobs)))
+
   minutes-same : (k g d : ℕ) → g ≡ getD (t .grid) d 0 →
       total (o .jobs) (λ (job : Job). only (eqb (classOf o job) k) (owedAt lastDue g job)) ≡ minutesAt t k d
   unfolding minutesAt
   minutes-same k g d e =
-      total-places (o .jobs) noJob (λ (job : Job). only (eqb (classOf o job) k) (owedAt lastDue g job))
-      ∙ (sum-cong (jobCount o) _ (owes t k d)
-      (λ j l. rw (m .times j l, m .leads j l, m .classes-of j l, e) refl)
-      ∙ ap (λ (n : ℕ). sum n (owes t k d)) (sym (m .jobs)))
+      owes-same k g
+      ∙ ap (λ (x : ℕ). sum (t .n) (λ j. only (eqb (getD (t .classes) j 0) k) (owedBy (getD (t .times) j 0) (getD (t .leads) j 0) x))) e
 
   weight-same : (i d : ℕ) → i < 16 → weightAt lastDue o (suc i) (lead lastDue (dueIn d)) ≡ weight t i d
   unfolding weightAt weight

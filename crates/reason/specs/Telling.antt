@@ -78,7 +78,7 @@ module _ (o : Order) (t : Table) (m : Tabled lastDue o t) (a : Acceptable o) (bo
       (All-at _ (o .jobs) noJob (work .times) j l)
 
   -- the same job is over its end
-  same-job : firstOverEnd o bound ≡ first (late t reach) (tabulate (t .n) (λ j. j))
+  pub same-job : firstOverEnd o bound ≡ first (late t reach) (tabulate (t .n) (λ j. j))
   unfolding over
   same-job =
       first-places over (o .jobs) noJob (late t reach) (t .n) (λ j. j) 0 (sym (m .jobs))

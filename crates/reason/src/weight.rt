@@ -10,7 +10,7 @@ ghost use Rattle.table.specs.Tabled.{Fine};
 ghost use Rattle.reason.specs.Asked.{owedBy, minutesAt, weight};
 
 // What one job owes by the time of the lead g.
-fn owed(time: u32, lead: u32, g: u32) -> u32
+pub fn owed(time: u32, lead: u32, g: u32) -> u32
     ensures { λ r. ⌜ r ≡ owedBy time lead g ⌝ }
 {
     if g <= lead {

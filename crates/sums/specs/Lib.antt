@@ -11,3 +11,4 @@ pub mod Rearranged
 pub mod Most
 pub mod Arrays
 pub mod Downwards
+pub mod Same
