@@ -1,0 +1,10 @@
+mod Adding
+mod Jobs
+mod Classes
+mod Dues
+mod Standings
+mod Handings
+mod Scans
+mod Recovers
+mod Readings
+mod Answers

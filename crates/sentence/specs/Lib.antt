@@ -1,0 +1,11 @@
+pub mod Line
+pub mod Handed
+pub mod HandedLaws
+pub mod Told
+pub mod Inside
+pub mod Scanning
+pub mod ScanLaws
+pub mod LineLaws
+pub mod StepLaws
+pub mod WeighLaws
+pub mod LengthLaws
