@@ -30,6 +30,10 @@ use Rattle.order.specs.Table.{carriedBy}
 use Rattle.order_file.specs.File.{goodFile, orderIn, readRows, fileLength, writeRows}
 use Rattle.plan.specs.Check.{checkRows}
 use Rattle.profile.specs.Search.{reasonOf}
+use Rattle.reason.specs.declared.Why.{Why}
+use Rattle.sentence.specs.Handed.{handed}
+use Rattle.sentence.specs.Line.{composed}
+use Rattle.sentence.specs.Told.{composeRows, readRows as lineRows}
 use Rattle.planner.specs.Rows.{rowsAsked, isFound, leastRows, earlierRows, planRows}
 
 -- a refusal carries what its verdict carries
@@ -119,3 +123,15 @@ pub write-carries : (o : Order) (n : ℕ) → carriedBy (judge (writeRows o n)) 
 unfolding writeRows
 write-carries o n =
     append-carries (orderRows limits o) _ (order-carries o) (whole-carries 9 48 (ltb n (fileLength o)) [] none-carries)
+
+pub compose-carries : (o : Order) (bound : ℤ) (why : Why) (n : ℕ) → carriedBy (judge (composeRows o bound why n)) ≤ 48
+unfolding composeRows
+compose-carries o bound why n =
+    append-carries (orderRows limits o) _ (order-carries o)
+    (whole-carries 8 48 (not (boundInRange bound)) _
+    (whole-carries 9 48 (ltb n (length (composed o bound (handed o why)))) [] none-carries))
+
+pub back-carries : (o : Order) (bound : ℤ) → carriedBy (judge (lineRows o bound)) ≤ 48
+unfolding lineRows
+back-carries o bound =
+    append-carries (orderRows limits o) _ (order-carries o) (whole-carries 8 48 (not (boundInRange bound)) [] none-carries)

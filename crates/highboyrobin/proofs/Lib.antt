@@ -4,5 +4,7 @@ mod Calling
 mod Stored
 mod Gathered
 mod ReasonTold
+mod Handed
 mod ChecksTold
 mod FilesTold
+mod SentenceTold

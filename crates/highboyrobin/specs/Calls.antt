@@ -1,22 +1,31 @@
 -- What each exported function answers, and by which rows of the refusal table it judges. A file stands for the order in it.
 use Prim.Native.Nat.{ℕ, _+_, _*_, _/_}
 use mathlib.Core.Path.{_≡_}
-use mathlib.Core.Bool.{Bool, cond}
+use mathlib.Core.Bool.{Bool, cond, _&&_}
 use mathlib.Core.List.{List, [], _∷_, _++_}
-use lib.IntN.{ℤ, pos}
+use lib.Dec.{eqb}
+use lib.IntN.{ℤ, pos, negsuc}
 use lib.ListN.{length, getD, drop}
 use Rattle.sums.specs.Lists.{tabulate}
 use Rattle.order.specs.Order.{Order, processorCount, jobCount, jobOf}
-use Rattle.order.specs.Refusals.{limits, TableRow, Verdict, accepted, refused, judge, orderRows, boundRow}
+use Rattle.order.specs.Refusals.{limits, TableRow, Verdict, accepted, refused, judge, orderRows, boundRow, fileRow}
 use Rattle.order_file.specs.Bytes.{signed}
-use Rattle.order_file.specs.File.{orderIn, writeRows}
+use Rattle.order_file.specs.File.{goodFile, orderIn, writeRows}
 use Rattle.plan.specs.Check.{isRight, checkRows}
 use Rattle.profile.specs.Reason.{Reason, overEnd, stairs}
 use Rattle.profile.specs.Search.{Found, nothing, found, reasonOf}
+use Rattle.profile.specs.Standing.{sameZ}
 use Rattle.reason.specs.Told.{sixteen}
+use Rattle.reason.specs.declared.Reason.the-variants.{Job, Stairs}
+use Rattle.reason.specs.declared.Tightness.{Tightness}
+use Rattle.reason.specs.declared.Tightness.the-variants.{Tight, Met}
+use Rattle.reason.specs.declared.Why.{Why}
+use Rattle.sentence.specs.Handed.{handed}
+use Rattle.sentence.specs.Line.{composed, readBack}
+use Rattle.sentence.specs.Told.{composeRows, readRows}
 use Rattle.planner.specs.Rows.{rowsAsked, leastRows, planRows}
 use Rattle.planner.specs.Written.{Written}
-use Rattle.highboyrobin.specs.Results.{fileCall, answerRow, answeredBy, partJobRow}
+use Rattle.highboyrobin.specs.Results.{fileCall, answerRow, answeredBy, partJobRow, shortReasonRow}
 
 -- hbr_judge: the processors, the jobs, and the rows to be lent
 abbrev pub judgeCall : List ℕ → ℕ → List TableRow
@@ -56,6 +65,38 @@ reasonNumbers o (found (stairs dues)) = pos 2 ∷ pos (length dues) ∷ pos 0 �
 abbrev pub reasonAnswer : List ℕ → ℤ → List ℤ → List ℤ
 reasonAnswer file bound answer =
     answeredBy (judge (reasonCall file bound (length answer))) (reasonNumbers (orderIn file) (reasonOf (orderIn file) bound)) answer
+
+-- hbr_sentence: nineteen numbers as a reason is handed in, each kind with no number that is not its own; others tell none
+abbrev pub tightnessFrom : ℤ → ℤ → ℤ → Tightness
+tightnessFrom kind (pos which) (pos time) =
+    cond (sameZ kind (pos 1)) (Tight (Job which time)) (cond (sameZ kind (pos 2) && eqb time 0) (Tight (Stairs which)) Met)
+tightnessFrom kind (pos which) (negsuc time) = Met
+tightnessFrom kind (negsuc which) time = Met
+
+unfoldable pub whyFrom : List ℤ → Why
+whyFrom numbers = record {
+  tightness = tightnessFrom (getD numbers 0 (pos 0)) (getD numbers 1 (pos 0)) (getD numbers 2 (pos 0));
+  dues = tabulate 16 (λ i. getD numbers (3 + i) (pos 0));
+}
+
+-- the line that is composed of them
+abbrev pub lineFrom : List ℕ → ℤ → List ℤ → List ℕ
+lineFrom file bound numbers = composed (orderIn file) bound (handed (orderIn file) (whyFrom numbers))
+
+unfoldable pub sentenceCall : List ℕ → ℤ → List ℤ → ℕ → ℕ → List TableRow
+sentenceCall file bound numbers lent answer =
+    answerRow answer 1
+    ∷ shortReasonRow (length numbers)
+    ∷ fileRow (goodFile file)
+    ∷ composeRows (orderIn file) bound (whyFrom numbers) lent
+
+-- hbr_parse: the reason of a line, or none, in the numbers of hbr_reason
+abbrev pub parseCall : List ℕ → ℤ → ℕ → List TableRow
+parseCall file bound lent = fileCall lent 19 file (readRows (orderIn file) bound)
+
+abbrev pub parseAnswer : List ℕ → ℤ → List ℕ → List ℤ → List ℤ
+parseAnswer file bound line answer =
+    answeredBy (judge (parseCall file bound (length answer))) (reasonNumbers (orderIn file) (readBack (orderIn file) bound line)) answer
 
 -- hbr_check: 1 for yes, 0 for no
 abbrev pub checkCall : List ℕ → ℤ → ℕ → ℕ → List TableRow

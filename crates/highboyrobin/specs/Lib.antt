@@ -1,4 +1,5 @@
 pub mod Results
 pub mod Calls
 pub mod CallLaws
+pub mod LineCallLaws
 pub mod Inside

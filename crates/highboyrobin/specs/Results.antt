@@ -18,13 +18,16 @@ abbrev pub answeredBy : Verdict → List ℤ → List ℤ → List ℤ
 answeredBy accepted numbers entry = numbers ++ drop (length numbers) entry
 answeredBy (refused number job) numbers entry = entry
 
--- two rows that stand before document 01's table, with numbers that no paper gives: the answer is too short; the jobs' numbers
--- are not three to a job
+-- three rows that stand before document 01's table, with numbers that no paper gives: the answer is too short; the jobs' numbers
+-- are not three to a job; a reason has fewer numbers than hbr_reason answers
 abbrev pub answerRow : ℕ → ℕ → TableRow
 answerRow lent asked = row 255 (whole (ltb lent asked))
 
 abbrev pub partJobRow : ℕ → TableRow
 partJobRow numbers = row 254 (whole (not (eqb (numbers % 3) 0)))
+
+abbrev pub shortReasonRow : ℕ → TableRow
+shortReasonRow numbers = row 253 (whole (ltb numbers 19))
 
 -- the table of a call that takes a file: the answer's room, 12, then the rows of the entry point
 unfoldable pub fileCall : ℕ → ℕ → List ℕ → List TableRow → List TableRow

@@ -27,6 +27,10 @@ abbrev pub composedTold : Composed → Answer ℕ
 composedTold (Length n) = answer n
 composedTold (Refused r) = answerBy (refusalTold r) 0
 
+abbrev pub lengthTold : Composed → ℕ
+lengthTold (Length n) = n
+lengthTold (Refused r) = 0
+
 -- the buffer at exit: the line and what stood beyond it; what it held where the call is refused
 abbrev pub lineBy : Verdict → List ℕ → List ℕ → List ℕ
 lineBy accepted line entry = line ++ drop (length line) entry

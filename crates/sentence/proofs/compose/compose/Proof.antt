@@ -30,8 +30,9 @@ enum-known-refusal c = search needs
 returns : tie.Need-returns
 returns c =
     let s = c .before .before .before .before .before in
-    compose-order (orderOf (s .args .order)) (s .args .bound) (s .args .why) (s .args .line .now) _ _ (c .before .before .before .accept .ensures)
-    (c .before .refusal .given .1)
+    let r = compose-order (orderOf (s .args .order)) (s .args .bound) (s .args .why) (s .args .line .now) _ _ (c .before .before .before .accept .ensures)
+    (c .before .refusal .given .1) in
+    (r .0, (r .1, omega arith))
 
 enum-told : tie.Need-enum-told
 enum-told c = search needs
@@ -44,8 +45,9 @@ returns-2 c =
     let s = c .before .before .before .before .before .before in
     let z = toZ-ofZ w32 (s .args .bound) (s .fits .bound) in
     let a = sym (c .before .before .before .before .accept .ensures) ∙ ap acceptanceTold (c .before .before .enum-told .given .1) in
-    compose-bound (orderOf (s .args .order)) (s .args .bound) (s .args .why) (s .args .line .now) a
-    (ap boundInRange (sym z) ∙ sym (c .before .bound-in-range .ensures) ∙ not-true _ (c .if1 .taken))
+    let r = compose-bound (orderOf (s .args .order)) (s .args .bound) (s .args .why) (s .args .line .now) a
+    (ap boundInRange (sym z) ∙ sym (c .before .bound-in-range .ensures) ∙ not-true _ (c .if1 .taken)) in
+    (r .0, (r .1, omega arith))
 
 slice-aggregate-put-line : tie.Need-slice-aggregate-put-line
 slice-aggregate-put-line c = search needs
@@ -65,9 +67,10 @@ returns-3 c =
     let a = sym (c .before .before .before .before .before .before .before .before .accept .ensures) ∙ ap acceptanceTold (c .before .before .before .before .before .before .enum-told .given .1) in
     let p = c .before .before .put-line .ensures .0 in
     let size = ap (λ (b : ℤ). length (composed o b (handed o (s .args .why)))) z in
-    compose-short o (s .args .bound) (s .args .why) (s .args .line .now) a
+    let r = compose-short o (s .args .bound) (s .args .why) (s .args .line .now) a
     (ap boundInRange (sym z) ∙ sym (c .before .before .before .before .before .bound-in-range .ensures) ∙ not-false _ (c .before .before .before .before .if1 .left))
-    (omega (arith, c .if2 .taken, p .next-is, size))
+    (omega (arith, c .if2 .taken, p .next-is, size)) in
+    (r .0, (r .1, omega arith))
 
 array-share-prefix-text : tie.Need-array-share-prefix-text
 array-share-prefix-text c = search needs
@@ -97,10 +100,11 @@ returns-4 c =
     let p = c .before .before .before .before .before .before .before .put-line .ensures .0 in
     let same = ap (λ (b : ℤ). composed o b (handed o (s .args .why))) z in
     let size = ap length same in
-    compose-done o (s .args .bound) (s .args .why) (s .args .line .now) a
-    (ap boundInRange (sym z) ∙ sym (c .before .before .before .before .before .before .before .before .before .before .bound-in-range .ensures) ∙ not-false _ (c .before .before .before .before .before .before .before .before .before .if1 .left)) _ _ _
+    let r = compose-done o (s .args .bound) (s .args .why) (s .args .line .now) a
+    (ap boundInRange (sym z) ∙ sym (c .before .before .before .before .before .before .before .before .before .before .bound-in-range .ensures) ∙ not-false _ (c .before .before .before .before .before .before .before .before .before .if1 .left)) _ (c .before .before .before .before .before .before .before .put-line .result) _
     (omega (arith, c .before .before .before .before .before .if2 .left, p .next-is, size)) (omega (arith, p .next-is, size))
-    (put-as (put-first p ∙ same) (c .before .before .put-bytes .ensures))
+    (put-as (put-first p ∙ same) (c .before .before .put-bytes .ensures)) in
+    (r .0, (r .1, c .before .before .before .before .before .before .before .put-line .ensures .1))
 
 pub compose-spec : {M : Type 1} → statement M
 compose-spec =
