@@ -5,6 +5,7 @@ Document 01: "The planner uses 1 to 10 (least lateness: not 8 and 10), the check
 applicable number is given". Row 9 for the planner: "lent buffer too short:
 below q × (n + m - 1) rows"; one to three numbers left over are "in the planner
 no further row of the buffer".
+Document 02, §1: "`try-bound` prints this line after its `tight` line".
 """
 
 import least
@@ -14,6 +15,7 @@ import orders
 import plan_check
 import reason
 import reason_large
+import sentence
 
 
 def refused(refusal):
@@ -60,15 +62,9 @@ def least_lateness(order, room):
     return [f"least {least.least(order)}"]
 
 
-def few_staircases(order):
-    """Can all staircases be gone through in no time?"""
-    return (len(set(order.memories)) <= 4
-            and len({job.due for job in order.jobs}) <= 8)
-
-
 def why_tight(order, bound):
     """The reason, by going through all staircases where they are few."""
-    if few_staircases(order):
+    if reason.few_staircases(order):
         return reason.reason(order, bound)
     return reason.reason(order, bound, reason_large.first_overfull)
 
@@ -83,3 +79,31 @@ def plan(order, bound, room):
     if why.kind == "job":
         return [f"tight job {why.values}"]
     return ["tight stairs " + " ".join(map(str, why.values))]
+
+
+def try_bound(order, bound):
+    """What try-bound prints: room it has, and the line of the reason follows a
+    `tight` line."""
+    lines = plan(order, bound, 4 * orders.rows_needed(order))
+    if lines[0].startswith("tight"):
+        lines.append(sentence.line(order, bound, why_tight(order, bound)))
+    return lines
+
+
+def compose(order, bound, kind, which, time, dues, room):
+    handed = sentence.Handed(kind, which, time, dues)
+    answer = sentence.compose(order, bound, handed, room)
+    if isinstance(answer, orders.Refusal):
+        return refused(answer)
+    return [f"line {len(answer)} {answer}" if answer else "line 0"]
+
+
+def parse(order, bound, data):
+    answer = sentence.read_back(order, bound, data)
+    if isinstance(answer, orders.Refusal):
+        return refused(answer)
+    if answer is None:
+        return ["none"]
+    if answer.kind == "job":
+        return [f"job {answer.values} {order.jobs[answer.values - 1].time}"]
+    return ["stairs " + " ".join(map(str, answer.values))]

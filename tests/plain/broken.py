@@ -1,6 +1,7 @@
 """Shows that the tests can fail: each part is broken, and a named test catches it.
 
-Document 01, "Errors that a planner of this kind invites", names many of these.
+Document 01, "Errors that a planner of this kind invites", names many of these;
+document 02's sentences of the reason give those of its lines.
 Each variant replaces one name of one module while one test runs.
 
     broken.py          runs all variants; exits 1 if one of them is not caught
@@ -8,6 +9,7 @@ Each variant replaces one name of one module while one test runs.
 
 import fractions
 import math
+import re
 import sys
 import unittest
 from collections import namedtuple
@@ -24,6 +26,7 @@ import plan_rules
 import reason
 import reason_large
 import search
+import sentence
 import wrap
 
 # What is broken, where, by what, and the test that catches it.
@@ -411,7 +414,195 @@ FILES = [
             "test_order_text.Text.test_there_and_back"),
 ]
 
-VARIANTS = LATENESS + REASONS + REFUSALS + PLANS + LAYOUTS + SEARCHES + FILES
+
+def ends_for_dues(order, bound, why):
+    if why.kind == "job":
+        return right_line(order, bound, why)
+    shifted = orders.order(order.memories, [
+        job._replace(due=job.due + bound) for job in order.jobs])
+    ends = tuple(due + bound for due in why.values)
+    return right_line(shifted, 0, reason.Reason("stairs", ends))
+
+
+def memories_in_input_order(order, bound, why):
+    """The memory of processor 1 for class 1, and so on."""
+    text = right_line(order, bound, why)
+    for told, memory in zip(reason.class_memories(order), order.memories):
+        text = text.replace(f"memory {told} ", f"MEMORY {memory} ")
+    return text.replace("MEMORY", "memory")
+
+
+def staircases_with_a_late_job(order, bound, why):
+    if why.kind == "job":
+        return right_stands(order, bound, why)
+    return sentence.is_staircase(order, why.values) and reason.overfull(
+        order, bound, [due + bound for due in why.values])
+
+
+def any_dues_beside_a_job(order, given):
+    if given.kind == sentence.JOB:
+        given = given._replace(dues=(0,) * sentence.DUES)
+    return right_meant(order, given)
+
+
+def any_dues_beyond_k(order, given):
+    if given.kind == sentence.STAIRS:
+        dues = given.dues[:given.which]
+        given = given._replace(dues=dues + (0,) * (sentence.DUES - len(dues)))
+    return right_meant(order, given)
+
+
+def time_not_looked_at(order, given):
+    if given.kind == sentence.JOB and 1 <= given.which <= order.n:
+        given = given._replace(time=order.jobs[given.which - 1].time)
+    return right_meant(order, given)
+
+
+def count_by_the_dues(order, given):
+    """The due times up to the last that is not 0."""
+    if given.kind == sentence.STAIRS:
+        count = max((place for place, due in enumerate(given.dues, 1) if due),
+                    default=1)
+        given = given._replace(which=count)
+    return right_meant(order, given)
+
+
+def kind_not_looked_at(order, given):
+    stairs = any(given.dues)
+    return right_meant(order, given._replace(
+        kind=sentence.STAIRS if stairs else sentence.JOB))
+
+
+def room_before_refusals(order, bound, given, room):
+    return orders.Refusal(9, 0) if room == 0 else right_compose(
+        order, bound, given, room)
+
+
+def bound_before_order(order, bound):
+    if not orders.bound_in_range(bound):
+        return orders.Refusal(8, 0)
+    return orders.refusal(order)
+
+
+def by_value(text, data):
+    """Numbers compared as numbers: leading zeros, + and -0 pass."""
+    def plain(line):
+        return re.sub(rb"[+-]?[0-9]+", lambda found: b"%d" % int(found[0]), line)
+    return plain(text.encode()) == plain(data)
+
+
+def before_the_sums(text, data):
+    return text.encode().rpartition(b":")[0] == data.rpartition(b":")[0]
+
+
+def standing_or_not(order, bound, data):
+    """Every job and every staircase."""
+    return [reason.Reason("job", number) for number in range(1, order.n + 1)] + [
+        reason.Reason("stairs", tuple(time - bound for time in staircase))
+        for staircase in reason.staircases(order, bound)]
+
+
+def the_last_reason(order, bound):
+    lines = right_try_bound(order, bound)
+    if len(lines) == 1:
+        return lines
+    last = sentence.standing(order, bound)[-1]
+    return [lines[0], sentence.line(order, bound, last)]
+
+
+right_line = sentence.line
+right_stands = sentence.stands
+right_meant = sentence.meant
+right_compose = sentence.compose
+right_late_jobs = sentence.late_jobs
+right_overfull_stairs = sentence.overfull_stairs
+right_is_staircase = sentence.is_staircase
+right_candidates = sentence.candidates
+right_try_bound = answers.try_bound
+right_on_hand = reason.on_hand
+LINES = "test_sentence.Lines.test_known"
+ELSE = "test_sentence.Composing.test_anything_else"
+OTHER_LINES = "test_sentence.ReadingBack.test_other_lines"
+
+SENTENCES = [
+    Variant("only the first job over its end", sentence, "late_jobs",
+            lambda order, bound: right_late_jobs(order, bound)[:1], LINES),
+    Variant("a job whose time is its end", sentence, "late_jobs",
+            lambda order, bound: right_late_jobs(order, bound - 1), LINES),
+    Variant("only the first overfull staircase", sentence, "overfull_stairs",
+            lambda order, bound: right_overfull_stairs(order, bound)[:1], LINES),
+    Variant("ends told for due times", sentence, "line", ends_for_dues, LINES),
+    Variant("memories in input order", sentence, "line", memories_in_input_order,
+            LINES),
+    Variant("minus signs lost", sentence, "line",
+            lambda order, bound, why: right_line(order, bound, why).replace("-", ""),
+            LINES),
+    Variant("owed and on hand exchanged", reason, "on_hand",
+            lambda order, bound, why: right_on_hand(order, bound, why)[::-1], LINES),
+    Variant("a staircase though a job is over its end", sentence, "stands",
+            staircases_with_a_late_job, ELSE),
+    Variant("due times that rise in a staircase handed in", sentence, "is_staircase",
+            lambda order, dues: right_is_staircase(
+                order, tuple(sorted(dues, reverse=True))), ELSE),
+    Variant("a due time of no job in a staircase handed in", sentence, "is_staircase",
+            lambda order, dues: right_is_staircase(orders.order(order.memories, [
+                (1, due, 0) for due in dues]), dues), ELSE),
+    Variant("any staircase that never rises, overfull or not", sentence, "stands",
+            lambda order, bound, why: right_stands(order, bound, why) or (
+                why.kind == "stairs" and right_is_staircase(order, why.values)), ELSE),
+    Variant("a wrong time beside the job", sentence, "meant", time_not_looked_at, ELSE),
+    Variant("due times beside a job", sentence, "meant", any_dues_beside_a_job, ELSE),
+    Variant("due times beyond k", sentence, "meant", any_dues_beyond_k, ELSE),
+    Variant("a kind that is neither of the two", sentence, "meant", kind_not_looked_at,
+            ELSE),
+    Variant("the count guessed from the due times", sentence, "meant",
+            count_by_the_dues,
+            "test_sentence.Composing.test_the_count_tells_due_times_of_0_apart"),
+    Variant("9 at equal length", sentence, "too_long",
+            lambda text, room: len(text) >= room, "test_sentence.Composing.test_room"),
+    Variant("9 where the line is one longer", sentence, "too_long",
+            lambda text, room: len(text) > room + 1,
+            "test_sentence.Composing.test_room"),
+    Variant("9 for an empty line", sentence, "too_long",
+            lambda text, room: len(text) > room or room == 0,
+            "test_sentence.Composing.test_room"),
+    Variant("9 before 1 to 8", sentence, "compose", room_before_refusals,
+            "test_sentence.Composing.test_refusals"),
+    Variant("8 before 1 to 7", sentence, "refusal", bound_before_order,
+            "test_sentence.Composing.test_refusals"),
+    Variant("no 8 in reading back", sentence, "refusal",
+            lambda order, bound: orders.refusal(order),
+            "test_sentence.ReadingBack.test_refusals"),
+    Variant("a line with a line feed read", sentence, "same",
+            lambda text, data: text.encode() == data.rstrip(b"\n"), OTHER_LINES),
+    Variant("capital letters read", sentence, "same",
+            lambda text, data: text.encode() == data.lower(), OTHER_LINES),
+    Variant("leading zeros read", sentence, "same", by_value, OTHER_LINES),
+    Variant("the beginning of a line read", sentence, "same",
+            lambda text, data: text.encode().startswith(data), OTHER_LINES),
+    Variant("bytes behind a line passed over", sentence, "same",
+            lambda text, data: data.startswith(text.encode()), OTHER_LINES),
+    Variant("any sums read", sentence, "same", before_the_sums, OTHER_LINES),
+    Variant("reasons read that do not stand", sentence, "candidates", standing_or_not,
+            OTHER_LINES),
+    Variant("only the first reason read", sentence, "candidates",
+            lambda order, bound, data: right_candidates(order, bound, data)[:1],
+            "test_sentence.ReadingBack.test_known"),
+    Variant("every line reads to none", sentence, "candidates",
+            lambda order, bound, data: [], "test_sentence.ReadingBack.test_known"),
+    Variant("two classes at most by the form", sentence, "STAIRS_LINE",
+            re.compile(rb"%b(?:, %b)?%b" % (sentence.CLASS, sentence.CLASS,
+                                            sentence.SUMS)),
+            "test_sentence.ReadingBack.test_larger_orders"),
+    Variant("try-bound without the line", answers, "try_bound",
+            lambda order, bound: right_try_bound(order, bound)[:1],
+            "test_answers.Answers.test_try_bound"),
+    Variant("try-bound with another reason's line", answers, "try_bound",
+            the_last_reason, "test_answers.Answers.test_try_bound"),
+]
+
+VARIANTS = (LATENESS + REASONS + REFUSALS + PLANS + LAYOUTS + SEARCHES + FILES
+            + SENTENCES)
 
 
 def caught(variant):

@@ -15,18 +15,20 @@ import answers
 import cases_check
 import cases_planner
 import cases_read
+import cases_sentence
 import cases_write
 import flow
 import stream_form
 
 HERE = pathlib.Path(__file__).resolve().parent
 PROGRAM = HERE.parent.parent / "crates" / "cases"
-PARTS = (cases_read, cases_check, cases_write, cases_planner)
+PARTS = (cases_read, cases_check, cases_write, cases_planner, cases_sentence)
 # What the program reads, what it has to print, and what each case shows.
 STORED = {"stdin": PROGRAM / "stdin", "stdout": PROGRAM / "stdout",
           "list": HERE / "streams" / "cases.list"}
 ANSWER = {"read": answers.read, "check": answers.check, "write": answers.write,
-          "least": answers.least_lateness, "plan": answers.plan}
+          "least": answers.least_lateness, "plan": answers.plan,
+          "compose": answers.compose, "parse": answers.parse}
 BYTES_MOST = 800000
 
 

@@ -1,4 +1,5 @@
-"""The orders that document 01 names, and small orders for each refusal.
+"""The orders that document 01 names, small orders for each refusal, and orders for
+the lines of document 02, §1.
 
 Document 01, "Orders to try": "Jobs are (time, due, need)." And the refusal
 table's column "Small example".
@@ -32,6 +33,17 @@ def long_stairs(count):
         jobs += [(need, 2 * need, need)] * 2
     return order(range(1, count + 1), jobs + [(1, 2, 1)] * 3)
 
+
+# Two jobs over their ends at 0.
+SEVERAL_LATE = order([4], [(3, 1, 0), (1, 9, 0), (5, 2, 0)])
+# Four overfull staircases at 0.
+FOUR_STAIRS = order([8, 4], [(2, 2, 8), (1, 1, 8), (1, 1, 4)])
+# The longest lines of a reason: 16 classes, and job 48.
+LONGEST_AT = 1100000
+LONGEST_STAIRS = order([4294967295 - i for i in range(16)],
+                       [(100000, -1000000, 0)] * 48)
+LONGEST_JOB_AT = -10000000
+LONGEST_JOB = order([4], [(100000, -1000000, 4)] * 48)
 
 NAMED = {"A": A, "B": B, "C": C, "D": D, "full": FULL}
 

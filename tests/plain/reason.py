@@ -67,6 +67,12 @@ def staircases(order, bound):
         yield from never_rising(times, k)
 
 
+def few_staircases(order):
+    """Can all staircases be gone through in no time?"""
+    return (len(class_memories(order)) <= 4
+            and len({job.due for job in order.jobs}) <= 8)
+
+
 def sums(order, bound, staircase):
     """Minutes owed and minutes on hand of a staircase."""
     owing = hand = 0

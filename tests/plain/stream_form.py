@@ -4,15 +4,21 @@ A stream is a sequence of records; every number takes 4 bytes, little-endian
 (bounds and due times two's complement). A record begins with its kind:
 
     0  end of the stream
-    1  read   F, then the F bytes of a file
-    2  check  ORDER, bound, R, then R numbers (the lent rows)
-    3  least  ORDER, room (numbers that the lent row buffer holds)
-    4  plan   ORDER, bound, room (numbers)
-    5  write  ORDER, room (bytes of the lent buffer)
+    1  read     F, then the F bytes of a file
+    2  check    ORDER, bound, R, then R numbers (the lent rows)
+    3  least    ORDER, room (numbers that the lent row buffer holds)
+    4  plan     ORDER, bound, room (numbers)
+    5  write    ORDER, room (bytes of the lent buffer)
+    6  compose  ORDER, bound, REASON, room (bytes of the lent buffer)
+    7  parse    ORDER, bound, F, then the F bytes of a line
 
 ORDER is m, n, then min(m, 16) memories, then min(n, 48) jobs as time, due, need.
 A count beyond its array stands for the list of that many: the given ones, then
 zeros. Document 01: "All are little-endian; the due time is two's complement."
+
+REASON is kind, which, time, then 16 due times. Kind 1 is a job (which is its
+number, time its time), 2 a staircase (which is its count, time is not looked at),
+any other none.
 """
 
 import struct
@@ -20,7 +26,10 @@ from collections import namedtuple
 
 import orders
 
-KINDS = {"read": 1, "check": 2, "least": 3, "plan": 4, "write": 5}
+KINDS = {"read": 1, "check": 2, "least": 3, "plan": 4, "write": 5, "compose": 6,
+         "parse": 7}
+# One for each class that there can be.
+DUES = orders.PROCESSORS_MOST
 WORD_COUNT = 4294967296
 
 # `values` are the arguments of the entry point, as answers.py takes them.
@@ -50,6 +59,13 @@ def pack(record):
     if record.kind == "check":
         bound, rows = numbers
         numbers = [bound, len(rows), *rows]
+    elif record.kind == "compose":
+        *numbers, dues, room = numbers
+        assert len(dues) == DUES
+        numbers += [*dues, room]
+    elif record.kind == "parse":
+        bound, data = numbers
+        return head + pack_order(order) + words(bound, len(data)) + data
     return head + pack_order(order) + words(*numbers)
 
 
@@ -80,17 +96,27 @@ class Source:
                 for _ in range(min(n, orders.JOBS_MOST))]
         return orders.order(memories, jobs, m, n)
 
+    def data_of_length(self):
+        length = self.word()
+        self.at += length
+        return self.data[self.at - length:self.at]
+
     def values(self, kind):
         if kind == "read":
-            length = self.word()
-            self.at += length
-            return (self.data[self.at - length:self.at],)
+            return (self.data_of_length(),)
         order = self.order()
         if kind == "check":
             bound, count = self.signed(), self.word()
             return order, bound, [self.word() for _ in range(count)]
         if kind == "plan":
             return order, self.signed(), self.word()
+        if kind == "compose":
+            bound, kind, which, time = (
+                self.signed(), self.word(), self.word(), self.word())
+            dues = tuple(self.signed() for _ in range(DUES))
+            return order, bound, kind, which, time, dues, self.word()
+        if kind == "parse":
+            return order, self.signed(), self.data_of_length()
         return order, self.word()
 
 

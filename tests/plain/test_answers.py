@@ -6,14 +6,14 @@ import answers
 import known_orders
 import orders
 
-A, C = known_orders.A, known_orders.C
+A, B, C = known_orders.A, known_orders.B, known_orders.C
 BAD = orders.order([8], [known_orders.BAD_NEED])
 
 
 class Answers(unittest.TestCase):
     def test_planner_at_a_bound(self):
         for order, bound, line in ((A, 1, "meets"), (A, 0, "tight stairs 3 3"),
-                                   (known_orders.B, 0, "tight stairs 4 2"),
+                                   (B, 0, "tight stairs 4 2"),
                                    (C, -7, "meets"), (C, -8, "tight job 1"),
                                    (C, 10000000, "meets"),
                                    (C, -10000000, "tight job 1")):
@@ -50,3 +50,31 @@ class Answers(unittest.TestCase):
             "file 28 04000000030000000a00000004000000000000000400000001000100"])
         self.assertEqual(answers.read(bytes.fromhex(answers.write(C, 28)[0][8:])),
                          ["order 1 1", "processor 4", "job 3 10 4"])
+
+    def test_try_bound(self):
+        for order, bound, lines in (
+                (A, 1, ["meets"]), (C, -7, ["meets"]), (BAD, 0, ["refused 7 1"]),
+                (BAD, 10000001, ["refused 7 1"]), (C, 10000001, ["refused 8 0"]),
+                (A, 0, ["tight stairs 3 3",
+                        "memory 8 due 3, memory 4 due 3: owed 7, on hand 6"]),
+                (C, -8, ["tight job 1", "job 1: time 3, end 2: owed 3, on hand 2"]),
+                (known_orders.FOUR_STAIRS, 0, ["tight stairs 1",
+                                               "memory 8 due 1: owed 2, on hand 1"]),
+                (known_orders.SEVERAL_LATE, 0, [
+                    "tight job 1", "job 1: time 3, end 1: owed 3, on hand 1"])):
+            self.assertEqual(answers.try_bound(order, bound), lines)
+        for _, order, number, carried in known_orders.REFUSED:
+            self.assertEqual(answers.try_bound(order, 0),
+                             [f"refused {number} {carried}"])
+
+    def test_forms_of_sentences(self):
+        text, none = "memory 8 due 4, memory 4 due 2: owed 8, on hand 6", (0,) * 14
+        for kind, room, line in ((2, 49, f"line 49 {text}"), (2, 48, "refused 9 0"),
+                                 (0, 0, "line 0"), (1, 49, "line 0")):
+            self.assertEqual(
+                answers.compose(B, 0, kind, 2, 0, (4, 2) + none, room), [line])
+        for order, bound, data, line in (
+                (B, 0, text, "stairs 4 2"), (B, 1, text, "none"),
+                (C, -8, "job 1: time 3, end 2: owed 3, on hand 2", "job 1 3"),
+                (BAD, 0, text, "refused 7 1"), (C, 10000001, "", "refused 8 0")):
+            self.assertEqual(answers.parse(order, bound, data.encode()), [line])

@@ -55,6 +55,14 @@ class Form(unittest.TestCase):
         record = stream_form.Record("plan", (orders.order([], []), -1, 4))
         self.assertEqual(stream_form.pack(record).hex(" ", 4),
                          "04000000 00000000 00000000 ffffffff 04000000")
+        record = stream_form.Record(
+            "compose", (orders.order([], []), -1, 2, 1, 0, (-5,) + (0,) * 15, 700))
+        self.assertEqual(stream_form.pack(record).hex(" ", 4), (
+            "06000000 00000000 00000000 ffffffff 02000000 01000000 00000000 "
+            "fbffffff " + "00000000 " * 15 + "bc020000"))
+        record = stream_form.Record("parse", (orders.order([], []), -1, b"job"))
+        self.assertEqual(stream_form.pack(record).hex(), (
+            "07000000" "00000000" "00000000" "ffffffff" "03000000" "6a6f62"))
 
     def test_sizes(self):
         data = cases.STORED["stdin"].read_bytes()
@@ -68,7 +76,9 @@ class Form(unittest.TestCase):
 class Stored(unittest.TestCase):
     def test_every_refusal_occurs(self):
         for kinds, numbers in (({"read", "check", "write"}, {*range(1, 10), 11, 12}),
-                               ({"least", "plan"}, {*range(1, 10)})):
+                               ({"least", "plan"}, {*range(1, 10)}),
+                               ({"compose"}, {*range(1, 10)}),
+                               ({"parse"}, {*range(1, 9)})):
             told = {int(lines[0].split()[1]) for record, lines in stored()
                     if record.kind in kinds and lines[0].startswith("refused")}
             self.assertEqual(told, numbers)
@@ -103,12 +113,30 @@ class Stored(unittest.TestCase):
                 self.assertEqual(cases.answers.read(data)[0],
                                  f"order {order.m} {order.n}")
 
+    def test_lines_there_and_back(self):
+        composed = empty = read = other = 0
+        for record, (line, *_) in stored():
+            if record.kind == "compose" and line.startswith("line "):
+                _, length, *text = line.split(" ", 2)
+                text = "".join(text)
+                self.assertEqual(len(text), int(length))
+                self.assertLessEqual(len(text), record.values[-1])
+                order, bound, kind, which, time, dues, _ = record.values
+                told = {1: f"job {which} {time}",
+                        2: " ".join(map(str, ("stairs", *dues[:which])))}
+                self.assertEqual(cases.answers.parse(order, bound, text.encode()),
+                                 [told[kind] if text else "none"])
+                composed, empty = composed + (text != ""), empty + (text == "")
+            elif record.kind == "parse" and not line.startswith("refused"):
+                read, other = read + (line != "none"), other + (line == "none")
+        self.assertGreater(min(composed, empty, read, other), 90)
+
     def test_rooms_and_lengths_in_reach(self):
         for record, _ in stored():
-            if record.kind == "read":
-                self.assertLessEqual(len(record.values[0]), 700)
-            elif record.kind == "write":
-                self.assertLessEqual(record.values[1], 700)
+            if record.kind in ("read", "parse"):
+                self.assertLessEqual(len(record.values[-1]), 700)
+            elif record.kind in ("write", "compose"):
+                self.assertLessEqual(record.values[-1], 700)
             elif record.kind == "check":
                 self.assertLessEqual(len(record.values[2]), 12104)
             else:

@@ -1,7 +1,8 @@
 // Runs cases through the entry points and prints what they answer. The cases and the expected lines are made by tests/plain,
 // which says the form of the stream (stream_form.py).
 mod print; // words, numbers and answers on standard output
-mod stream; // numbers, orders and files of the stream
+mod sentences; // the cases of a reason's line, composed and read back
+mod stream; // numbers, orders, reasons and files of the stream
 
 use libc::STDOUT_FILENO;
 use order::Acceptance;
@@ -145,6 +146,8 @@ fn main() {
             3 => least_case(),
             4 => plan_case(),
             5 => write_case(),
+            6 => sentences::compose_case(),
+            7 => sentences::parse_case(),
             _ => return,
         }
     }

@@ -2,10 +2,10 @@
 use libc::STDOUT_FILENO;
 use lines::answers::put_planned;
 use lines::answers::put_refused;
-use lines::put::put_number;
-use lines::put::put_signed;
 use order::Refusal;
 use planner::PlanAnswer;
+use text::put::put_number;
+use text::put::put_signed;
 
 // These bytes.
 pub fn text(words: &[u8]) {

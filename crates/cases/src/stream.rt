@@ -1,6 +1,9 @@
-// What the stream of cases holds: numbers of four bytes, orders, files, rows. At its end every number reads 0.
+// What the stream of cases holds: numbers of four bytes, orders, reasons, files, rows. At its end every number reads 0.
 use libc::STDIN_FILENO;
 use order::Order;
+use reason::Reason;
+use reason::Tightness;
+use reason::Why;
 ghost use Prim.Native.Nat.{_≤_};
 ghost use lib.ListN.{length};
 
@@ -72,5 +75,35 @@ pub fn order() -> Order {
         times,
         dues,
         needs,
+    }
+}
+
+// The due times of a reason.
+fn due_times() -> [i32; 16] {
+    let mut out = [0i32; 16];
+    for i in 0..16usize {
+        out[i] = order_file::bytes::to_signed(number());
+    }
+    out
+}
+
+// A job or a staircase; none at any other kind.
+fn tightness(kind: u32, which: u32, time: u32) -> Tightness {
+    match kind {
+        1 => Tightness::Tight(Reason::Job(which, time)),
+        2 => Tightness::Tight(Reason::Stairs(which)),
+        _ => Tightness::Met,
+    }
+}
+
+// A reason: its kind, its job or count, its time, its due times.
+pub fn why() -> Why {
+    let kind = number();
+    let which = number();
+    let time = number();
+    let dues = due_times();
+    Why {
+        tightness: tightness(kind, which, time),
+        dues,
     }
 }

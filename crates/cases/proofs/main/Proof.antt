@@ -8,6 +8,8 @@ use Rattle.cases.proofs.check_case.Reads as check-case-reads
 use Rattle.cases.proofs.least_case.Reads as least-case-reads
 use Rattle.cases.proofs.plan_case.Reads as plan-case-reads
 use Rattle.cases.proofs.read_case.Reads as read-case-reads
+use Rattle.cases.proofs.sentences.compose_case.Reads as compose-case-reads
+use Rattle.cases.proofs.sentences.parse_case.Reads as parse-case-reads
 use Rattle.cases.proofs.stream.number.Reads as number-reads
 use Rattle.cases.proofs.write_case.Reads as write-case-reads
 
@@ -38,6 +40,12 @@ plan-case-requires c κs = search needs
 write-case-requires : tie.Need-write-case-requires Inv-loop μ-loop
 write-case-requires c κs = search needs
 
+compose-case-requires : tie.Need-compose-case-requires Inv-loop μ-loop
+compose-case-requires c κs = search needs
+
+parse-case-requires : tie.Need-parse-case-requires Inv-loop μ-loop
+parse-case-requires c κs = search needs
+
 returns : tie.Need-returns Inv-loop μ-loop
 returns c = search needs
 
@@ -66,6 +74,8 @@ main-spec =
     least-case-requires
     plan-case-requires
     write-case-requires
+    compose-case-requires
+    parse-case-requires
     returns
     add-k
     loop-less
