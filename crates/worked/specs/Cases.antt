@@ -1,11 +1,14 @@
--- Document 01's cases with a ●, and more: one table, and one theorem that every case holds of the definitions.
+-- Document 01's cases with a ●, the lines of document 02, §1, and more: one table, and one theorem that every case holds of the
+-- definitions.
 use Prim.Native.Nat.{ℕ}
+use Prim.Native.String.{String}
 use mathlib.Core.Path.{_≡_, refl, sym, ap, _∙_, subst}
 use mathlib.Core.Bool.{Bool, true, false, true≢false}
 use mathlib.Core.List.{List, [], _∷_, map}
 use lib.IntN.{ℤ, pos, negsuc}
 use Rattle.sums.specs.Sum.{sum}
-use Rattle.sums.specs.Lists.{All}
+use Rattle.sums.specs.Lists.{All, keep}
+use Rattle.sums.specs.Same.{sameList}
 use Rattle.order.specs.Order.{Order, endAt, endOf}
 use Rattle.order.specs.Sorted.{insert, distinct, dueTimes}
 use Rattle.order.specs.Class.{classes, lastThatSuffices, classFor, classOf, processorsIn, processorsTo}
@@ -16,20 +19,28 @@ use Rattle.plan.specs.Check.{numbersOf, rowsOf, every, everyTwo, isRight}
 use Rattle.plan.specs.CheckLaws.{isRight-iff}
 use Rattle.plan.specs.NumberLaws.{rows-of-numbers}
 use Rattle.profile.specs.Profile.{owed, classOwes, owedFrom, onHandFrom}
-use Rattle.profile.specs.Reason.{Reason, overEnd, stairs, IsReason, owedOf, onHandOf}
+use Rattle.profile.specs.Reason.{Reason, overEnd, stairs, IsReason, Stands, owedOf, onHandOf}
 use Rattle.profile.specs.Search.{Found, found, choices, ranked, firstSuch, firstOverfull, reasonOf}
 use Rattle.profile.specs.ReasonLaws.{reason-found}
+use Rattle.profile.specs.Standing.{jobsOverEnd, overfullStairs, reasonsAt, isOneOf, isStanding}
+use Rattle.profile.specs.StandingLaws.{standing-is}
+use Rattle.text.specs.Text.{ascii, digitsWithin, decimal, signedDecimal}
+use Rattle.sentence.specs.Line.{classesFrom, lineOf, composed, readBack}
+use Rattle.sentence.specs.LineLaws.{reads-to}
 use Rattle.profile.specs.Least.{weightAt, weightFrom, heaviest, leastReach, leastLateness}
 use Rattle.sums.specs.Most.{largest, most}
 use Rattle.feasible.specs.Least.{is-least}
-use Rattle.worked.specs.Orders.{A, B, C, D, needZero, overdue, twoOverfull}
+use Rattle.worked.specs.Orders.{A, B, C, D, needZero, overdue, twoOverfull, twoLate}
 
--- a case: a least lateness; a reason at a bound with its minutes owed and on hand; a plan and whether it is right
+-- a case: a least lateness; a reason at a bound with its minutes owed and on hand; a plan and whether it is right; the line of a reason,
+-- and a reason that does not stand
 pub data Case : Type 0 where
   leastIs : Order → ℤ → Case
   reasonIs : Order → ℤ → Reason → ℕ → ℤ → Case
   rightIs : Order → ℤ → List Row → Case
   wrongIs : Order → ℤ → List Row → Case
+  lineIs : Order → ℤ → Reason → String → Case
+  noLine : Order → ℤ → Reason → Case
 
 -- what a case says, in the words of the definitions
 abbrev pub Holds : Case → Type 0
@@ -38,6 +49,9 @@ Holds (reasonIs o bound reason owes hand) =
     IsReason o bound reason × (owedOf o bound reason ≡ owes) × (onHandOf o bound reason ≡ hand)
 Holds (rightIs o bound rows) = Right o bound rows
 Holds (wrongIs o bound rows) = ¬ Right o bound rows
+Holds (lineIs o bound reason text) =
+    Stands o bound reason × (composed o bound (found reason) ≡ ascii text) × (readBack o bound (ascii text) ≡ found reason)
+Holds (noLine o bound reason) = (¬ Stands o bound reason) × (composed o bound (found reason) ≡ [])
 
 -- a row: job, processor, from, to; and a row of job 1 on processor 1
 abbrev row : ℕ → ℕ → ℕ → ℕ → Row
@@ -60,6 +74,16 @@ cases =
     ∷ leastIs overdue (pos 6)
     ∷ rightIs C (pos 0) (piece 0 1 ∷ piece 1 3 ∷ [])
     ∷ wrongIs C (pos 0) (piece 0 2 ∷ piece 1 2 ∷ [])
+    -- document 02, §1: its two lines, and that of A
+    ∷ lineIs B (pos 0) (stairs (pos 4 ∷ pos 2 ∷ [])) "memory 8 due 4, memory 4 due 2: owed 8, on hand 6"
+    ∷ lineIs C (negsuc 7) (overEnd 1) "job 1: time 3, end 2: owed 3, on hand 2"
+    ∷ lineIs A (pos 0) (stairs (pos 3 ∷ pos 3 ∷ [])) "memory 8 due 3, memory 4 due 3: owed 7, on hand 6"
+    -- beyond them: a negative end; of three jobs each late one has a line, the other none, and no staircase has one
+    ∷ lineIs C (negsuc 19) (overEnd 1) "job 1: time 3, end -10: owed 3, on hand -10"
+    ∷ lineIs twoLate (pos 0) (overEnd 1) "job 1: time 3, end 1: owed 3, on hand 1"
+    ∷ lineIs twoLate (pos 0) (overEnd 3) "job 3: time 5, end 2: owed 5, on hand 2"
+    ∷ noLine twoLate (pos 0) (overEnd 2)
+    ∷ noLine twoLate (pos 0) (stairs (pos 2 ∷ []))
     -- beyond document 01's: of two overfull staircases, the one that ranks first
     ∷ reasonIs twoOverfull (pos 0) (stairs (pos 4 ∷ pos 2 ∷ [])) 8 (pos 6)
     -- an empty row, and one that goes backwards, beside a right plan
@@ -85,6 +109,8 @@ data Value : Type 0 where
   leastOf : Verdict → ℤ → Value
   reasonAt : Found Reason → ℕ → ℤ → Value
   checked : Bool → Value
+  linesAt : Verdict → List ℕ → Found Reason → Value
+  standing : Bool → List ℕ → Value
 
 -- its value as computed, and as the case states it
 abbrev computed : Case → Value
@@ -93,12 +119,17 @@ computed (reasonIs o bound reason owes hand) =
     reasonAt (reasonOf o bound) (owedOf o bound reason) (onHandOf o bound reason)
 computed (rightIs o bound rows) = checked (isRight o bound (numbersOf rows))
 computed (wrongIs o bound rows) = checked (isRight o bound (numbersOf rows))
+computed (lineIs o bound reason text) =
+    linesAt (judge (orderRows limits o)) (composed o bound (found reason)) (readBack o bound (ascii text))
+computed (noLine o bound reason) = standing (isStanding o bound reason) (composed o bound (found reason))
 
 abbrev stated : Case → Value
 stated (leastIs o least) = leastOf accepted least
 stated (reasonIs o bound reason owes hand) = reasonAt (found reason) owes hand
 stated (rightIs o bound rows) = checked true
 stated (wrongIs o bound rows) = checked false
+stated (lineIs o bound reason text) = linesAt accepted (ascii text) (found reason)
+stated (noLine o bound reason) = standing false []
 
 right-rows : (o : Order) (bound : ℤ) (rows : List Row) → isRight o bound (numbersOf rows) ≡ true → Right o bound rows
 right-rows o bound rows e =
@@ -123,6 +154,13 @@ case-holds (rightIs o bound rows) e = right-rows o bound rows (cc)
 case-holds (wrongIs o bound rows) e =
     let no-plan : isRight o bound (numbersOf rows) ≡ false = cc in
     λ r. true≢false (sym (rows-right o bound rows r) ∙ no-plan)
+case-holds (lineIs o bound reason text) e =
+    let a : Accepted o = cc in
+    let back : readBack o bound (ascii text) ≡ found reason = cc in
+    (reads-to o a bound (ascii text) reason .0 back .0, cc, back)
+case-holds (noLine o bound reason) e =
+    let not-standing : isStanding o bound reason ≡ false = cc in
+    (λ s. true≢false (sym (standing-is o bound reason .1 s) ∙ not-standing), cc)
 
 all-hold : (cs : List Case) → map computed cs ≡ map stated cs → All Holds cs
 all-hold [] e = tt
@@ -134,7 +172,8 @@ all-hold (c ∷ cs) e =
 all-computed : map computed cases ≡ map stated cases
 unfolding sum endAt endOf insert distinct dueTimes classes lastThatSuffices classFor classOf processorsIn processorsTo judge firstAfter
     fitsSome numbersOf every everyTwo isRight owed classOwes owedFrom onHandFrom choices ranked firstSuch firstOverfull reasonOf
-    weightAt weightFrom largest heaviest most leastReach leastLateness
+    weightAt weightFrom largest heaviest most leastReach leastLateness keep jobsOverEnd overfullStairs reasonsAt isOneOf sameList
+    classesFrom lineOf composed readBack digitsWithin decimal signedDecimal
 all-computed = refl
 
 -- every case holds

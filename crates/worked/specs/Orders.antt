@@ -34,3 +34,7 @@ abbrev pub twoOverfull : Order
 twoOverfull =
     order (8 ∷ 4 ∷ [])
     (job 2 (pos 4) 8 ∷ job 2 (pos 4) 8 ∷ job 2 (pos 2) 4 ∷ job 2 (pos 2) 4 ∷ job 1 (pos 4) 4 ∷ [])
+
+-- memory 4; jobs (3, 1, 0), (1, 9, 0), (5, 2, 0): at 0 the first and the last are over their ends
+abbrev pub twoLate : Order
+twoLate = order (4 ∷ []) (job 3 (pos 1) 0 ∷ job 1 (pos 9) 0 ∷ job 5 (pos 2) 0 ∷ [])
