@@ -1,4 +1,5 @@
-/* Plans an order from C: two processors, three jobs. Prints the least lateness, a plan that meets it, and why 0 is too tight. */
+/* Plans an order from C: two processors, three jobs. Prints the least lateness, a plan that meets it, and why 0 is too tight, in
+ * due times and as a sentence. */
 #include "highboyrobin.h"
 #include <stdio.h>
 
@@ -7,13 +8,16 @@ int main(void) {
   const uint32_t jobs[] = {/* time, due, need */ 3, 3, 8, 3, 3, 4, 2, 4, 2};
   static uint8_t file[HBR_MOST_BYTES];
   static uint32_t rows[4 * HBR_MOST_ROWS];
-  int32_t length[HBR_WRITE_ANSWER], least[HBR_LEAST_ANSWER], reason[HBR_REASON_ANSWER];
+  static uint8_t line[HBR_MOST_LINE];
+  int32_t length[HBR_WRITE_ANSWER], least[HBR_LEAST_ANSWER], reason[HBR_REASON_ANSWER], written[HBR_SENTENCE_ANSWER];
 
   uint32_t result = hbr_write(memories, 2, jobs, 9, file, sizeof file, length, HBR_WRITE_ANSWER);
   if (result == 0)
     result = hbr_least(file, (size_t)length[0], rows, 4 * HBR_MOST_ROWS, least, HBR_LEAST_ANSWER);
   if (result == 0)
     result = hbr_reason(file, (size_t)length[0], 0, reason, HBR_REASON_ANSWER);
+  if (result == 0)
+    result = hbr_sentence(file, (size_t)length[0], 0, reason, HBR_REASON_ANSWER, line, sizeof line, written, HBR_SENTENCE_ANSWER);
   if (result != 0) {
     printf("refused %u, job %u\n", hbr_number(result), hbr_job(result));
     return 1;
@@ -27,7 +31,7 @@ int main(void) {
     printf("lateness 0 is too tight: due times");
     for (int k = 0; k < reason[1]; k++)
       printf(" %d", reason[3 + k]);
-    printf("\n");
+    printf("\n%.*s\n", (int)written[0], (const char *)line);
   }
   return 0;
 }

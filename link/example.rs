@@ -1,7 +1,9 @@
-// Plans an order from Rust: two processors, three jobs. Prints the least lateness, a plan that meets it, and why 0 is too tight.
+// Plans an order from Rust: two processors, three jobs. Prints the least lateness, a plan that meets it, and why 0 is too tight, in
+// due times and as a sentence.
 #[allow(dead_code)]
 mod highboyrobin;
-use highboyrobin::{judge, least, reason, write, Job, Reason, Refused, Row, MOST_BYTES};
+use highboyrobin::{judge, least, reason, sentence, write};
+use highboyrobin::{Job, Reason, Refused, Row, MOST_BYTES, MOST_LINE};
 
 fn main() -> Result<(), Refused> {
     let memories = [8, 4];
@@ -35,10 +37,10 @@ fn main() -> Result<(), Refused> {
             row.job, row.processor, row.from, row.to
         );
     }
-    if let Some(Reason::Stairs { classes, dues }) = reason(file, 0)? {
+    if let Some(why @ Reason::Stairs { classes, dues }) = reason(file, 0)? {
         print!("lateness 0 is too tight: due times");
         dues[..classes].iter().for_each(|due| print!(" {due}"));
-        println!();
+        println!("\n{}", sentence(file, 0, &why, &mut [0; MOST_LINE])?);
     }
     Ok(())
 }

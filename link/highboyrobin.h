@@ -11,12 +11,12 @@
  *
  * Results. Each function returns 0 where it succeeds, else a refusal: its number is hbr_number(result), and the job that it is
  * about, 0 where it is about none, hbr_job(result). Of several refusals that apply the first is told: HBR_SHORT_ANSWER,
- * HBR_PART_JOB, 12, then 1 to 11 upwards.
+ * HBR_PART_JOB or HBR_SHORT_REASON, 12, then 1 to 11 upwards.
  *
  * Memory. You own every buffer; nothing is kept after a call, and nothing is allocated. Two buffers of one call must not overlap
  * unless both are const. Lengths count elements, not bytes. Pointers must be valid and aligned, not NULL, also where the length is
- * 0. A REFUSED CALL WRITES NOTHING, neither to rows or file nor to the answer. A call that succeeds leaves what lies beyond its
- * rows, its file or its answer as it was.
+ * 0. A REFUSED CALL WRITES NOTHING, neither to rows, file or line nor to the answer. A call that succeeds leaves what lies beyond
+ * its rows, its file, its line or its answer as it was.
  *
  * Threads. A call keeps nothing, so calls may run at once on several threads, and a call may be interrupted by another: in a
  * signal or interrupt handler, or by a thread switch. As long as a call runs, no buffer that it writes may be read or written by
@@ -36,11 +36,12 @@
 extern "C" {
 #endif
 
-/* the most processors and jobs of an order, bytes of its file, rows of a plan */
+/* the most processors and jobs of an order, bytes of its file, rows of a plan, bytes of a reason's line */
 #define HBR_MOST_PROCESSORS 16
 #define HBR_MOST_JOBS 48
 #define HBR_MOST_BYTES 652
 #define HBR_MOST_ROWS 3024
+#define HBR_MOST_LINE 541
 
 /* refusals */
 #define HBR_NO_PROCESSOR 1        /* the order has no processor */
@@ -51,10 +52,11 @@ extern "C" {
 #define HBR_DUE_OUT_OF_RANGE 6    /* a job's due time is not -1000000 to 1000000 */
 #define HBR_FITS_NO_PROCESSOR 7   /* a job needs more memory than any processor has */
 #define HBR_BOUND_OUT_OF_RANGE 8  /* the bound is not -10000000 to 10000000 */
-#define HBR_BUFFER_TOO_SHORT 9    /* rows: hbr_judge tells how many; file: 4 bytes a processor, 12 a job, and 12 */
+#define HBR_BUFFER_TOO_SHORT 9    /* rows: as hbr_judge tells; file: 4 bytes a processor, 12 a job, and 12; line: its length */
 #define HBR_BOUND_TOO_TIGHT 10    /* no plan whatever meets the bound: hbr_reason tells why */
 #define HBR_TOO_MANY_ROWS 11      /* over 3024 rows to check */
 #define HBR_BAD_FILE 12           /* the file is under 12 or over 652 bytes, or its lists and its trailer disagree */
+#define HBR_SHORT_REASON 253      /* the reason has under 19 numbers */
 #define HBR_PART_JOB 254          /* the numbers of the jobs are not three to a job */
 #define HBR_SHORT_ANSWER 255      /* the answer is shorter than the function's HBR_.._ANSWER */
 
@@ -95,6 +97,26 @@ uint32_t hbr_plan(const uint8_t *file, size_t file_length, int32_t bound, uint32
 #define HBR_STAIRS 2
 #define HBR_REASON_ANSWER 19
 uint32_t hbr_reason(const uint8_t *file, size_t file_length, int32_t bound, int32_t *answer, size_t answer_length);
+
+/* A reason as one English line, written from line[0] on, without a line feed and without a closing 0:
+ *     job 1: time 3, end 2: owed 3, on hand 2
+ *     memory 8 due 4, memory 4 due 2: owed 8, on hand 6
+ * reason is the first 19 numbers lent, as hbr_reason answers them, by whomever they were made; numbers after them are not looked
+ * at. A reason stands if it is any job whose time exceeds its due time plus the bound or, where there is no such job, any count of
+ * classes with due times that never rise, each of them some job's, by which those classes owe more minutes than they have on hand.
+ * A reason that does not stand, HBR_NONE too, has an empty line: the call succeeds, answer[0] is 0 and line is left as it was.
+ * HBR_MOST_LINE bytes are always enough. Refusals, in the order in which they are told: 255, 253, 12, 1 to 8, 9.
+ * answer[0] the length of the line. */
+#define HBR_SENTENCE_ANSWER 1
+uint32_t hbr_sentence(const uint8_t *file, size_t file_length, int32_t bound, const int32_t *reason, size_t reason_length,
+                      uint8_t *line, size_t line_length, int32_t *answer, size_t answer_length);
+
+/* Reads a line back: the one reason that stands at this bound and whose line these bytes are exactly. A line of any length may be
+ * lent. Refusals, in the order in which they are told: 255, 12, 1 to 8.
+ * answer[0] to answer[18] the reason, as hbr_reason has them; HBR_NONE and zeros for any other line. */
+#define HBR_PARSE_ANSWER 19
+uint32_t hbr_parse(const uint8_t *file, size_t file_length, int32_t bound, const uint8_t *line, size_t line_length,
+                   int32_t *answer, size_t answer_length);
 
 /* Whether rows, made by anybody and in any order, are a right plan that meets the bound: each job gets its full time, on
  * processors whose memory suffices, by its due time plus the bound, and no job and no processor is used twice at a time.

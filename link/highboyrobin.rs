@@ -3,11 +3,12 @@
 //! Times are whole minutes from a common start, minute 0. Jobs and processors are numbered from 1, in the order in which they are
 //! listed. An order is handed over as the bytes of an order file, which `write` makes. A refused call writes nothing.
 
-/// The most processors and jobs of an order, bytes of its file, rows of a plan.
+/// The most processors and jobs of an order, bytes of its file, rows of a plan, bytes of a reason's line.
 pub const MOST_PROCESSORS: usize = 16;
 pub const MOST_JOBS: usize = 48;
 pub const MOST_BYTES: usize = 652;
 pub const MOST_ROWS: usize = 3024;
+pub const MOST_LINE: usize = 541;
 
 /// The functions of the archive, as `highboyrobin.h` declares them. A slice is a pointer and a length in elements.
 pub mod raw {
@@ -39,6 +40,26 @@ pub mod raw {
             file: *const u8,
             file_length: usize,
             bound: i32,
+            answer: *mut i32,
+            answer_length: usize,
+        ) -> u32;
+        pub fn hbr_sentence(
+            file: *const u8,
+            file_length: usize,
+            bound: i32,
+            reason: *const i32,
+            reason_length: usize,
+            line: *mut u8,
+            line_length: usize,
+            answer: *mut i32,
+            answer_length: usize,
+        ) -> u32;
+        pub fn hbr_parse(
+            file: *const u8,
+            file_length: usize,
+            bound: i32,
+            line: *const u8,
+            line_length: usize,
             answer: *mut i32,
             answer_length: usize,
         ) -> u32;
@@ -106,6 +127,7 @@ impl Refused {
             10 => "no plan whatever meets the bound",
             11 => "over 3,024 rows to check",
             12 => "the file is under 12 or over 652 bytes, or its lists and its trailer disagree",
+            253 => "the reason has under 19 numbers",
             254 => "the numbers of the jobs are not three to a job",
             255 => "the answer is too short",
             _ => "no refusal has this number",
@@ -144,11 +166,47 @@ pub struct Least {
 /// Why no plan can meet a bound.
 #[derive(Clone, Copy, Debug, PartialEq, Eq)]
 pub enum Reason {
-    /// The first job whose time exceeds its due time plus the bound.
+    /// A job whose time exceeds its due time plus the bound; `reason` tells the first.
     Job { job: u32, time: u32 },
     /// The first `classes` due times, one for each class of processors from the largest memory down: by these due times plus the
-    /// bound the jobs of these classes need more minutes than their processors have.
+    /// bound the jobs of these classes need more minutes than their processors have. The others are 0.
     Stairs { classes: usize, dues: [i32; 16] },
+}
+
+impl Reason {
+    /// The reason of an answer, `None` where its kind is 0.
+    fn of(answer: &[i32; 19]) -> Option<Reason> {
+        let [kind, number, time, dues @ ..] = *answer;
+        match kind {
+            0 => None,
+            1 => Some(Reason::Job {
+                job: number as u32,
+                time: time as u32,
+            }),
+            _ => Some(Reason::Stairs {
+                classes: number as usize,
+                dues,
+            }),
+        }
+    }
+
+    /// The numbers of the reason; a number that is too large for one is -1, and the reason does not stand.
+    fn numbers(&self) -> [i32; 19] {
+        let mut numbers = [0; 19];
+        match *self {
+            Reason::Job { job, time } => {
+                numbers[0] = 1;
+                numbers[1] = job.try_into().unwrap_or(-1);
+                numbers[2] = time.try_into().unwrap_or(-1);
+            }
+            Reason::Stairs { classes, dues } => {
+                numbers[0] = 2;
+                numbers[1] = classes.try_into().unwrap_or(-1);
+                numbers[3..].copy_from_slice(&dues);
+            }
+        }
+        numbers
+    }
 }
 
 fn told(result: u32) -> Result<(), Refused> {
@@ -223,21 +281,51 @@ pub fn reason(file: &[u8], bound: i32) -> Result<Option<Reason>, Refused> {
             answer.len(),
         )
     })?;
-    Ok(match answer[0] {
-        0 => None,
-        1 => Some(Reason::Job {
-            job: answer[1] as u32,
-            time: answer[2] as u32,
-        }),
-        _ => {
-            let mut dues = [0; 16];
-            dues.copy_from_slice(&answer[3..]);
-            Some(Reason::Stairs {
-                classes: answer[1] as usize,
-                dues,
-            })
-        }
-    })
+    Ok(Reason::of(&answer))
+}
+
+/// A reason as one English line, written from `line[0]` on, without a line feed; `MOST_LINE` bytes are always enough. The reason
+/// may be by anybody: one that does not stand at this bound has an empty line. Refusals: 12, 1 to 9.
+pub fn sentence<'a>(
+    file: &[u8],
+    bound: i32,
+    reason: &Reason,
+    line: &'a mut [u8],
+) -> Result<&'a str, Refused> {
+    let (reason, mut answer) = (reason.numbers(), [0; 1]);
+    let (at, length) = (line.as_mut_ptr(), line.len());
+    told(unsafe {
+        raw::hbr_sentence(
+            file.as_ptr(),
+            file.len(),
+            bound,
+            reason.as_ptr(),
+            reason.len(),
+            at,
+            length,
+            answer.as_mut_ptr(),
+            answer.len(),
+        )
+    })?;
+    let written = &line[..answer[0] as usize];
+    Ok(core::str::from_utf8(written).expect("a line is ASCII"))
+}
+
+/// The one reason that stands at this bound and whose line these bytes are; `None` for any other line. Refusals: 12, 1 to 8.
+pub fn parse(file: &[u8], bound: i32, line: &[u8]) -> Result<Option<Reason>, Refused> {
+    let mut answer = [0; 19];
+    told(unsafe {
+        raw::hbr_parse(
+            file.as_ptr(),
+            file.len(),
+            bound,
+            line.as_ptr(),
+            line.len(),
+            answer.as_mut_ptr(),
+            answer.len(),
+        )
+    })?;
+    Ok(Reason::of(&answer))
 }
 
 /// Whether rows, made by anybody and in any order, are a right plan that meets the bound. Refusals: 12, 1 to 8, 11.

@@ -7,6 +7,7 @@
 
 static int32_t answer[HBR_REASON_ANSWER];
 static uint32_t rows[4 * (HBR_MOST_ROWS + 1)];
+static uint8_t line[HBR_MOST_LINE];
 static uint8_t file[HBR_MOST_BYTES];
 static uint32_t memories[HBR_MOST_PROCESSORS + 1];
 static uint32_t jobs[3 * (HBR_MOST_JOBS + 1)];
@@ -15,6 +16,7 @@ static int wrong;
 static void fill(void) {
   memset(answer, KEPT, sizeof answer);
   memset(rows, KEPT, sizeof rows);
+  memset(line, KEPT, sizeof line);
 }
 
 /* every byte is as fill left it */
@@ -25,9 +27,9 @@ static int as_filled(const void *buffer, size_t size) {
   return 1;
 }
 
-/* the result is this refusal of this job, and answer and rows are as fill left them */
+/* the result is this refusal of this job, and answer, rows and line are as fill left them */
 static void refused(uint32_t result, uint32_t number, uint32_t job) {
-  int kept = as_filled(answer, sizeof answer) && as_filled(rows, sizeof rows);
+  int kept = as_filled(answer, sizeof answer) && as_filled(rows, sizeof rows) && as_filled(line, sizeof line);
   if (hbr_number(result) != number || hbr_job(result) != job || !kept) {
     printf("refusal %u of job %u: got %u of job %u, %s\n", number, job, hbr_number(result), hbr_job(result),
            kept ? "nothing written" : "something written");
@@ -66,6 +68,20 @@ static void of_orders(void) {
   }
 }
 
+/* the refusals of composing and of reading back on the same order; at -8 the line of job 1 has 39 bytes */
+static void of_lines(size_t length) {
+  static const int32_t job[HBR_REASON_ANSWER] = {HBR_JOB, 1, 3};
+  const size_t short_reason = HBR_REASON_ANSWER - 1;
+  refused(hbr_sentence(file, length, -8, job, short_reason, line, 0, answer, 0), HBR_SHORT_ANSWER, 0);
+  refused(hbr_sentence(file, 11, -8, job, short_reason, line, 0, answer, HBR_SENTENCE_ANSWER), HBR_SHORT_REASON, 0);
+  refused(hbr_sentence(file, 11, -8, job, HBR_REASON_ANSWER, line, 0, answer, HBR_SENTENCE_ANSWER), HBR_BAD_FILE, 0);
+  refused(hbr_sentence(file, length, -10000001, job, HBR_REASON_ANSWER, line, 0, answer, HBR_SENTENCE_ANSWER),
+          HBR_BOUND_OUT_OF_RANGE, 0);
+  refused(hbr_sentence(file, length, -8, job, HBR_REASON_ANSWER, line, 38, answer, HBR_SENTENCE_ANSWER), HBR_BUFFER_TOO_SHORT, 0);
+  refused(hbr_parse(file, length, -8, line, 39, answer, HBR_PARSE_ANSWER - 1), HBR_SHORT_ANSWER, 0);
+  refused(hbr_parse(file, length, -10000001, line, 39, answer, HBR_PARSE_ANSWER), HBR_BOUND_OUT_OF_RANGE, 0);
+}
+
 /* the refusals of a call on an accepted order: memory 4, job (3, 10, 4) */
 static void of_calls(void) {
   if (write(1, 4, 1, 3, 10, 4) != 0)
@@ -78,8 +94,10 @@ static void of_calls(void) {
   refused(hbr_check(file, length, 0, rows, 4 * 3025, answer, HBR_CHECK_ANSWER), HBR_TOO_MANY_ROWS, 0);
   refused(hbr_judge(file, length, answer, HBR_JUDGE_ANSWER - 1), HBR_SHORT_ANSWER, 0);
   refused(hbr_reason(file, length, 0, answer, HBR_REASON_ANSWER - 1), HBR_SHORT_ANSWER, 0);
+  of_lines(length);
   memset(file, 0, 11);
   refused(hbr_judge(file, 11, answer, HBR_JUDGE_ANSWER), HBR_BAD_FILE, 0);
+  refused(hbr_parse(file, 11, 0, line, 0, answer, HBR_PARSE_ANSWER), HBR_BAD_FILE, 0);
 }
 
 int main(void) {

@@ -1,10 +1,10 @@
-// Every function of the safe Rust wrapper, on document 01's orders A and C: answers, refusals and what is left as it was. A
+// Every function of the safe Rust wrapper, on document 01's orders A, B and C: answers, refusals and what is left as it was. A
 // refusal's words are those of the table in docs/LINKING.md.
 #[allow(dead_code)]
 #[path = "../../link/highboyrobin.rs"]
 mod highboyrobin;
-use highboyrobin::{check, judge, least, plan, reason, write};
-use highboyrobin::{Job, Least, Reason, Refused, Row, Sizes, MOST_BYTES};
+use highboyrobin::{check, judge, least, parse, plan, reason, sentence, write};
+use highboyrobin::{Job, Least, Reason, Refused, Row, Sizes, MOST_BYTES, MOST_LINE};
 
 const KEPT: Row = Row {
     job: 7,
@@ -94,6 +94,59 @@ fn order_a() {
     assert_eq!((classes, &dues[..3]), (2, &[3, 3, 0][..]));
 }
 
+// a reason composes to this line and is read back from it; one byte less is refused, and nothing beyond the line changes
+fn composes(file: &[u8], bound: i32, reason: Reason, line: &str) {
+    let mut bytes = [7; MOST_LINE];
+    let length = line.len();
+    assert_eq!(sentence(file, bound, &reason, &mut bytes), Ok(line));
+    assert_eq!(bytes[length..], [7; MOST_LINE][length..]);
+    assert_eq!(parse(file, bound, line.as_bytes()), Ok(Some(reason)));
+    let mut bytes = [7; MOST_LINE];
+    let told = sentence(file, bound, &reason, &mut bytes[..length - 1]);
+    assert_eq!(told, Err(refused(9, 0)));
+    assert_eq!(bytes, [7; MOST_LINE]);
+}
+
+// document 02's line of C at -8
+fn line_of_c() {
+    let c = [(3, 10, 4)].map(|(time, due, need)| Job { time, due, need });
+    let mut bytes = [0; MOST_BYTES];
+    let length = write(&[4], &c, &mut bytes).unwrap();
+    let file = &bytes[..length];
+    let late = Reason::Job { job: 1, time: 3 };
+    composes(file, -8, late, "job 1: time 3, end 2: owed 3, on hand 2");
+    let nobody = [(0, 3), (2, 3), (1, 2), (u32::MAX, 3), (1, u32::MAX)];
+    for (job, time) in nobody {
+        let none = Reason::Job { job, time };
+        assert_eq!(sentence(file, -8, &none, &mut []), Ok(""));
+    }
+    assert_eq!(sentence(file, -7, &late, &mut []), Ok(""));
+    assert_eq!(parse(file, -8, b""), Ok(None));
+    assert_eq!(parse(file, -10_000_001, b""), Err(refused(8, 0)));
+}
+
+// document 02's line of B at 0: memories 8, 4; jobs (2, 4, 8) twice, (2, 2, 4) twice
+fn line_of_b() {
+    let b = [(2, 4, 8), (2, 4, 8), (2, 2, 4), (2, 2, 4)];
+    let b = b.map(|(time, due, need)| Job { time, due, need });
+    let mut bytes = [0; MOST_BYTES];
+    let length = write(&[8, 4], &b, &mut bytes).unwrap();
+    let file = &bytes[..length];
+    let Ok(Some(stairs @ Reason::Stairs { classes, dues })) = reason(file, 0) else {
+        panic!("B at 0 has no staircase");
+    };
+    let line = "memory 8 due 4, memory 4 due 2: owed 8, on hand 6";
+    composes(file, 0, stairs, line);
+    for classes in [0, 1, 3, classes + (1 << 32), usize::MAX] {
+        let none = Reason::Stairs { classes, dues };
+        assert_eq!(sentence(file, 0, &none, &mut []), Ok(""));
+    }
+    assert_eq!(parse(file, 0, format!("{line}\n").as_bytes()), Ok(None));
+    assert_eq!(parse(file, 1, line.as_bytes()), Ok(None));
+    let told = sentence(&[0; 11], 0, &stairs, &mut []);
+    assert_eq!(told, Err(refused(12, 0)));
+}
+
 // number and words of each row of the table of refusals
 fn table() -> Vec<(u32, &'static str)> {
     let page = include_str!("../../docs/LINKING.md");
@@ -113,7 +166,8 @@ fn table() -> Vec<(u32, &'static str)> {
 fn words() {
     let table = table();
     let numbers: Vec<u32> = table.iter().map(|row| row.0).collect();
-    assert_eq!(numbers, [1, 2, 3, 4, 5, 6, 7, 8, 9, 10, 11, 12, 254, 255]);
+    let all = [1, 2, 3, 4, 5, 6, 7, 8, 9, 10, 11, 12, 253, 254, 255];
+    assert_eq!(numbers, all);
     for (number, words) in table {
         let plain: Box<dyn std::error::Error> = refused(number, 0).into();
         assert_eq!(plain.to_string(), format!("refusal {number}: {words}"));
@@ -140,6 +194,8 @@ fn main() {
     order_c();
     refusals();
     order_a();
+    line_of_c();
+    line_of_b();
     words();
     println!("wrapper: every function answers as it should");
 }

@@ -1,16 +1,20 @@
 //! Holds the independent implementation against itself before anything else is held against it: the
 //! flow against the staircases, the table of completions against trying each, tiny orders against a
-//! search minute by minute, its plans against the four rules, its files against their reader.
+//! search minute by minute, its plans against the four rules, its files against their reader, its
+//! two readers of lines against each other.
 
+use crate::draw::lines::changed;
 use crate::draw::orders::{tiny, LARGE_FAMILIES, SMALL_FAMILIES};
 use crate::draw::Random;
 use crate::independent::{
-    judge, least, least_between, meets, plan, read, reason, reason_by_table, reason_by_trying,
-    right, staircases, write, Order,
+    composed, judge, least, least_between, meets, plan, read, read_by_form, read_by_trying, reason,
+    reason_by_table, reason_by_trying, right, staircases, standing, write, Order,
 };
 use crate::search;
+use std::collections::BTreeSet;
 
 const FEW: usize = 20_000;
+const FEW_LINES: usize = 300;
 
 /// How many orders agreed, or in what one did not.
 pub fn run(small: u64, large: u64) -> Result<u64, String> {
@@ -18,7 +22,9 @@ pub fn run(small: u64, large: u64) -> Result<u64, String> {
         for seed in 0..times {
             let mut random = Random::new(seed);
             let (_, family) = families[seed as usize % families.len()];
-            agrees(&family(&mut random))?;
+            let order = family(&mut random);
+            agrees(&order)?;
+            worded(&order, &mut random)?;
         }
     }
     for seed in 0..small {
@@ -64,6 +70,35 @@ fn bounded(order: &Order, bound: i32, met: bool) -> Result<(), String> {
     )?;
     let tried = staircases(order) > FEW || reason == reason_by_trying(order, bound);
     hold(order, "equal by trying each", tried)
+}
+
+/// The lines of an order with few staircases, at some bounds. Just where a bound is too tight some
+/// line composes, no two are equal, each reads back both ways, and changed it reads the same both
+/// ways.
+fn worded(order: &Order, random: &mut Random) -> Result<(), String> {
+    if staircases(order) > FEW_LINES {
+        return Ok(());
+    }
+    let least = least(order);
+    for bound in [least - 100, least - 2, least - 1, least] {
+        let all = standing(order, bound);
+        let line = |reason| composed(order, bound, reason);
+        let lines: BTreeSet<String> = all.iter().map(line).collect();
+        let told = all.is_empty() == (bound == least) && !lines.contains("");
+        hold(order, "told just where too tight", told)?;
+        hold(order, "told apart", lines.len() == all.len())?;
+        let by_form = |line: &[u8]| read_by_form(order, bound, line);
+        let by_trying = |line: &[u8]| read_by_trying(order, bound, line);
+        let read = |reason| by_form(line(reason).as_bytes()).as_ref() == Some(reason);
+        hold(order, "read back", all.iter().all(read))?;
+        for _ in 0..all.len().min(4) {
+            let good = line(&all[random.below(all.len())]);
+            let bad = changed(random, &good);
+            let same = |line: &[u8]| by_form(line) == by_trying(line);
+            hold(order, "read alike", same(good.as_bytes()) && same(&bad))?;
+        }
+    }
+    Ok(())
 }
 
 fn searched(order: &Order) -> Result<(), String> {

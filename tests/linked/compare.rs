@@ -29,6 +29,10 @@ pub fn wrong(
             should.file.put(bytes);
             should.answer.put(&[bytes.len() as i32]);
         }
+        Expected::Line(line) => {
+            should.line.put(line.as_bytes());
+            should.answer.put(&[line.len() as i32]);
+        }
         Expected::Plan { bound, lateness } => {
             let rows = match planned(&order(), *bound, lateness.is_some().into(), after) {
                 Ok(rows) => rows,
@@ -91,6 +95,8 @@ fn unequal(should: &Call, is: &Call) -> Option<String> {
         ("memories", is.memories.unequal_at(&should.memories)),
         ("jobs", is.jobs.unequal_at(&should.jobs)),
         ("rows", is.rows.unequal_at(&should.rows)),
+        ("reason", is.reason.unequal_at(&should.reason)),
+        ("line", is.line.unequal_at(&should.line)),
         ("answer", is.answer.unequal_at(&should.answer)),
     ];
     let (name, place) = buffers.iter().find(|(_, place)| place.is_some())?;

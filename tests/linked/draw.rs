@@ -1,13 +1,15 @@
-//! Seeded draws: the same seed gives the same orders, files, row lists and buffers on every
-//! machine.
+//! Seeded draws: the same seed gives the same orders, files, row lists, reasons, lines and buffers
+//! on every machine.
 
 pub mod bounds;
 pub mod damage;
 pub mod files;
 pub mod lengths;
+pub mod lines;
 pub mod lists;
 pub mod orders;
 mod packed;
+pub mod reasons;
 pub mod sharp;
 
 /// The splitmix64 generator.

@@ -1,9 +1,9 @@
 //! What a call must answer, wholly by the independent implementation. "Of several refusals that
-//! apply the first is told": 255, 254, 12, then 1 to 11 upwards.
+//! apply the first is told": 255, 254 or 253, 12, then 1 to 11 upwards.
 
 use crate::independent::{self, Job, Order, Reason, Refusal, MOST_ROWS};
 use crate::lent::Call;
-use crate::library::Function;
+use crate::library::{Function, REASON_NUMBERS};
 use std::ops::RangeInclusive;
 
 const BOUNDS: RangeInclusive<i32> = -10_000_000..=10_000_000;
@@ -19,8 +19,10 @@ pub enum Expected {
         bound: i32,
         lateness: Option<i32>,
     },
-    /// These bytes, and their count in the answer.
+    /// These bytes in the file, and their count in the answer.
     File(Vec<u8>),
+    /// These bytes in the line, and their count in the answer.
+    Line(String),
 }
 
 /// The order of the file that was read last, and its least lateness once that was asked for.
@@ -68,6 +70,9 @@ pub fn expected(function: Function, call: &Call, known: &mut Known) -> Expected 
     if function == Function::Write {
         return written(call);
     }
+    if function == Function::Sentence && call.reason.len() < REASON_NUMBERS {
+        return refused(253, 0);
+    }
     known.turn_to(call.file.content());
     match refusal(function, call, known) {
         Some(refusal) => Expected::Refused(refusal),
@@ -107,7 +112,8 @@ pub fn listed(call: &Call) -> Order {
     }
 }
 
-/// The refusal of a function that reads a file: 12, then 1 to 11 upwards.
+/// The refusal of a function that reads a file: 12, then 1 to 11 upwards, but for a line that is
+/// too long.
 fn refusal(function: Function, call: &Call, known: &mut Known) -> Option<Refusal> {
     let order = match &known.order {
         Err(refusal) => return Some(*refusal),
@@ -144,12 +150,28 @@ fn answer(function: Function, call: &Call, known: &mut Known) -> Expected {
         Function::Reason => {
             Expected::Answer(reason_numbers(independent::reason(known.order(), bound)))
         }
+        Function::Sentence => sentence(call, known.order()),
+        Function::Parse => {
+            let read = independent::read_back(known.order(), bound, call.line.content());
+            Expected::Answer(reason_numbers(read))
+        }
         Function::Check => {
             let right = independent::right(known.order(), bound.into(), call.rows.content());
             Expected::Answer(vec![right.into()])
         }
         Function::Write => written(call),
     }
+}
+
+/// The line of the reason lent, or 9; "anything else composes to an empty line".
+fn sentence(call: &Call, order: &Order) -> Expected {
+    let reason = reason_named(&call.reason.content()[..REASON_NUMBERS]);
+    let composed = |reason| independent::composed(order, call.bound, &reason);
+    let line = reason.map_or(String::new(), composed);
+    if line.len() > call.line.len() {
+        return refused(9, 0);
+    }
+    Expected::Line(line)
 }
 
 fn counts(order: &Order) -> Vec<i32> {
@@ -161,7 +183,7 @@ fn counts(order: &Order) -> Vec<i32> {
 /// The 19 numbers of hbr_reason: its kind, job or class count, time, then the due times of the
 /// classes.
 pub fn reason_numbers(reason: Option<Reason>) -> Vec<i32> {
-    let mut numbers = vec![0; Function::Reason.answer_length()];
+    let mut numbers = vec![0; REASON_NUMBERS];
     match reason {
         None => {}
         Some(Reason::Job { job, time }) => {
@@ -173,4 +195,21 @@ pub fn reason_numbers(reason: Option<Reason>) -> Vec<i32> {
         }
     }
     numbers
+}
+
+/// The reason that has these 19 numbers, whether it stands or not, or none where they are of no
+/// reason's form.
+pub fn reason_named(numbers: &[i32]) -> Option<Reason> {
+    let reason = match numbers[0] {
+        1 => Reason::Job {
+            job: u32::try_from(numbers[1]).ok()?,
+            time: u32::try_from(numbers[2]).ok()?,
+        },
+        2 => {
+            let classes = usize::try_from(numbers[1]).ok()?;
+            Reason::Stairs(numbers[3..].get(..classes)?.to_vec())
+        }
+        _ => return None,
+    };
+    (reason_numbers(Some(reason.clone())) == numbers).then_some(reason)
 }

@@ -1,10 +1,13 @@
 //! Document 01's "Orders to try", the small examples of its refusal table and its order file of C,
-//! with the values that stand there.
+//! with the values that stand there; the lines of document 02 in `fixed/`.
+
+mod lines;
+mod others;
 
 use crate::draw::Random;
 use crate::independent::{write, Job, Order};
 use crate::lent::{job_numbers, Call};
-use crate::library::{Function, READERS};
+use crate::library::{Function, READERS, REASON_NUMBERS};
 use crate::trial::Trial;
 
 const C_FILE: [u8; 28] = [
@@ -46,22 +49,29 @@ pub fn run(trial: &mut Trial) {
     refused_orders(trial);
     other_refusals(trial);
     accepted(trial);
+    trial.begin("document 02", 0);
+    lines::run(trial);
+    others::run(trial);
 }
 
 /// A call on the order's file, all of whose buffers are long enough.
 fn on(random: &mut Random, order: &Order) -> Call {
-    Call::with_file(random, &write(order), 19).with_room(random, ENOUGH)
+    Call::with_file(random, &write(order), 19)
+        .with_room(random, ENOUGH)
+        .with_reason(random, &[0; REASON_NUMBERS])
 }
 
-/// Compares a call with the result and the first numbers of the answer that document 01 gives.
+/// Compares a call with the result and the first numbers of the answer that the document gives.
 fn case(trial: &mut Trial, function: Function, call: Call, result: u32, answer: &[i32]) {
-    let bound = call.bound;
-    let (told, numbers) = trial.call(function, call);
-    if trial.difference.is_none() && (told != result || !numbers.starts_with(answer)) {
-        let name = function.name();
+    let Some((told, after)) = trial.call(function, call) else {
+        return;
+    };
+    let numbers = after.answer.content();
+    if told != result || !numbers.starts_with(answer) {
+        let (name, bound) = (function.name(), after.bound);
         let is = format!("result {told}, answer {numbers:?}");
         trial.differs(format!(
-            "{name} at {bound}: {is}; document 01 has {result}, {answer:?}"
+            "{name} at {bound}: {is}; the document has {result}, {answer:?}"
         ));
     }
 }

@@ -1,7 +1,7 @@
-//! Document 01 in plain Rust, made apart from the proved code and from its text alone: orders,
-//! order files, right plans, the least lateness, reasons. Whether a bound is met is decided by a
-//! maximum flow, never by the staircase sums, so that each of the two can be held against the
-//! other.
+//! Documents 01 and 02 in plain Rust, made apart from the proved code and from their text alone:
+//! orders, order files, right plans, the least lateness, reasons and their lines. Whether a bound
+//! is met is decided by a maximum flow, never by the staircase sums, so that each of the two can be
+//! held against the other.
 
 // a program that takes this module in may use only a part of it
 #![allow(dead_code, unused_imports)]
@@ -16,18 +16,24 @@ mod classes;
 mod flow;
 #[path = "independent/order_file.rs"]
 mod order_file;
+#[path = "independent/reading.rs"]
+mod reading;
 #[path = "independent/reasons.rs"]
 mod reasons;
 #[path = "independent/rules.rs"]
 mod rules;
+#[path = "independent/sentence.rs"]
+mod sentence;
 #[path = "independent/wrap.rs"]
 mod wrap;
 
 pub use accept::judge;
 pub use amounts::{least, least_between, meets, plan};
 pub use order_file::{read, write};
+pub use reading::{read_back, read_by_form, read_by_trying, taken_apart, true_of, Said, Sentence};
 pub use reasons::{overfull, reason, reason_by_table, reason_by_trying, staircases};
 pub use rules::right;
+pub use sentence::{composed, late, line_of, minutes, staircase, standing, stands};
 pub use wrap::{layout, rows_asked, stretches};
 
 /// The most rows of a plan, and the most that the check takes.

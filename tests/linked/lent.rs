@@ -85,6 +85,8 @@ pub struct Call {
     pub jobs: Lent<u32>,
     pub bound: i32,
     pub rows: Lent<u32>,
+    pub reason: Lent<i32>,
+    pub line: Lent<u8>,
     pub answer: Lent<i32>,
 }
 
@@ -97,6 +99,8 @@ impl Call {
             jobs: Lent::filled(0, random, number),
             bound: 0,
             rows: Lent::filled(0, random, number),
+            reason: Lent::filled(0, random, signed),
+            line: Lent::filled(0, random, byte),
             answer: Lent::filled(answer, random, signed),
         }
     }
@@ -132,6 +136,24 @@ impl Call {
     pub fn with_rows(self, random: &mut Random, numbers: &[u32]) -> Call {
         let rows = Lent::holding(numbers, random, number);
         Call { rows, ..self }
+    }
+
+    /// The same with these numbers for a reason.
+    pub fn with_reason(self, random: &mut Random, numbers: &[i32]) -> Call {
+        let reason = Lent::holding(numbers, random, signed);
+        Call { reason, ..self }
+    }
+
+    /// The same with room for a line of so many bytes.
+    pub fn with_line_room(self, random: &mut Random, bytes: usize) -> Call {
+        let line = Lent::filled(bytes, random, byte);
+        Call { line, ..self }
+    }
+
+    /// The same with this line.
+    pub fn with_line(self, random: &mut Random, bytes: &[u8]) -> Call {
+        let line = Lent::holding(bytes, random, byte);
+        Call { line, ..self }
     }
 }
 

@@ -1,5 +1,5 @@
-//! The six functions of the header: what they are called, how long their answers are, which
-//! refusals each can give, and a library as six entries of one form.
+//! The eight functions of the header: what they are called, how long their answers are, which
+//! refusals each can give, and a library as eight entries of one form.
 
 use crate::lent::Call;
 
@@ -9,27 +9,36 @@ pub enum Function {
     Least,
     Plan,
     Reason,
+    Sentence,
+    Parse,
     Check,
     Write,
 }
 
-pub const FUNCTIONS: [Function; 6] = [
+pub const FUNCTIONS: [Function; 8] = [
     Function::Judge,
     Function::Least,
     Function::Plan,
     Function::Reason,
+    Function::Sentence,
+    Function::Parse,
     Function::Check,
     Function::Write,
 ];
 
 /// Those that read an order file.
-pub const READERS: [Function; 5] = [
+pub const READERS: [Function; 7] = [
     Function::Judge,
     Function::Least,
     Function::Plan,
     Function::Reason,
+    Function::Sentence,
+    Function::Parse,
     Function::Check,
 ];
+
+/// The numbers of a reason.
+pub const REASON_NUMBERS: usize = 19;
 
 impl Function {
     pub fn name(self) -> &'static str {
@@ -38,6 +47,8 @@ impl Function {
             Function::Least => "hbr_least",
             Function::Plan => "hbr_plan",
             Function::Reason => "hbr_reason",
+            Function::Sentence => "hbr_sentence",
+            Function::Parse => "hbr_parse",
             Function::Check => "hbr_check",
             Function::Write => "hbr_write",
         }
@@ -48,8 +59,8 @@ impl Function {
         match self {
             Function::Judge => 3,
             Function::Least => 2,
-            Function::Reason => 19,
-            Function::Plan | Function::Check | Function::Write => 1,
+            Function::Reason | Function::Parse => REASON_NUMBERS,
+            Function::Plan | Function::Sentence | Function::Check | Function::Write => 1,
         }
     }
 
@@ -59,7 +70,8 @@ impl Function {
             Function::Judge => &[1, 2, 3, 4, 5, 6, 7, 12, 255],
             Function::Least => &[1, 2, 3, 4, 5, 6, 7, 9, 12, 255],
             Function::Plan => &[1, 2, 3, 4, 5, 6, 7, 8, 9, 10, 12, 255],
-            Function::Reason => &[1, 2, 3, 4, 5, 6, 7, 8, 12, 255],
+            Function::Reason | Function::Parse => &[1, 2, 3, 4, 5, 6, 7, 8, 12, 255],
+            Function::Sentence => &[1, 2, 3, 4, 5, 6, 7, 8, 9, 12, 253, 255],
             Function::Check => &[1, 2, 3, 4, 5, 6, 7, 8, 11, 12, 255],
             Function::Write => &[1, 2, 3, 4, 5, 6, 7, 9, 254, 255],
         }
@@ -70,8 +82,13 @@ impl Function {
         matches!(self, Function::Least | Function::Plan)
     }
 
+    /// Whether it writes or reads a line.
+    pub fn takes_line(self) -> bool {
+        matches!(self, Function::Sentence | Function::Parse)
+    }
+
     pub fn takes_bound(self) -> bool {
-        matches!(self, Function::Plan | Function::Reason | Function::Check)
+        !matches!(self, Function::Judge | Function::Least | Function::Write)
     }
 }
 
@@ -84,6 +101,8 @@ pub struct Library {
     pub least: Entry,
     pub plan: Entry,
     pub reason: Entry,
+    pub sentence: Entry,
+    pub parse: Entry,
     pub check: Entry,
     pub write: Entry,
 }
@@ -95,6 +114,8 @@ impl Library {
             Function::Least => self.least,
             Function::Plan => self.plan,
             Function::Reason => self.reason,
+            Function::Sentence => self.sentence,
+            Function::Parse => self.parse,
             Function::Check => self.check,
             Function::Write => self.write,
         }
@@ -107,6 +128,8 @@ impl Library {
             Function::Least => &mut self.least,
             Function::Plan => &mut self.plan,
             Function::Reason => &mut self.reason,
+            Function::Sentence => &mut self.sentence,
+            Function::Parse => &mut self.parse,
             Function::Check => &mut self.check,
             Function::Write => &mut self.write,
         };

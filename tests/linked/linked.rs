@@ -10,6 +10,8 @@ pub const LINKED: Library = Library {
     least,
     plan,
     reason,
+    sentence,
+    parse,
     check,
     write,
 };
@@ -49,6 +51,45 @@ fn reason(call: &mut Call) -> u32 {
     let (file, file_length) = (call.file.pointer(), call.file.len());
     let (answer, answer_length) = (call.answer.pointer_mut(), call.answer.len());
     unsafe { raw::hbr_reason(file, file_length, call.bound, answer, answer_length) }
+}
+
+fn sentence(call: &mut Call) -> u32 {
+    let (file, file_length) = (call.file.pointer(), call.file.len());
+    let (reason, reason_length) = (call.reason.pointer(), call.reason.len());
+    let (line, line_length) = (call.line.pointer_mut(), call.line.len());
+    let (answer, answer_length) = (call.answer.pointer_mut(), call.answer.len());
+    let bound = call.bound;
+    unsafe {
+        raw::hbr_sentence(
+            file,
+            file_length,
+            bound,
+            reason,
+            reason_length,
+            line,
+            line_length,
+            answer,
+            answer_length,
+        )
+    }
+}
+
+fn parse(call: &mut Call) -> u32 {
+    let (file, file_length) = (call.file.pointer(), call.file.len());
+    let (line, line_length) = (call.line.pointer(), call.line.len());
+    let (answer, answer_length) = (call.answer.pointer_mut(), call.answer.len());
+    let bound = call.bound;
+    unsafe {
+        raw::hbr_parse(
+            file,
+            file_length,
+            bound,
+            line,
+            line_length,
+            answer,
+            answer_length,
+        )
+    }
 }
 
 fn check(call: &mut Call) -> u32 {

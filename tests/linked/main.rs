@@ -1,5 +1,5 @@
 //! Differential tests of the static library from outside: every call that it is lent is compared
-//! with an implementation made apart from it, from document 01 alone.
+//! with an implementation made apart from it, from documents 01 and 02 alone.
 //!
 //!     linked             the run of the gate
 //!     linked N           N times as many rounds

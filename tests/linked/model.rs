@@ -1,4 +1,4 @@
-//! The independent implementation as a library of six functions: what a linked library would do
+//! The independent implementation as a library of eight functions: what a linked library would do
 //! that does just what is expected. The wrong libraries are made from it.
 
 use crate::expect::{expected, Expected, Known};
@@ -11,6 +11,8 @@ pub const MODEL: Library = Library {
     least: |call| run(Function::Least, call),
     plan: |call| run(Function::Plan, call),
     reason: |call| run(Function::Reason, call),
+    sentence: |call| run(Function::Sentence, call),
+    parse: |call| run(Function::Parse, call),
     check: |call| run(Function::Check, call),
     write: |call| run(Function::Write, call),
 };
@@ -29,6 +31,10 @@ fn run(function: Function, call: &mut Call) -> u32 {
         Expected::File(bytes) => {
             call.file.put(&bytes);
             call.answer.put(&[bytes.len() as i32]);
+        }
+        Expected::Line(line) => {
+            call.line.put(line.as_bytes());
+            call.answer.put(&[line.len() as i32]);
         }
     }
     0

@@ -1,15 +1,15 @@
-//! The drawn calls: accepted orders with bounds and row lists around their least lateness, orders
-//! that are refused, doubtful files, and lists for the writer.
+//! The drawn calls: accepted orders with bounds, row lists, reasons and lines around their least
+//! lateness, orders that are refused, doubtful files, and lists for the writer.
 
 use crate::draw::bounds::Around;
 use crate::draw::damage::damaged;
 use crate::draw::files::{doubtful, file_of};
-use crate::draw::lengths::{answer_length, file_room, room};
-use crate::draw::lists;
+use crate::draw::lengths::{answer_length, file_room, line_room, reason_length, room};
 use crate::draw::orders::{tiny, Family, LARGE_FAMILIES, SMALL_FAMILIES};
-use crate::draw::sharp;
 use crate::draw::Random;
-use crate::independent::{plan, rows_asked, write, Order, MOST_ROWS};
+use crate::draw::{lines, lists, reasons, sharp};
+use crate::expect::reason_named;
+use crate::independent::{composed, plan, rows_asked, write, Order, MOST_ROWS};
 use crate::lent::{job_numbers, Call};
 use crate::library::{Function, READERS};
 use crate::trial::Trial;
@@ -80,6 +80,7 @@ fn accepted_order(trial: &mut Trial, families: &[Family], seed: u64) {
             Call::with_file(random, &file, answer).at(bound)
         });
     }
+    sentences(trial, &order, &file, around);
     checks(trial, &order, &file, around);
     for _ in 0..2 {
         write_order(trial, &order);
@@ -91,6 +92,32 @@ fn trial_of(trial: &mut Trial, function: Function, make: impl FnOnce(&mut Random
     let answer = answer_length(&mut trial.random, function);
     let call = make(&mut trial.random, answer);
     trial.call(function, call);
+}
+
+/// Reasons before hbr_sentence and lines before hbr_parse.
+fn sentences(trial: &mut Trial, order: &Order, file: &[u8], around: Around) {
+    for _ in 0..6 {
+        trial_of(trial, Function::Sentence, |random, answer| {
+            let bound = around.tight(random);
+            let mut reason = reasons::numbers(random, order, bound, around.least - 1);
+            let line = reason_named(&reason).map(|reason| composed(order, bound, &reason));
+            let room = line_room(random, line.unwrap_or_default().len());
+            reason.resize(reason_length(random), random.number() as i32);
+            Call::with_file(random, file, answer)
+                .with_reason(random, &reason)
+                .with_line_room(random, room)
+                .at(bound)
+        });
+    }
+    for _ in 0..8 {
+        trial_of(trial, Function::Parse, |random, answer| {
+            let bound = around.tight(random);
+            let line = lines::drawn(random, order, bound, around.least - 1);
+            Call::with_file(random, file, answer)
+                .with_line(random, &line)
+                .at(bound)
+        });
+    }
 }
 
 /// Row lists before the plan check, at the bound that they were made for or at one next to it.
@@ -144,7 +171,7 @@ fn write_lists(trial: &mut Trial, memories: &[u32], jobs: &[u32], length: usize)
     });
 }
 
-/// An order that is not accepted, before all six functions, the other arguments good or not.
+/// An order that is not accepted, before all functions, the other arguments good or not.
 fn refused_order(trial: &mut Trial, seed: u64) {
     let (_, family) = SMALL_FAMILIES[seed as usize % SMALL_FAMILIES.len()];
     let order = family(&mut trial.random);
@@ -155,7 +182,7 @@ fn refused_order(trial: &mut Trial, seed: u64) {
     write_order(trial, &order);
 }
 
-/// A doubtful file before the five functions that read one.
+/// A doubtful file before the functions that read one.
 fn doubtful_file(trial: &mut Trial, seed: u64) {
     let (_, family) = SMALL_FAMILIES[seed as usize % SMALL_FAMILIES.len()];
     let order = family(&mut trial.random);
@@ -167,10 +194,16 @@ fn read_all(trial: &mut Trial, file: &[u8]) {
     for function in READERS {
         trial_of(trial, function, |random, answer| {
             let bound = Around::any(random).bound(random);
+            let call = Call::with_file(random, file, answer).at(bound);
+            if function.takes_line() {
+                let reason = vec![random.pick(&[0, 1, 2]); reason_length(random)];
+                let line = random.pick(&[0, 1, 39, 541, 600]);
+                return call
+                    .with_reason(random, &reason)
+                    .with_line_room(random, line);
+            }
             let room = random.pick(&[0, 3, 4, 200, 4 * MOST_ROWS, 4 * MOST_ROWS + 1]);
-            Call::with_file(random, file, answer)
-                .with_room(random, room)
-                .at(bound)
+            call.with_room(random, room)
         });
     }
 }

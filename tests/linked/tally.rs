@@ -8,7 +8,8 @@ use std::collections::BTreeMap;
 /// The kinds of answers that each function must have given.
 fn kinds(function: Function) -> &'static [&'static str] {
     match function {
-        Function::Reason => &["none", "job", "level stairs", "falling stairs"],
+        Function::Reason | Function::Parse => &["none", "job", "level stairs", "falling stairs"],
+        Function::Sentence => &["empty", "job", "stairs"],
         Function::Check => &["yes", "no"],
         _ => &["answered"],
     }
@@ -26,6 +27,7 @@ impl Tally {
         let outcome = match expected {
             Expected::Refused(refusal) => refusal.number.to_string(),
             Expected::Answer(numbers) => kind(function, numbers).to_string(),
+            Expected::Line(line) => kind_of_line(line).to_string(),
             _ => "answered".to_string(),
         };
         *self.counts.entry((function.name(), outcome)).or_insert(0) += 1;
@@ -55,7 +57,7 @@ impl Tally {
         let (answered, refused) = (answered.join(", "), refused.join(", "));
         let all: u64 = self.of(function);
         format!(
-            "{:<10} {all} calls; {answered}; refused {refused}",
+            "{:<12} {all} calls; {answered}; refused {refused}",
             function.name()
         )
     }
@@ -89,9 +91,9 @@ fn kind(function: Function, numbers: &[i32]) -> &'static str {
     match (function, numbers[0]) {
         (Function::Check, 0) => "no",
         (Function::Check, _) => "yes",
-        (Function::Reason, 0) => "none",
-        (Function::Reason, 1) => "job",
-        (Function::Reason, _) => {
+        (Function::Reason | Function::Parse, 0) => "none",
+        (Function::Reason | Function::Parse, 1) => "job",
+        (Function::Reason | Function::Parse, _) => {
             let dues = &numbers[3..3 + numbers[1] as usize];
             let level = dues.iter().all(|due| *due == dues[0]);
             if level {
@@ -101,5 +103,13 @@ fn kind(function: Function, numbers: &[i32]) -> &'static str {
             }
         }
         _ => "answered",
+    }
+}
+
+fn kind_of_line(line: &str) -> &'static str {
+    match line.as_bytes().first() {
+        None => "empty",
+        Some(b'j') => "job",
+        Some(_) => "stairs",
     }
 }

@@ -49,10 +49,10 @@ impl Trial {
         self.known.least()
     }
 
-    /// Makes one call, unless a difference was found already, and answers its result and answer.
-    pub fn call(&mut self, function: Function, call: Call) -> (u32, Vec<i32>) {
+    /// Makes one call and answers its result and what it left; none once a difference was found.
+    pub fn call(&mut self, function: Function, call: Call) -> Option<(u32, Call)> {
         if self.difference.is_some() {
-            return (0, Vec::new());
+            return None;
         }
         let expected = expected(function, &call, &mut self.known);
         self.tally.count(function, &expected);
@@ -68,11 +68,12 @@ impl Trial {
                 told("left", &after),
             ];
             self.difference = Some(lines.join("\n"));
+            return None;
         }
-        (result, after.answer.content().to_vec())
+        Some((result, after))
     }
 
-    /// Notes a difference from a value that document 01 itself gives.
+    /// Notes a difference from a value that the documents themselves give.
     pub fn differs(&mut self, told: String) {
         self.difference.get_or_insert(told);
     }
@@ -89,10 +90,16 @@ fn told(what: &str, call: &Call) -> String {
         ),
         ("jobs", call.jobs.len(), shown(&call.jobs.content())),
         ("rows", call.rows.len(), shown(&call.rows.content())),
+        ("reason", call.reason.len(), shown(&call.reason.content())),
+        ("line", call.line.len(), shown(&text(call.line.content()))),
         ("answer", call.answer.len(), shown(&call.answer.content())),
     ];
     let line = |(name, length, content)| format!("\n  {name}, length {length}: {content}");
     format!("{what}: bound {}{}", call.bound, buffers.map(line).concat())
+}
+
+fn text(line: &[u8]) -> String {
+    String::from_utf8_lossy(line).into_owned()
 }
 
 /// A value as text, cut where it is very long.

@@ -4,9 +4,13 @@
 mod buffers;
 mod checks;
 mod files;
+mod lines;
 mod plans;
+mod readings;
 mod reasons;
 mod refusals;
+mod sentences;
+mod words;
 
 use crate::expect::Known;
 use crate::fixed;
@@ -43,6 +47,10 @@ pub fn run() -> Result<String, String> {
         files::WRONG,
         plans::WRONG,
         reasons::WRONG,
+        sentences::WRONG,
+        words::WRONG,
+        lines::WRONG,
+        readings::WRONG,
         checks::WRONG,
     ];
     let all = parts.concat();

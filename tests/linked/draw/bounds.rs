@@ -45,4 +45,20 @@ impl Around {
             _ => self.least + random.between(-3, 3) as i32,
         }
     }
+
+    /// A bound that mostly has reasons: just below the least lateness, where only staircases are
+    /// reasons, where some job is late, and any.
+    pub fn tight(self, random: &mut Random) -> i32 {
+        match random.below(10) {
+            0 => self.bound(random),
+            1 => self.alone - 1,
+            2..=3 => self.alone - random.between(1, 20) as i32,
+            4 => random.between(-10_000_000, self.alone.into()) as i32,
+            5..=6 => {
+                let below = self.least - 1;
+                random.between(self.alone.min(below).into(), below.into()) as i32
+            }
+            _ => self.least - 1,
+        }
+    }
 }

@@ -3,7 +3,7 @@
 
 use super::Random;
 use crate::independent::MOST_ROWS;
-use crate::library::Function;
+use crate::library::{Function, REASON_NUMBERS};
 
 /// Mostly enough room for the answer: exactly, or more; sometimes none, or one number too few.
 pub fn answer_length(random: &mut Random, function: Function) -> usize {
@@ -41,5 +41,33 @@ pub fn file_room(random: &mut Random, exact: usize) -> usize {
         2..=3 => exact + 1 + random.below(20),
         4 => exact.max(652),
         _ => exact,
+    }
+}
+
+/// Room for a line of this length, which may be 0: exactly, or more; sometimes one byte or more too
+/// few, or none.
+pub fn line_room(random: &mut Random, exact: usize) -> usize {
+    match random.below(12) {
+        0 => 0,
+        1..=2 => exact.saturating_sub(1),
+        3 => random.below(exact + 1),
+        4..=5 => exact + 1,
+        6 => exact + random.below(200),
+        7 => 541,
+        8 => random.pick(&[256, 256, 256, 65_536]),
+        _ => exact,
+    }
+}
+
+/// Mostly the numbers of a reason and no more; sometimes none, or one too few, or others after
+/// them.
+pub fn reason_length(random: &mut Random) -> usize {
+    match random.below(24) {
+        0 => 0,
+        1 => REASON_NUMBERS - 1,
+        2..=4 => REASON_NUMBERS + 1,
+        5 => REASON_NUMBERS + random.below(10),
+        6 => random.pick(&[256, 256, 256, 65_536]),
+        _ => REASON_NUMBERS,
     }
 }

@@ -132,6 +132,7 @@ pub const LARGE_FAMILIES: &[Family] = &[
         drawn(random, FULL.processors(2, 8).jobs(8, 24))
     }),
     ("middle, packed", |random| packed(random, 9, 30)),
+    ("full, last class", last_class),
 ];
 
 pub fn tiny(random: &mut Random) -> Order {
@@ -187,6 +188,18 @@ fn steep(random: &mut Random, shape: Shape) -> Order {
         let height = (i64::from(job.need) - low) * 2 * latest / (high - low);
         job.due = (height + random.between(0, 2)) as i32 + job.time as i32;
     }
+    order
+}
+
+/// Jobs of the last class alone, on processors of the largest memories: only staircases of all
+/// classes are reasons, and their lines are long.
+fn last_class(random: &mut Random) -> Order {
+    let shape = FULL
+        .times(90_000, 100_000)
+        .dues(-1_000_000, -999_900)
+        .memories(LARGEST - 99, LARGEST);
+    let mut order = drawn(random, shape);
+    order.jobs.iter_mut().for_each(|job| job.need = 0);
     order
 }
 

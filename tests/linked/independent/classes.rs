@@ -5,7 +5,8 @@ use super::{Job, Order};
 
 /// The classes of an order.
 pub struct Classes {
-    memories: Vec<u32>,
+    /// The memory of each class.
+    pub memories: Vec<u32>,
     /// How many processors are in each class.
     pub processors: Vec<i64>,
 }

@@ -71,7 +71,7 @@ fn late_job(order: &Order, bound: i32) -> Option<Reason> {
 
 /// "its whole time if its end is at most T, else its time less (end - T), and 0 if that is
 /// negative".
-fn owed(job: &Job, bound: i64, by: i64) -> i64 {
+pub fn owed(job: &Job, bound: i64, by: i64) -> i64 {
     let (time, end) = (i64::from(job.time), job.end(bound));
     if end <= by {
         time

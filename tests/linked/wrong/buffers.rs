@@ -1,5 +1,5 @@
 //! Wrong in what is written: "A REFUSED CALL WRITES NOTHING", "leaves what lies beyond its rows,
-//! its file or its answer as it was".
+//! its file, its line or its answer as it was".
 
 use super::{answered, refused, Wrong};
 use crate::lent::Lent;
@@ -73,6 +73,81 @@ pub const WRONG: &[Wrong] = &[
         "clears a longer answer to its end",
         |call| {
             answered(MODEL.reason, call, |call| {
+                call.answer.content_mut()[19..].fill(0)
+            })
+        },
+    ),
+    (
+        Function::Sentence,
+        "writes what fits of a line that is too long",
+        |call| {
+            refused(MODEL.sentence, call, |call| {
+                call.line.content_mut().fill(b'm')
+            })
+        },
+    ),
+    (
+        Function::Sentence,
+        "writes its answer where it refuses",
+        |call| refused(MODEL.sentence, call, |call| set_first(&mut call.answer)),
+    ),
+    (
+        Function::Sentence,
+        "clears the bytes beyond its line",
+        |call| {
+            answered(MODEL.sentence, call, |call| {
+                let written = call.answer.content()[0] as usize;
+                call.line.content_mut()[written..].fill(0);
+            })
+        },
+    ),
+    (
+        Function::Sentence,
+        "closes its line with a 0 where it fits",
+        |call| {
+            answered(MODEL.sentence, call, |call| {
+                let written = call.answer.content()[0] as usize;
+                if let Some(byte) = call.line.content_mut().get_mut(written) {
+                    *byte = 0;
+                }
+            })
+        },
+    ),
+    (
+        Function::Sentence,
+        "leaves its answer where the line is empty",
+        |call| {
+            let before = call.answer.content().first().copied();
+            answered(MODEL.sentence, call, |call| {
+                if call.answer.content()[0] == 0 {
+                    call.answer.put(before.as_slice());
+                }
+            })
+        },
+    ),
+    (Function::Sentence, "changes the reason", |call| {
+        answered(MODEL.sentence, call, |call| {
+            call.reason.content_mut()[18] ^= 1
+        })
+    }),
+    (
+        Function::Sentence,
+        "touches the guard after its line",
+        |call| answered(MODEL.sentence, call, |call| *call.line.after_mut() ^= 1),
+    ),
+    (Function::Parse, "changes the line", |call| {
+        answered(MODEL.parse, call, |call| {
+            call.line.content_mut().make_ascii_uppercase()
+        })
+    }),
+    (Function::Parse, "clears a short answer", |call| {
+        refused(MODEL.parse, call, |call| call.answer.content_mut().fill(0))
+    }),
+    (
+        Function::Parse,
+        "clears a longer answer to its end",
+        |call| {
+            answered(MODEL.parse, call, |call| {
                 call.answer.content_mut()[19..].fill(0)
             })
         },

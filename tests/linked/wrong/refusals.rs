@@ -106,6 +106,100 @@ pub const WRONG: &[Wrong] = &[
             (MODEL.check)(call)
         }
     }),
+    (
+        Function::Sentence,
+        "tells a bad file before a short reason",
+        |call| {
+            let bad = read(call.file.content()).is_err_and(|refusal| refusal.number == 12);
+            if bad && call.answer.len() > 0 {
+                12
+            } else {
+                (MODEL.sentence)(call)
+            }
+        },
+    ),
+    (
+        Function::Sentence,
+        "tells a short reason before a short answer",
+        |call| {
+            if call.reason.len() < 19 {
+                253
+            } else {
+                (MODEL.sentence)(call)
+            }
+        },
+    ),
+    (
+        Function::Sentence,
+        "takes a reason of 18 numbers",
+        |call| match call.reason.len() {
+            18 => first_wins(call, 253, MODEL.sentence),
+            _ => (MODEL.sentence)(call),
+        },
+    ),
+    (
+        Function::Sentence,
+        "tells a long line before a bound out of range",
+        |call| {
+            let result = (MODEL.sentence)(call);
+            if result == 8 && call.line.len() < 30 {
+                9
+            } else {
+                result
+            }
+        },
+    ),
+    (
+        Function::Sentence,
+        "does not take a line of the buffer's length",
+        |call| {
+            let full = |left: &Call| match left.answer.content()[0] {
+                0 => false,
+                length => left.line.len() == length as usize,
+            };
+            in_place_of(call, 9, MODEL.sentence, full)
+        },
+    ),
+    (
+        Function::Sentence,
+        "asks for a byte for an empty line",
+        |call| in_place_of(call, 9, MODEL.sentence, |left| left.line.len() == 0),
+    ),
+    (Function::Sentence, "always asks for 541 bytes", |call| {
+        in_place_of(call, 9, MODEL.sentence, |left| left.line.len() < 541)
+    }),
+    (
+        Function::Sentence,
+        "refuses a reason that does not stand",
+        |call| {
+            in_place_of(call, 10, MODEL.sentence, |left| {
+                left.answer.content()[0] == 0
+            })
+        },
+    ),
+    (
+        Function::Parse,
+        "refuses a line of over 541 bytes",
+        |call| in_place_of(call, 9, MODEL.parse, |left| left.line.len() > 541),
+    ),
+    (Function::Parse, "refuses a line that is none's", |call| {
+        in_place_of(call, 10, MODEL.parse, |left| left.answer.content()[0] == 0)
+    }),
+    (Function::Parse, "takes any bound", |call| {
+        first_wins(call, 8, MODEL.parse)
+    }),
+    (
+        Function::Parse,
+        "tells a bound out of range before a bad file",
+        |call| {
+            let out = !(-10_000_000..=10_000_000).contains(&call.bound);
+            if out && call.answer.len() >= 19 {
+                8
+            } else {
+                (MODEL.parse)(call)
+            }
+        },
+    ),
 ];
 
 /// The refusal of the order of the lists, told of the last job.
@@ -147,4 +241,14 @@ fn first_wins(call: &mut Call, number: u32, entry: Entry) -> u32 {
         return 0;
     }
     result
+}
+
+/// A refusal in place of success, where this holds of what the call would leave.
+fn in_place_of(call: &mut Call, number: u32, entry: Entry, holds: fn(&Call) -> bool) -> u32 {
+    let mut left = call.clone();
+    if entry(&mut left) == 0 && holds(&left) {
+        number
+    } else {
+        entry(call)
+    }
 }
