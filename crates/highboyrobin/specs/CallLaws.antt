@@ -6,8 +6,7 @@ use mathlib.Core.Bool.{Bool, true, false, cond}
 use mathlib.Core.List.{List, [], _∷_, _++_}
 use mathlib.Core.Logic.{_↔_}
 use native.Mathlib.Omega.{arith}
-use borrow.Author.Tests.{eqb-false, le-ltb, ltb-false}
-use lib.Dec.{eqb}
+use borrow.Author.Tests.{le-ltb, ltb-false}
 use lib.IntN.{ℤ, pos}
 use lib.ListN.{length, getD, take, drop}
 use lib.Seq.{take-at}
@@ -15,14 +14,11 @@ use Rattle.sums.specs.Lists.{All}
 use Rattle.order.specs.Order.{Order}
 use Rattle.order.specs.Refusals.{
   limits,
-  Finding,
   clear,
-  holds,
   TableRow,
   Verdict,
   accepted,
   refused,
-  verdictOf,
   judge,
   orderRows,
   whole,
@@ -31,15 +27,7 @@ use Rattle.order.specs.Refusals.{
   boundRow,
   Accepted,
 }
-use Rattle.order.specs.RefusalLaws.{
-  judge-accepted,
-  judge-clear,
-  judge-accepted-append,
-  judge-refused-append,
-  accepted≢refused,
-  accepted-first,
-  whole-clear,
-}
+use Rattle.order.specs.RefusalLaws.{judge-accepted, judge-clear, judge-accepted-append, judge-refused-append, accepted-first, whole-clear}
 use Rattle.order_file.specs.File.{goodFile, orderIn}
 use Rattle.plan.specs.Plan.{Row, RightInParts, Meets}
 use Rattle.plan.specs.Check.{RightNumbers, isRight}
@@ -48,6 +36,7 @@ use Rattle.profile.specs.Least.{leastLateness}
 use Rattle.profile.specs.Reason.{Reason, overEnd, stairs}
 use Rattle.profile.specs.Search.{Found, nothing, found, reasonOf}
 use Rattle.planner.specs.NoPlan.{NoPlan, reason-no-plan, none-where-met}
+use Rattle.planner.specs.TenLaws.{never}
 use Rattle.planner.specs.Rows.{rowsAsked, bufferRow, isFound, leastRows, earlierRows, planRows}
 use Rattle.planner.specs.Demand.{Demand3}
 use Rattle.planner.specs.DemandMet.{tight-refused, not-found, demand-3}
@@ -61,16 +50,6 @@ kind-none o (found (overEnd j)) =
     (λ e. let z : _≡_ {A = ℕ} 1 0 = cc in absurd (omega arith), λ e. let z : _≡_ {A = ℕ} 1 0 = cc in absurd (omega arith))
 kind-none o (found (stairs dues)) =
     (λ e. let z : _≡_ {A = ℕ} 2 0 = cc in absurd (omega arith), λ e. let z : _≡_ {A = ℕ} 1 0 = cc in absurd (omega arith))
-
--- a number that no row has is not returned
-never : (k c : ℕ) (rows : List TableRow) → All (λ (r : TableRow). eqb (r .number) k ≡ false) rows → judge rows ≡ refused k c → ⊥
-unfolding judge
-never k c [] h e = accepted≢refused e
-never k c (r ∷ rs) h e = go (r .finding) e (never k c rs (h .1))
-  where
-    go : (f : Finding) → verdictOf (r .number) f (judge rs) ≡ refused k c → (judge rs ≡ refused k c → ⊥) → ⊥
-    go clear e later = later e
-    go (holds x) e later = let same : r .number ≡ k = cc in omega (arith, same, eqb-false (r .number) k (h .0))
 
 -- what row 10 alone says, and what a count of 1 or 0 stands for
 tight-found : (f : Found Reason) → ¬ (f ≡ nothing) → judge (tightRow (isFound f) ∷ []) ≡ refused 10 0

@@ -1,9 +1,9 @@
 -- What hbr_sentence and hbr_parse say: a line is composed for exactly the numbers that hbr_reason answers for a reason that stands, it is
 -- a fact about every plan, and hbr_parse answers the same numbers for it, for another line none.
-use Prim.Native.Nat.{ℕ, zero, suc, _+_, _≤_, _<_}
+use Prim.Native.Nat.{ℕ, _+_, _≤_}
 use mathlib.Core.Path.{_≡_, refl, sym, ap, _∙_, subst}
 use mathlib.Core.Bool.{Bool, true, false, cond, _&&_}
-use mathlib.Core.List.{List, [], _∷_, _++_}
+use mathlib.Core.List.{List, _++_}
 use mathlib.Core.Logic.{_↔_}
 use native.Mathlib.Omega.{arith}
 use borrow.Author.Tests.{eqb-true}
@@ -14,29 +14,26 @@ use lib.Seq.{take-at, getD-take, length-take-le}
 use Rattle.sums.specs.Lists.{tabulate}
 use Rattle.sums.specs.Places.{tabulate-getD, tabulate-cong}
 use Rattle.order.specs.Order.{Order}
-use Rattle.order.specs.Refusals.{limits, accepted, judge, orderRows, boundRow, Accepted}
-use Rattle.order.specs.RefusalLaws.{both-true, judge-accepted, accepted-first}
+use Rattle.order.specs.Refusals.{accepted, judge, Accepted}
+use Rattle.order.specs.RefusalLaws.{both-true}
 use Rattle.order_file.specs.File.{orderIn}
 use Rattle.plan.specs.Plan.{Row, RightInParts}
 use Rattle.planner.specs.NoPlan.{stands-no-plan}
 use Rattle.profile.specs.Reason.{Reason, overEnd, stairs, Stands}
 use Rattle.profile.specs.Search.{Found, nothing, found}
 use Rattle.profile.specs.Standing.{sameZ}
-use Rattle.reason.specs.Told.{sixteen, whyOf}
+use Rattle.reason.specs.Told.{whyOf}
 use Rattle.reason.specs.declared.Reason.{Reason as CodeReason}
 use Rattle.reason.specs.declared.Reason.the-variants.{Job, Stairs}
-use Rattle.reason.specs.declared.Tightness.{Tightness}
 use Rattle.reason.specs.declared.Tightness.the-variants.{Tight, Met}
 use Rattle.reason.specs.declared.Why.{Why}
 use Rattle.sentence.specs.Handed.{handed}
 use Rattle.sentence.specs.HandedLaws.{Fitting, handed-own, handed-told}
 use Rattle.sentence.specs.Line.{lineOf, composed, readBack}
-use Rattle.sentence.specs.LineLaws.{composed-line, composed-stands, reads-to, reads-none}
-use Rattle.sentence.specs.Told.{readRows}
+use Rattle.sentence.specs.LineLaws.{composed-line, composed-stands, reads-to}
 use Rattle.highboyrobin.specs.Calls.{reasonNumbers, tightnessFrom, whyFrom, lineFrom, parseCall, parseAnswer}
 use Rattle.highboyrobin.specs.CallLaws.{numbers-count}
-use Rattle.highboyrobin.specs.Inside.{kindOf, whichOf, timeOf, whyNumbers}
-use Rattle.highboyrobin.specs.Results.{fileCall}
+use Rattle.highboyrobin.specs.Inside.{kindOf, whichOf, timeOf}
 
 -- the first n members, by their places
 take-places : (n : ℕ) (xs : List ℤ) → n ≤ length xs → take n xs ≡ tabulate n (λ i. getD xs i (pos 0))

@@ -2,7 +2,7 @@
 use Prim.Native.Nat.{ℕ, _-_, _*_, _≤_, _<_}
 use mathlib.Core.Path.{_≡_, refl, sym, ap, _∙_, subst}
 use mathlib.Core.Bool.{true, false}
-use mathlib.Core.List.{List}
+use mathlib.Core.List.{List, _++_}
 use native.Mathlib.Omega.{arith}
 use borrow.Author.Tests.{lt-ltb, le-ltb}
 use lib.IntN.{ℤ}
@@ -29,7 +29,10 @@ use Rattle.plan.specs.NumberLaws.{length-numbers}
 use Rattle.profile.specs.Least.{leastLateness}
 use Rattle.profile.specs.Reason.{Reason}
 use Rattle.profile.specs.Search.{Found, nothing, found, reasonOf}
-use Rattle.reason.specs.Told.{reasonTold, whyTold}
+use Rattle.reason.specs.Told.{reasonTold, whyTold, whyOf}
+use Rattle.reason.specs.declared.Reason.{Reason as CodeReason}
+use Rattle.reason.specs.declared.Tightness.the-variants.{Tight as TooTight}
+use Rattle.reason.specs.declared.Why.{Why}
 use Rattle.planner.specs.Rows.{leastRows, planRows}
 use Rattle.planner.specs.Told.{reasonCarried, whyIn, ReasonTold}
 use Rattle.planner.specs.Written.{Written}
@@ -48,8 +51,11 @@ use Rattle.planner.specs.declared.Least.the-variants.{At, Refused as LeastRefus
 use Rattle.planner.specs.declared.PlanAnswer.{PlanAnswer}
 use Rattle.planner.specs.declared.Planned.{Planned}
 use Rattle.planner.specs.declared.Planned.the-variants.{Rows, Tight, Refused}
-use Rattle.lines.specs.Lines.{refusedLine, planLines, boundLine}
+use Rattle.sentence.specs.Handed.{handed}
+use Rattle.sentence.specs.Line.{composed}
+use Rattle.lines.specs.Lines.{refusedLine, planLines, meetsLine, tightLine, boundLine}
 use Rattle.lines.specs.LineLaws.{rows-first}
+use Rattle.text.specs.Text.{lineEnd}
 use Rattle.text.specs.TextLaws.{put-as}
 use Rattle.text.specs.SignedLaws.{signed-fits}
 use Rattle.lines.specs.Programs.{
@@ -65,8 +71,10 @@ use Rattle.lines.specs.Programs.{
   tryBoundText,
   TryBoundOutput,
 }
-use Rattle.lines.specs.Inside.{refusalLine, plannedLine, refusedOf, LeastOutput, BoundOutput}
+use Rattle.lines.specs.Inside.{refusalLine, LeastOutput, BoundOutput}
 use Rattle.lines.specs.declared.Output.{Output}
+use Rattle.planner.specs.TenLaws.{ten-accepted}
+use Rattle.lines.proofs.Reasons.{composed-of}
 
 -- the rows that a program lends
 abbrev pub blank : List ℕ
@@ -137,47 +145,57 @@ module _ (o : Order) (bound : ℤ) (rows rows′ : List ℕ) (a : PlanAnswer) (t
   same-plan-rows : judge (planRows o bound (length rows)) ≡ v
   same-plan-rows = ap (λ (n : ℕ). judge (planRows o bound n)) size
 
-  line-by : (w : Verdict) (f : Found Reason) → v ≡ w → reasonCarried v (reasonOf o bound) ≡ f →
-      boundLine w f ≡ boundLine v (reasonCarried v (reasonOf o bound))
-  line-by w f e h = sym (ap (λ (x : Verdict). boundLine x (reasonCarried v (reasonOf o bound))) e ∙ ap (boundLine w) h)
+  -- the reason, and what is written
+  abbrev reason : Found Reason
+  reason = reasonCarried v (reasonOf o bound)
 
-  told-as : (p : Planned) → a .planned ≡ p → whyTold (whyIn a) ≡ whyTold (whyIn (record { planned = p; dues = a .dues }))
-  told-as p e = ap (λ (q : Planned). whyTold (whyIn (record { planned = q; dues = a .dues }))) e
+  abbrev text : List ℕ
+  text = boundLine o bound v reason
 
-  pub planned-line : ReasonTold o (reasonCarried v (reasonOf o bound)) a →
-      plannedLine (a .planned) (a .dues) ≡ boundLine v (reasonCarried v (reasonOf o bound))
-  planned-line r = at (a .planned) refl (r .0)
-    where
-      at : (p : Planned) → a .planned ≡ p → whyTold (whyIn a) ≡ reasonCarried v (reasonOf o bound) →
-          plannedLine (a .planned) (a .dues) ≡ boundLine v (reasonCarried v (reasonOf o bound))
-      at (Rows count) e f =
-          let w : v ≡ accepted = sym same-plan-rows ∙ planned-rows o bound rows rows′ (a .planned) t count e .0 in
-          ap (λ (p : Planned). plannedLine p (a .dues)) e
-          ∙ line-by accepted (reasonCarried v (reasonOf o bound)) w refl
-      at (Tight reason) e f =
-          let w : v ≡ refused 10 0 = sym same-plan-rows ∙ planned-tight o bound rows rows′ (a .planned) t reason e .0 in
-          ap (λ (p : Planned). plannedLine p (a .dues)) e
-          ∙ line-by (refused 10 0) (found (reasonTold reason (a .dues))) w (sym f ∙ told-as (Tight reason) e)
-      at (Refused why) e f =
-          let q = refused-told why in
-          let w : v ≡ refused (q .0) (q .1)
-          = sym same-plan-rows ∙ (planned-refused o bound rows rows′ (a .planned) t why e .0 ∙ q .2) in
-          ap (λ (p : Planned). plannedLine p (a .dues)) e
-          ∙ (ap (λ (x : Verdict). refusedLine (numberBy x) (carriedBy x)) (q .2)
-          ∙ line-by (refused (q .0) (q .1)) nothing w (sym f ∙ told-as (Refused why) e))
+  text-by : (w : Verdict) (f : Found Reason) → v ≡ w → reason ≡ f → boundLine o bound w f ≡ text
+  text-by w f e h = sym (ap (λ (x : Verdict). boundLine o bound x reason) e ∙ ap (boundLine o bound w) h)
 
-  pub planned-refused-is : refusedOf (a .planned) ≡ isRefused v
-  planned-refused-is = at (a .planned) refl
-    where
-      at : (p : Planned) → a .planned ≡ p → refusedOf (a .planned) ≡ isRefused v
-      at (Rows count) e =
-          ap refusedOf e ∙ sym (ap isRefused (sym same-plan-rows ∙ planned-rows o bound rows rows′ (a .planned) t count e .0))
-      at (Tight reason) e =
-          ap refusedOf e ∙ sym (ap isRefused (sym same-plan-rows ∙ planned-tight o bound rows rows′ (a .planned) t reason e .0))
-      at (Refused why) e =
-          let q = refused-told why in
-          ap refusedOf e
-          ∙ sym (ap isRefused (sym same-plan-rows ∙ (planned-refused o bound rows rows′ (a .planned) t why e .0 ∙ q .2)))
+  -- of a bound that is met
+  pub met-text : (count : ℕ) → a .planned ≡ Rows count → (meetsLine ≡ text) × (false ≡ isRefused v)
+  met-text count e =
+      let w : v ≡ accepted = sym same-plan-rows ∙ planned-rows o bound rows rows′ (a .planned) t count e .0 in
+      (text-by accepted reason w refl, accepted-false v w)
+
+  -- of one that is not judged
+  pub unjudged-text : (why : Refusal) → a .planned ≡ Refused why → (refusalLine why ≡ text) × (true ≡ isRefused v)
+  unjudged-text why e =
+      let w : v ≡ refusalTold why = sym same-plan-rows ∙ planned-refused o bound rows rows′ (a .planned) t why e .0 in
+      let q = refused-told why in (
+        ap (λ (x : Verdict). refusedLine (numberBy x) (carriedBy x)) (q .2)
+            ∙ text-by (refused (q .0) (q .1)) nothing (w ∙ q .2)
+            (ap (λ (x : Verdict). reasonCarried x (reasonOf o bound)) w ∙ carried-none why (reasonOf o bound)),
+        refused-true v why w,
+      )
+
+  -- of one that is too tight
+  module _ (code : CodeReason) (e : a .planned ≡ Tight code) where
+    pub tight-verdict : v ≡ refused 10 0
+    tight-verdict = sym same-plan-rows ∙ planned-tight o bound rows rows′ (a .planned) t code e .0
+
+    abbrev why : Why
+    why = record { tightness = TooTight code; dues = a .dues }
+
+    why-as : whyIn a ≡ why
+    why-as = ap (λ (p : Planned). whyIn (record { planned = p; dues = a .dues })) e
+
+    pub tight-text : ReasonTold o reason a →
+        (tightLine (reasonTold code (a .dues)) ++ (composed o bound (handed o why) ++ lineEnd) ≡ text) × (true ≡ isRefused v)
+    tight-text r =
+        let told : Reason = reasonTold code (a .dues) in
+        let carried : reason ≡ found told = sym (r .0) ∙ ap whyTold why-as in
+        let is : reasonOf o bound ≡ found told
+        = sym (ap (λ (x : Verdict). reasonCarried x (reasonOf o bound)) tight-verdict) ∙ carried in
+        let whole : why ≡ whyOf o (found told) = sym why-as ∙ (r .1 ∙ ap (whyOf o) carried) in (
+          ap (λ (line : List ℕ). tightLine told ++ (line ++ lineEnd))
+              (composed-of o bound (ten-accepted o bound rowsLent tight-verdict) told is why whole)
+              ∙ text-by (refused 10 0) (found told) tight-verdict carried,
+          sym (ap isRefused tight-verdict),
+        )
 
 -- what is written for the order that was read is written for the file
 pub least-moved : (f : List ℕ) (t : OrderTable) (buffer after : List ℕ) (r : Output) → orderOf t ≡ orderIn f →
@@ -216,6 +234,9 @@ module _ (input : List ℕ) where
   abbrev f : List ℕ
   f = drop 4 input
 
+  abbrev lineBy : Verdict → Found Reason → List ℕ
+  lineBy v reason = boundLine (orderIn f) (boundIn input) v reason
+
   pub tried-short : length input < 4 → (tryBoundVerdict input ≡ refused 12 0) × (refusalLine BadFile ≡ tryBoundText input)
   unfolding tryBoundText tryBoundVerdict
   tried-short h = rw (lt-ltb (length input) 4 h) (refl, refl)
@@ -226,9 +247,9 @@ module _ (input : List ℕ) where
     tried-rows = rw (le-ltb (length input) 4 h)
 
     line-of : (v : Verdict) → tryBoundVerdict input ≡ v →
-        boundLine v (reasonCarried v (reasonOf (orderIn f) (boundIn input))) ≡ tryBoundText input
+        lineBy v (reasonCarried v (reasonOf (orderIn f) (boundIn input))) ≡ tryBoundText input
     unfolding tryBoundText
-    line-of v e = ap (λ (w : Verdict). boundLine w (reasonCarried w (reasonOf (orderIn f) (boundIn input)))) (sym e)
+    line-of v e = ap (λ (w : Verdict). lineBy w (reasonCarried w (reasonOf (orderIn f) (boundIn input)))) (sym e)
 
     pub tried-refused : (why : Refusal) → judge (tryBoundRows f (boundIn input)) ≡ refusalTold why →
         (tryBoundVerdict input ≡ refusalTold why) × (refusalLine why ≡ tryBoundText input)
@@ -236,8 +257,8 @@ module _ (input : List ℕ) where
         let v : tryBoundVerdict input ≡ refusalTold why = tried-rows ∙ e in
         let t = refused-told why in (
           v,
-          sym (ap (boundLine (refusalTold why)) (carried-none why (reasonOf (orderIn f) (boundIn input)))
-              ∙ (ap (λ (w : Verdict). boundLine w nothing) (t .2) ∙ sym
+          sym (ap (lineBy (refusalTold why)) (carried-none why (reasonOf (orderIn f) (boundIn input)))
+              ∙ (ap (λ (w : Verdict). lineBy w nothing) (t .2) ∙ sym
               (ap (λ (w : Verdict). refusedLine (numberBy w) (carriedBy w)) (t .2))))
               ∙ line-of (refusalTold why) v,
         )

@@ -1,7 +1,6 @@
 -- An answer of the code as its line, and what is written for an order. Only this crate's own functions are held to these.
 use Prim.Native.Nat.{ℕ}
 use mathlib.Core.Path.{_≡_}
-use mathlib.Core.Bool.{Bool, true, false}
 use mathlib.Core.List.{List}
 use lib.IntN.{ℤ}
 use Rattle.order.specs.Order.{Order}
@@ -27,11 +26,6 @@ plannedLine (Rows count) dues = meetsLine
 plannedLine (Tight reason) dues = tightLine (reasonTold reason dues)
 plannedLine (Refused r) dues = refusalLine r
 
-abbrev pub refusedOf : Planned → Bool
-refusedOf (Rows count) = false
-refusedOf (Tight reason) = true
-refusedOf (Refused r) = true
-
 -- of an order at its least lateness
 pub record LeastOutput (o : Order) (buffer after : List ℕ) (r : Output) : Type 0 where
   pub text : List ℕ
@@ -42,6 +36,6 @@ pub record LeastOutput (o : Order) (buffer after : List ℕ) (r : Output) : Type
 -- of an order at a bound
 abbrev pub BoundOutput : Order → ℤ → List ℕ → List ℕ → Output → Type 0
 BoundOutput o bound buffer after r =
-    Put buffer 0 (boundLine (judge (planRows o bound rowsLent)) (reasonCarried (judge (planRows o bound rowsLent)) (reasonOf o bound)))
-    after (r .length)
+    Put buffer 0 (boundLine o bound (judge (planRows o bound rowsLent))
+    (reasonCarried (judge (planRows o bound rowsLent)) (reasonOf o bound))) after (r .length)
     × (r .refused ≡ isRefused (judge (planRows o bound rowsLent)))

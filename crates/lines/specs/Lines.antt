@@ -1,12 +1,14 @@
--- Document 01's lines: what plan-order and try-bound print.
+-- What plan-order and try-bound print: document 01's lines, and document 02's line of a reason.
 use Prim.Native.Nat.{ℕ}
 use mathlib.Core.List.{List, [], _∷_, _++_}
 use lib.IntN.{ℤ}
 use lib.ListN.{length}
+use Rattle.order.specs.Order.{Order}
 use Rattle.order.specs.Refusals.{Verdict, accepted, refused}
 use Rattle.plan.specs.Plan.{Row}
 use Rattle.profile.specs.Reason.{Reason, overEnd, stairs}
 use Rattle.profile.specs.Search.{Found, nothing, found}
+use Rattle.sentence.specs.Line.{lineOf}
 use Rattle.text.specs.Text.{ascii, lineEnd, number, signedNumber}
 
 -- "A refusal prints `refused` with number and job"
@@ -44,8 +46,9 @@ unfoldable pub tightLine : Reason → List ℕ
 tightLine (overEnd job) = ascii "tight job" ++ (number job ++ lineEnd)
 tightLine (stairs dues) = ascii "tight stairs" ++ (signedNumbers dues ++ lineEnd)
 
--- by what the table answers, and the reason that comes with a 10
-abbrev pub boundLine : Verdict → Found Reason → List ℕ
-boundLine accepted reason = meetsLine
-boundLine (refused refusal carried) (found reason) = tightLine reason
-boundLine (refused refusal carried) nothing = refusedLine refusal carried
+-- by what the table answers, and the reason that comes with a 10; document 02, §1, of the reason's line: "`try-bound` prints this
+-- line after its `tight` line"
+abbrev pub boundLine : Order → ℤ → Verdict → Found Reason → List ℕ
+boundLine o bound accepted reason = meetsLine
+boundLine o bound (refused refusal carried) (found reason) = tightLine reason ++ (lineOf o bound reason ++ lineEnd)
+boundLine o bound (refused refusal carried) nothing = refusedLine refusal carried

@@ -63,7 +63,7 @@ tryBoundVerdict input = cond (ltb (length input) 4) (refused 12 0) (judge (tryBo
 -- what try-bound writes
 unfoldable pub tryBoundText : List ℕ → List ℕ
 tryBoundText input =
-    boundLine (tryBoundVerdict input)
+    boundLine (orderIn (drop 4 input)) (boundIn input) (tryBoundVerdict input)
     (reasonCarried (tryBoundVerdict input) (reasonOf (orderIn (drop 4 input)) (boundIn input)))
 
 abbrev pub TryBoundOutput : List ℕ → List ℕ → List ℕ → Output → Type 0

@@ -1,19 +1,30 @@
-// The line of a refusal and of an answer at a bound. All serve this crate and those above, and have a `requires`.
+// The lines of a refusal and of an answer at a bound. All serve this crate and those above, and have a `requires`.
+use order::Order;
 use order::Refusal;
 use order::told::carried_of;
 use order::told::number_of;
 use planner::PlanAnswer;
 use planner::Planned;
 use reason::Reason;
+use reason::Tightness;
+use reason::Why;
+use sentence::line::put_line;
 use text::put::put_bytes;
 use text::put::put_number;
 use text::put::put_signed;
 ghost use mathlib.Core.Path.{_≡_};
+ghost use mathlib.Core.Bool.{true};
+ghost use mathlib.Core.List.{_++_};
 ghost use Prim.Native.Nat.{_+_, _≤_, min};
 ghost use lib.ListN.{length, take};
+ghost use Rattle.order.specs.Refusals.{Accepted, boundInRange};
+ghost use Rattle.order.specs.Table.{orderOf};
 ghost use Rattle.profile.specs.Reason.{overEnd, stairs};
 ghost use Rattle.reason.specs.Told.{reasonTold};
-ghost use Rattle.text.specs.Text.{Put};
+ghost use Rattle.reason.specs.declared.Tightness.the-variants.{Tight};
+ghost use Rattle.sentence.specs.Handed.{handed};
+ghost use Rattle.sentence.specs.Line.{composed};
+ghost use Rattle.text.specs.Text.{lineEnd, Put};
 ghost use Rattle.lines.specs.Lines.{signedNumbers, tightLine};
 ghost use Rattle.lines.specs.Inside.{refusalLine, plannedLine};
 
@@ -90,4 +101,28 @@ pub fn put_planned(out: &mut [u8], at: usize, answer: PlanAnswer) -> usize
         Planned::Tight(reason) => put_tight(out, at, reason, dues),
         Planned::Refused(refusal) => put_refused(out, at, refusal),
     }
+}
+
+// The `tight` line of a reason, and after it the line of the reason itself.
+pub fn put_reason(
+    out: &mut [u8],
+    order: Order,
+    bound: i32,
+    reason: Reason,
+    dues: [i32; 16],
+) -> usize
+    requires { ⌜ Accepted (orderOf order) × (boundInRange bound ≡ true) × (804 ≤ length (now out)) ⌝ }
+    ensures { λ r. ⌜ Put (now (out .entry)) 0 (tightLine (reasonTold reason dues) ++ (composed (orderOf order) bound
+        (handed (orderOf order) (record { tightness = Tight reason; dues = dues })) ++ lineEnd)) (now (out .exit)) r
+        × (r ≤ 804) ⌝ }
+{
+    let behind = put_tight(out, 0, reason, dues);
+    let why = Why {
+        tightness: Tightness::Tight(reason),
+        dues,
+    };
+    let mut text = [0u8; 598];
+    let n = put_line(order, bound, why, &mut text);
+    let end = put_bytes(out, behind, &text[..n]);
+    put_bytes(out, end, b"\n")
 }

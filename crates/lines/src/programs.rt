@@ -1,7 +1,7 @@
 // What each program writes for the bytes that it reads, whole. Each function serves the programs and has a `requires`: room for
 // the longest output.
 use super::Output;
-use super::answers::put_planned;
+use super::answers::put_reason;
 use super::answers::put_refused;
 use super::plans::put_plan;
 use order::Acceptance;
@@ -14,13 +14,13 @@ use planner::Least;
 use planner::Planned;
 use planner::bound::plan_at;
 use planner::lateness::least_lateness;
-ghost use mathlib.Core.Path.{_≡_};
+use text::put::put_bytes;
 ghost use Prim.Native.Nat.{_≤_};
 ghost use lib.ListN.{length};
 ghost use Rattle.order.specs.Refusals.{Accepted};
 ghost use Rattle.order.specs.Table.{orderOf};
 ghost use Rattle.lines.specs.Programs.{PlanOrderOutput, TryBoundOutput};
-ghost use Rattle.lines.specs.Inside.{refusedOf, LeastOutput, BoundOutput};
+ghost use Rattle.lines.specs.Inside.{LeastOutput, BoundOutput};
 
 // Of an accepted order.
 fn least_output(order: Order, out: &mut [u8]) -> Output
@@ -57,34 +57,35 @@ pub fn plan_output(file: &[u8], out: &mut [u8]) -> Output
     least_output(got.order, out)
 }
 
-fn is_refused(planned: Planned) -> bool
-    ensures { λ r. ⌜ r ≡ refusedOf planned ⌝ }
-{
-    match planned {
-        Planned::Rows(_) => false,
-        Planned::Tight(_) => true,
-        Planned::Refused(_) => true,
-    }
-}
-
 // Of an order at a bound.
 fn bound_output(order: Order, bound: i32, out: &mut [u8]) -> Output
-    requires { ⌜ 205 ≤ length (now out) ⌝ }
-    ensures { λ r. ⌜ BoundOutput (orderOf order) bound (now (out .entry)) (now (out .exit)) r × (r .length ≤ 205) ⌝ }
+    requires { ⌜ 804 ≤ length (now out) ⌝ }
+    ensures { λ r. ⌜ BoundOutput (orderOf order) bound (now (out .entry)) (now (out .exit)) r × (r .length ≤ 804) ⌝ }
 {
     let mut rows = [0u32; 12096];
     let answer = plan_at(order, bound, &mut rows);
     let planned = answer.planned;
-    Output {
-        length: put_planned(out, 0, answer),
-        refused: is_refused(planned),
+    let dues = answer.dues;
+    match planned {
+        Planned::Rows(_) => Output {
+            length: put_bytes(out, 0, b"meets\n"),
+            refused: false,
+        },
+        Planned::Tight(reason) => Output {
+            length: put_reason(out, order, bound, reason, dues),
+            refused: true,
+        },
+        Planned::Refused(refusal) => Output {
+            length: put_refused(out, 0, refusal),
+            refused: true,
+        },
     }
 }
 
 // try-bound, of a bound and a file.
 pub fn tried_output(input: &[u8], out: &mut [u8]) -> Output
-    requires { ⌜ 205 ≤ length (now out) ⌝ }
-    ensures { λ r. ⌜ TryBoundOutput (now (input .entry)) (now (out .entry)) (now (out .exit)) r × (r .length ≤ 205) ⌝ }
+    requires { ⌜ 804 ≤ length (now out) ⌝ }
+    ensures { λ r. ⌜ TryBoundOutput (now (input .entry)) (now (out .entry)) (now (out .exit)) r × (r .length ≤ 804) ⌝ }
 {
     if input.len() < 4 {
         return Output {

@@ -8,5 +8,6 @@ pub mod LeastRead
 pub mod Demand
 pub mod DemandMet
 pub mod AnswerLaws
+pub mod TenLaws
 pub mod NoPlan
 pub mod Making

@@ -7,6 +7,7 @@ pub mod SearchLaws
 pub mod ReasonLaws
 pub mod Standing
 pub mod StandingLaws
+pub mod MinutesLaws
 pub mod Weights
 pub mod LeastLaws
 pub mod Threshold

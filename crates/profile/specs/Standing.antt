@@ -1,7 +1,7 @@
 -- The reasons that stand at a bound, by trying (document 02, §1): every job over its end, in input order, or, with none such, every
 -- overfull staircase, in ranking order.
 use Prim.Native.Nat.{ℕ, suc}
-use mathlib.Core.Bool.{Bool, true, false, _||_}
+use mathlib.Core.Bool.{Bool, false, _||_}
 use mathlib.Core.List.{List, [], _∷_, map}
 use lib.Dec.{eqb}
 use lib.IntN.{ℤ, pos, negsuc}

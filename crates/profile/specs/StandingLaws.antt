@@ -9,15 +9,15 @@ use borrow.Author.Tests.{eqb-true, eq-eqb}
 use lib.IntN.{ℤ, pos, negsuc}
 use lib.ListN.{length}
 use lib.Signed.{ltZ, _<ℤ_, clashℤ}
-use Rattle.sums.specs.Lists.{All, In, keep, tabulate}
+use Rattle.sums.specs.Lists.{In, keep, tabulate}
 use Rattle.sums.specs.Members.{All-in, in-map, map-in}
 use Rattle.sums.specs.Places.{numbers-are, numbers-in, numbers-rise}
-use Rattle.sums.specs.Same.{Tells, sameList, list-tells}
+use Rattle.sums.specs.Same.{Tells, list-tells}
 use Rattle.order.specs.Order.{Order, jobCount, Numbers, jobOf, endOf}
 use Rattle.order.specs.Sorted.{dueTimes}
 use Rattle.order.specs.Class.{classes}
 use Rattle.order.specs.Refusals.{clear}
-use Rattle.order.specs.Whole.{ltZ-true, true-ltZ, ltZ-false, false-ltZ}
+use Rattle.order.specs.Whole.{ltZ-true, true-ltZ, ltZ-false}
 use Rattle.profile.specs.Profile.{Overfull}
 use Rattle.profile.specs.Reason.{Reason, overEnd, stairs, OverEnd, InTime, FirstOverEnd, IsReason, Stands, owedOf, onHandOf}
 use Rattle.profile.specs.ReasonLaws.{reason-found, reason-none}
@@ -30,17 +30,7 @@ use Rattle.profile.specs.SearchLaws.{
   firstOverfull-found,
   firstOverfull-none,
 }
-use Rattle.profile.specs.Standing.{
-  jobsOverEnd,
-  overfullStairs,
-  orElse,
-  reasonsAt,
-  headOf,
-  sameZ,
-  sameReason,
-  isOneOf,
-  isStanding,
-}
+use Rattle.profile.specs.Standing.{jobsOverEnd, overfullStairs, orElse, reasonsAt, headOf, sameZ, sameReason, isOneOf, isStanding}
 
 -- document 01's reason stands
 pub reason-stands : (o : Order) (bound : ℤ) (r : Reason) → IsReason o bound r → Stands o bound r

@@ -4,12 +4,12 @@ use mathlib.Core.Path.{_≡_, refl, sym, ap, _∙_}
 use mathlib.Core.Bool.{Bool, true, false, cond, not, _&&_}
 use mathlib.Core.List.{List, []}
 use borrow.Author.Tests.{le-leb, lt-leb, not-true, not-false}
-use lib.Dec.{leb, eqb}
+use lib.Dec.{eqb}
 use lib.IntN.{ℤ}
 use lib.ListN.{length, take, drop}
 use Rattle.order.specs.Order.{Order, jobOf}
-use Rattle.profile.specs.Reason.{Reason as TightReason, overEnd, stairs}
-use Rattle.profile.specs.Search.{Found, nothing, found}
+use Rattle.profile.specs.Reason.{overEnd, stairs}
+use Rattle.profile.specs.Search.{nothing, found}
 use Rattle.reason.specs.declared.Reason.{Reason}
 use Rattle.reason.specs.declared.Reason.the-variants.{Job, Stairs}
 use Rattle.reason.specs.declared.Tightness.{Tightness}

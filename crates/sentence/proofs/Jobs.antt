@@ -2,10 +2,10 @@
 use Prim.Native.Nat.{ℕ, zero, suc, _-_, _≤_, _<_}
 use mathlib.Core.Path.{_≡_, refl, sym, ap, _∙_}
 use mathlib.Core.Bool.{Bool, true, false, cond}
-use mathlib.Core.List.{List, [], _++_}
+use mathlib.Core.List.{[], _++_}
 use mathlib.Core.Logic.{inl, inr}
 use native.Mathlib.Omega.{arith}
-use borrow.Author.Tests.{eqb-true, eq-eqb, ne-eqb}
+use borrow.Author.Tests.{eq-eqb, ne-eqb}
 use lib.Dec.{eqb}
 use lib.IntN.{ℤ, pos}
 use lib.ListN.{getD}
@@ -24,7 +24,7 @@ use Rattle.order.specs.StructLaws.{job-count, due-in-range-at}
 use Rattle.order.specs.Whole.{le-or-lt}
 use Rattle.order.specs.declared.Order.{Order as OrderTable}
 use Rattle.profile.specs.Reason.{overEnd, OverEnd, Stands}
-use Rattle.profile.specs.Search.{Found, nothing, found}
+use Rattle.profile.specs.Search.{nothing, found}
 use Rattle.sentence.specs.Inside.{jobComposed}
 use Rattle.text.specs.Text.{ascii}
 use Rattle.sentence.specs.Line.{between, jobText, sumsText, lineOf, composed}

@@ -1,8 +1,8 @@
 -- The reason that a line is tried with is the one that it reads back to, if its line is this one; else there is none.
 use Prim.Native.Nat.{ℕ, _≤_}
 use mathlib.Core.Path.{_≡_, refl, sym, ap, _∙_, subst}
-use mathlib.Core.Bool.{Bool, true, false, true≢false}
-use mathlib.Core.List.{List, []}
+use mathlib.Core.Bool.{Bool, true, false}
+use mathlib.Core.List.{List}
 use mathlib.Core.Logic.{_↔_}
 use native.Mathlib.Omega.{arith}
 use lib.Dec.{eqb}
@@ -15,7 +15,6 @@ use Rattle.profile.specs.Reason.{Reason, overEnd, stairs, Stands}
 use Rattle.profile.specs.Search.{Found, nothing, found}
 use Rattle.reason.specs.Told.{whyOf}
 use Rattle.reason.specs.declared.Why.{Why}
-use Rattle.text.specs.Text.{Put}
 use Rattle.sentence.specs.Handed.{handed}
 use Rattle.sentence.specs.HandedLaws.{Fitting, handed-own}
 use Rattle.sentence.specs.Line.{lineOf, composed, readBack}

@@ -9,10 +9,10 @@ use Rattle.sums.specs.Lists.{tabulate}
 use Rattle.order.specs.Class.{classes}
 use Rattle.order.specs.Lead.{reachAt, lastDue}
 use Rattle.order.specs.Order.{Order, jobCount, Numbers, jobOf}
-use Rattle.order.specs.Refusals.{Finding, clear, holds, first}
+use Rattle.order.specs.Refusals.{clear, first}
 use Rattle.order.specs.RefusalLaws.{Acceptable}
 use Rattle.order.specs.Table.{findingOf}
-use Rattle.profile.specs.Profile.{minutesOwed, minutesOnHand}
+use Rattle.profile.specs.Profile.{minutesOwed}
 use Rattle.profile.specs.Reason.{InTime, stairs, Stands}
 use Rattle.profile.specs.ReasonLaws.{none-over-end}
 use Rattle.profile.specs.Search.{found, firstOverEnd}
@@ -24,7 +24,7 @@ use Rattle.table.specs.declared.Table.{Table}
 use Rattle.sentence.specs.Inside.{owedTo, handTo, StepsReached, StepsFit, SumsTold, WeighedTold}
 use Rattle.sentence.specs.Line.{classesFrom, sumsText, lineOf, composed}
 use Rattle.sentence.specs.LineLaws.{composed-line}
-use Rattle.sentence.specs.WeighLaws.{steps-reached, weighed-told, stands-fits}
+use Rattle.sentence.specs.WeighLaws.{steps-reached, weighed-told}
 use Rattle.sentence.specs.declared.Weighed.{Weighed}
 use Rattle.sentence.specs.declared.Weighed.the-variants.{Stands as Overfull, Falls}
 use Rattle.sentence.proofs.Classes.{classes-told}

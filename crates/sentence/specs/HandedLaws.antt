@@ -14,9 +14,9 @@ use Rattle.sums.specs.Places.{take-tabulate}
 use Rattle.order.specs.Order.{Order, jobOf}
 use Rattle.order.specs.RefusalLaws.{both-true}
 use Rattle.profile.specs.Reason.{Reason as TightReason, overEnd, stairs}
-use Rattle.profile.specs.Search.{Found, nothing, found}
+use Rattle.profile.specs.Search.{nothing, found}
 use Rattle.profile.specs.Standing.{sameZ}
-use Rattle.reason.specs.Told.{sixteen, whyOf}
+use Rattle.reason.specs.Told.{whyOf}
 use Rattle.reason.specs.declared.Reason.the-variants.{Job, Stairs}
 use Rattle.reason.specs.declared.Tightness.{Tightness}
 use Rattle.reason.specs.declared.Tightness.the-variants.{Tight, Met}

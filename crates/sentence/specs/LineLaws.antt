@@ -1,33 +1,30 @@
 -- Document 02, §1: "Each line composed for a reason reads back to that reason alone at a given order and bound, any other line to none",
 -- and "anything else composes to an empty line".
-use Prim.Native.Nat.{ℕ, _+_, _≤_, _<_}
-use mathlib.Core.Path.{_≡_, refl, sym, ap, _∙_, subst}
+use Prim.Native.Nat.{ℕ, _≤_}
+use mathlib.Core.Path.{_≡_, refl, sym, ap, _∙_}
 use mathlib.Core.Bool.{Bool, true, false, cond}
-use mathlib.Core.List.{List, [], _∷_, _++_}
+use mathlib.Core.List.{List, []}
 use mathlib.Core.Logic.{_↔_}
 use native.Mathlib.Omega.{arith}
 use borrow.Author.Tests.{eqb-true, eq-eqb}
 use lib.Dec.{eqb}
 use lib.IntN.{ℤ, pos}
 use lib.ListN.{length, length-append}
-use lib.Signed.{mag}
-use Rattle.sums.specs.Lists.{All, In}
-use Rattle.sums.specs.Members.{All-map, All-nth}
+use Rattle.sums.specs.Members.{All-map}
 use Rattle.sums.specs.Places.{take-tabulate}
 use Rattle.sums.specs.Same.{Tells, sameList, list-tells}
-use Rattle.order.specs.Order.{Order, Job, noJob}
-use Rattle.order.specs.Sorted.{dueTimes}
+use Rattle.order.specs.Order.{Order}
 use Rattle.order.specs.ClassLaws.{classes-few}
 use Rattle.order.specs.EndLaws.{mag-range}
-use Rattle.order.specs.Refusals.{Accepted, dueInRange}
-use Rattle.order.specs.RefusalLaws.{accepted-iff, dues-in-range}
+use Rattle.order.specs.Refusals.{Accepted}
+use Rattle.order.specs.RefusalLaws.{accepted-iff}
+use Rattle.profile.specs.MinutesLaws.{dues-range}
 use Rattle.profile.specs.Reason.{Reason, overEnd, stairs, Stands, owedOf, onHandOf}
-use Rattle.profile.specs.Search.{Found, nothing, found, firstSuch}
-use Rattle.profile.specs.SearchLaws.{found-passes, nothing-passes, in-due, profile-chosen}
+use Rattle.profile.specs.Search.{Found, nothing, found}
+use Rattle.profile.specs.SearchLaws.{found-passes, nothing-passes}
 use Rattle.profile.specs.Standing.{reasonsAt, isStanding}
 use Rattle.profile.specs.StandingLaws.{reasons-are, standing-is}
 use Rattle.reason.specs.Told.{whyOf, whyTold}
-use Rattle.text.specs.Text.{ascii, number, signedNumber}
 use Rattle.sentence.specs.Line.{subjectOf, sumsText, lineOf, composed, readBack}
 use Rattle.sentence.specs.Scanning.{candidate}
 use Rattle.sentence.specs.ScanLaws.{Short, candidate-found}
@@ -71,16 +68,11 @@ module _ (o : Order) (ok : Accepted o) (bound : ℤ) where
   pub stands-short : (r : Reason) → Stands o bound r → Short r
   stands-short (overEnd j) h = omega (arith, h .0 .1, accepted-iff o .0 ok .few-jobs)
   stands-short (stairs dues) h =
-      let p = h .1 .profile in (
-        omega (arith, p .of-classes, classes-few o, accepted-iff o .0 ok .few-processors),
-        All-map _ _ dues (λ (d : ℤ) i. omega (arith, mag-range 999999 1000000 d (due-range d i))) (profile-chosen o bound dues p .members),
+      let p = h .1 .profile in
+      let a = accepted-iff o .0 ok in (
+        omega (arith, p .of-classes, classes-few o, a .few-processors),
+        All-map _ _ dues (λ (d : ℤ) r. omega (arith, mag-range 999999 1000000 d r)) (dues-range o a bound dues p),
       )
-    where
-      due-range : (d : ℤ) → In d (dueTimes o) → dueInRange d ≡ true
-      due-range d i =
-          let j = in-due o d i in
-          subst (λ (z : ℤ). dueInRange z ≡ true) (sym (j .2))
-          (All-nth (λ (job : Job). dueInRange (job .due) ≡ true) (o .jobs) noJob (dues-in-range o (accepted-iff o .0 ok)) (j .0) (j .1 .0) (j .1 .1))
 
   -- "no line may be taken for another reason"
   pub line-one : (r s : Reason) → Stands o bound r → Stands o bound s → lineOf o bound r ≡ lineOf o bound s → r ≡ s

@@ -1,6 +1,6 @@
 -- The numbers in a line, byte by byte, and the reason that they would be of: the first number is a job's, the second, fourth, .. are due
 -- times. What a line reads back to does not rest on this: the reason is only tried.
-use Prim.Native.Nat.{ℕ, zero, suc, _+_, _-_, _*_, _/_, _%_}
+use Prim.Native.Nat.{ℕ, _+_, _-_, _*_, _/_, _%_}
 use mathlib.Core.Bool.{Bool, true, false, cond}
 use mathlib.Core.List.{List, [], _∷_}
 use lib.Dec.{ltb, leb, eqb}

@@ -1,6 +1,6 @@
 -- Due times that fit one by one are chosen from the jobs' due times and never rise, and the other way round.
 use Prim.Native.Nat.{ℕ, zero, suc, _≤_, _<_}
-use mathlib.Core.Path.{_≡_, refl, sym, subst}
+use mathlib.Core.Path.{_≡_, refl}
 use mathlib.Core.List.{List}
 use native.Mathlib.Omega.{arith}
 use native.Mathlib.Decide.{ℕ-discrete}
@@ -15,7 +15,7 @@ use Rattle.order.specs.Order.{Order}
 use Rattle.order.specs.Sorted.{dueTimes}
 use Rattle.order.specs.Whole.{≤ℤ-trans}
 use Rattle.profile.specs.Ranking.{Chosen}
-use Rattle.sentence.specs.Inside.{StepFits, StepsFit}
+use Rattle.sentence.specs.Inside.{StepsFit}
 
 module _ (o : Order) (dues : List ℤ) (k : ℕ) (few : k ≤ length dues) where
   size : length (take k dues) ≡ k

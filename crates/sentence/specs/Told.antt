@@ -1,13 +1,11 @@
 -- What composing and reading back judge and answer.
 use Prim.Native.Nat.{ℕ}
-use mathlib.Core.Path.{_≡_}
 use mathlib.Core.List.{List, [], _∷_, _++_}
 use lib.IntN.{ℤ}
 use lib.ListN.{length, drop}
 use Rattle.order.specs.Order.{Order}
 use Rattle.order.specs.Refusals.{limits, TableRow, Verdict, accepted, refused, Answer, answer, answerBy, orderRows, boundRow, roomRow}
 use Rattle.order.specs.Table.{refusalTold}
-use Rattle.order.specs.declared.Acceptance.the-variants.{Accepted, Refused as NotAccepted}
 use Rattle.profile.specs.Search.{nothing}
 use Rattle.reason.specs.Told.{whyOf}
 use Rattle.reason.specs.declared.Why.{Why}
@@ -15,7 +13,6 @@ use Rattle.sentence.specs.Handed.{handed}
 use Rattle.sentence.specs.Line.{composed, readBack}
 use Rattle.sentence.specs.declared.Composed.{Composed}
 use Rattle.sentence.specs.declared.Composed.the-variants.{Length, Refused}
-use Rattle.sentence.specs.declared.Recovered.{Recovered}
 
 -- "1 to 8 apply, and a line longer than its buffer is 9"
 unfoldable pub composeRows : Order → ℤ → Why → ℕ → List TableRow

@@ -1,28 +1,24 @@
 -- The two sums of a staircase, as the loops make them, are document 01's, where every job is in time.
-use Prim.Native.Nat.{ℕ, zero, suc, _+_, _-_, _*_, _≤_, _<_}
-use mathlib.Core.Path.{_≡_, refl, sym, ap, _∙_, subst}
+use Prim.Native.Nat.{ℕ, suc, _+_, _-_, _*_, _≤_, _<_}
+use mathlib.Core.Path.{_≡_, sym, ap, _∙_, subst}
 use mathlib.Core.Bool.{true}
 use mathlib.Core.List.{List, [], _∷_}
-use mathlib.Core.Logic.{_↔_}
 use native.Mathlib.Omega.{arith}
-use lib.Dec.{eqb}
-use lib.IntN.{ℤ, pos, _+ℤ_, _*ℤ_}
+use lib.IntN.{ℤ, pos}
 use lib.ListN.{length, getD, take}
 use lib.Seq.{length-take-le, getD-take}
-use lib.Signed.{_≤ℤ_, _<ℤ_}
+use lib.Signed.{_<ℤ_}
 use Rattle.sums.specs.Sum.{sum, sum-none, sum-cong}
-use Rattle.sums.specs.Lists.{All, In, total, only}
+use Rattle.sums.specs.Lists.{All}
 use Rattle.sums.specs.Members.{All-nth, All-from}
 use Rattle.sums.specs.Totals.{sum-first}
 use Rattle.order.specs.Order.{Job, Order, jobCount, Numbers, noJob, jobOf, endAt, endOf}
-use Rattle.order.specs.Class.{classes, classOf, processorsIn}
-use Rattle.order.specs.Sorted.{dueTimes}
+use Rattle.order.specs.Class.{classes, processorsIn}
 use Rattle.order.specs.Lead.{lead, reachAt, lastDue}
 use Rattle.order.specs.LeadLaws.{in-time-reach, end-reach, due-by-last}
 use Rattle.order.specs.Refusals.{dueInRange}
 use Rattle.order.specs.RefusalLaws.{Acceptable, dues-in-range}
 use Rattle.order.specs.Whole.{pos-lt, pos-cut}
-use Rattle.profile.specs.Least.{owedAt}
 use Rattle.profile.specs.Profile.{classOwes, owedFrom, onHandFrom, minutesOwed, minutesOnHand}
 use Rattle.profile.specs.Reason.{InTime, stairs, Stands}
 use Rattle.profile.specs.SearchLaws.{in-due, profile-chosen, chosen-profile}
@@ -32,7 +28,7 @@ use Rattle.table.specs.declared.Table.{Table}
 use Rattle.reason.specs.Matching.{owes-same}
 use Rattle.sentence.specs.declared.Weighed.{Weighed}
 use Rattle.sentence.specs.declared.Weighed.the-variants.{Stands as Overfull, Falls}
-use Rattle.sentence.specs.Inside.{owesBy, owedTo, handTo, DuesInRange, StepsReached, StepsFit, SumsTold, WeighedTold}
+use Rattle.sentence.specs.Inside.{owesBy, owedTo, handTo, StepsReached, StepsFit, SumsTold, WeighedTold}
 use Rattle.sentence.specs.StepLaws.{steps-chosen, chosen-steps}
 
 -- sums over the classes from one on, as sums over places

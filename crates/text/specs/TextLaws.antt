@@ -5,9 +5,11 @@ use mathlib.Core.List.{List, [], _∷_, _++_, append-assoc}
 use native.Mathlib.Omega.{arith}
 use native.Mathlib.Decide.{decLt}
 use borrow.Author.Tests.{lt-ltb, le-ltb}
+use lib.IntN.{ℤ, pos, negsuc}
 use lib.ListN.{length, getD, take, drop, set, length-append, length-set, take-append-drop}
 use lib.Seq.{drop-drop, drop-append-add, length-take-le, take-at, take-suc, set-split}
-use Rattle.text.specs.Text.{digitsWithin, decimal, Put}
+use lib.Signed.{mag}
+use Rattle.text.specs.Text.{digitsWithin, decimal, signedDecimal, signedNumber, Put}
 
 -- enough is enough
 digits-same : (a b n : ℕ) → n < a → n < b → digitsWithin a n ≡ digitsWithin b n
@@ -46,6 +48,17 @@ decimal-length (suc k) n h =
 
 pub decimal-short : (n : ℕ) → n < 4294967296 → length (decimal n) ≤ 10
 decimal-short n h = decimal-length 9 n (omega arith)
+
+-- a whole number of at most suc k digits, behind a space and perhaps a minus sign
+pub signed-length : (k : ℕ) (z : ℤ) → suc (mag z) < 10 ^ suc k → length (signedNumber z) ≤ suc k + 2
+unfolding signedDecimal
+signed-length k (pos n) h = omega (arith, decimal-length k n (omega arith))
+signed-length k (negsuc n) h = omega (arith, decimal-length k (suc n) h)
+
+-- a natural number of at most suc k digits, behind a space
+pub natural-length : (k n : ℕ) (z : ℤ) → z ≡ pos n → n < 10 ^ suc k → length (signedNumber z) ≤ suc k + 1
+unfolding signedDecimal
+natural-length k n z e h = rw e (omega (arith, decimal-length k n h))
 
 -- one text behind the other
 pub put-both : {s : List ℕ} {at : ℕ} {xs t : List ℕ} {k : ℕ} {ys u : List ℕ} {l : ℕ} → Put s at xs t k → Put t k ys u l →

@@ -1,8 +1,8 @@
-// Text put into a lent buffer at a place; each function answers the place behind it. All serve this crate and those above, and
-// have a `requires`.
+// Text put into a lent buffer at a place; each `put_` function answers the place behind it. These serve this crate and those
+// above, and have a `requires`.
 use order_file::bytes::to_pattern;
-ghost use mathlib.Core.List.{[], _∷_};
-ghost use Prim.Native.Nat.{_+_, _<_, _≤_};
+ghost use mathlib.Core.Path.{_≡_};
+ghost use Prim.Native.Nat.{_+_, _≤_};
 ghost use lib.ListN.{length};
 ghost use Rattle.text.specs.Text.{decimal, number, signedNumber, Put};
 
@@ -19,25 +19,34 @@ pub fn put_bytes(out: &mut [u8], at: usize, bytes: &[u8]) -> usize
     at + i
 }
 
-// A digit.
-fn put_digit(out: &mut [u8], at: usize, digit: u32) -> usize
-    requires { ⌜ (digit < 10) × (at < length (now out)) ⌝ }
-    ensures { λ r. ⌜ Put (now (out .entry)) at ((48 + digit) ∷ []) (now (out .exit)) r ⌝ }
+// How many digits a number has in base ten.
+fn digits_of(n: u32) -> usize
+    ensures { λ r. ⌜ r ≡ length (decimal n) ⌝ }
 {
-    out[at] = 48 + digit as u8;
-    at + 1
+    let mut count: usize = 1;
+    let mut rest = n;
+    while 10 <= rest {
+        rest = rest / 10;
+        count += 1;
+    }
+    count
 }
 
-// A number in base ten.
+// A number in base ten, its last digit first.
 fn put_decimal(out: &mut [u8], at: usize, n: u32) -> usize
     requires { ⌜ at + length (decimal n) ≤ length (now out) ⌝ }
     ensures { λ r. ⌜ Put (now (out .entry)) at (decimal n) (now (out .exit)) r ⌝ }
 {
-    if n < 10 {
-        return put_digit(out, at, n);
+    let behind = at + digits_of(n);
+    let mut end = behind;
+    let mut rest = n;
+    while 10 <= rest {
+        end -= 1;
+        out[end] = 48 + (rest % 10) as u8;
+        rest = rest / 10;
     }
-    let behind = put_decimal(out, at, n / 10);
-    put_digit(out, behind, n % 10)
+    out[at] = 48 + rest as u8;
+    behind
 }
 
 // A space, and a number.

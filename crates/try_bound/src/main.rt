@@ -9,7 +9,7 @@ use lines::programs::tried_output;
 
 // What these bytes are answered with.
 fn answer(given: &[u8]) {
-    let mut out = [0u8; 205];
+    let mut out = [0u8; 804];
     let output = tried_output(given, &mut out);
     let length = output.length;
     if !write_output(&out[..length]) {

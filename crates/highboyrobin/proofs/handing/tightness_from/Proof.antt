@@ -11,7 +11,6 @@ use Rattle.highboyrobin.proofs.Handed.{
   stairs-time,
   stairs-kind,
 }
-use borrow.Author.Needs.{needs}
 use native.Mathlib.Omega.{arith}
 use Rattle.highboyrobin.proofs.handing.tightness_from.Statement.{statement}
 use Rattle.highboyrobin.proofs.handing.tightness_from.Tie as tie

@@ -3,7 +3,6 @@ use lib.ListN.{getD}
 use Rattle.order.specs.Machine.{machine-back}
 use Rattle.highboyrobin.proofs.Handed.{why-is}
 use borrow.Author.Needs.{needs}
-use native.Mathlib.Omega.{arith}
 use Rattle.highboyrobin.proofs.handing.why_from.Statement.{statement}
 use Rattle.highboyrobin.proofs.handing.why_from.Tie as tie
 use Rattle.highboyrobin.proofs.handing.why_from.Reads as reads

@@ -1,5 +1,5 @@
 use Prim.Native.Nat.{ℕ}
-use mathlib.Core.Path.{refl, sym, ap, _∙_}
+use mathlib.Core.Path.{sym, ap, _∙_}
 use mathlib.Core.List.{List, _++_}
 use lib.IntN.{ℤ}
 use lib.ListN.{length, drop}
@@ -18,7 +18,6 @@ use Rattle.highboyrobin.proofs.ReasonTold.{numbers-are, read-small}
 use Rattle.highboyrobin.proofs.SentenceTold.{back-moved, back-refused, back-read, back-begins}
 use Rattle.highboyrobin.specs.CallLaws.{numbers-count}
 use borrow.Author.Needs.{needs}
-use native.Mathlib.Omega.{arith}
 use Rattle.highboyrobin.proofs.parsing.hbr_parse.Statement.{statement}
 use Rattle.highboyrobin.proofs.parsing.hbr_parse.Tie as tie
 use Rattle.highboyrobin.proofs.parsing.hbr_parse.Reads as reads

@@ -1,6 +1,4 @@
 use mathlib.Core.Path.{sym, ap, _∙_}
-use lib.IntN.{pos}
-use lib.ListN.{getD}
 use Prim.Native.Nat.{_-_, _≤_}
 use Rattle.order.specs.StructLaws.{few-jobs}
 use Rattle.order.specs.Order.{Job}

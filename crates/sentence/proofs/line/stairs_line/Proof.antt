@@ -1,5 +1,4 @@
 use mathlib.Core.Path.{sym, ap, _∙_}
-use lib.IntN.{pos}
 use lib.ListN.{take}
 use mir.Syntax.{w32}
 use mir.ValLaws.{toZ-ofZ}

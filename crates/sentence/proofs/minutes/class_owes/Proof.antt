@@ -1,5 +1,4 @@
-use Prim.Native.Nat.{ℕ, _+_}
-use mathlib.Core.Path.{refl, sym, ap, _∙_}
+use mathlib.Core.Path.{sym, ap, _∙_}
 use Rattle.sums.specs.Sum.{sum-none}
 use Rattle.sentence.proofs.Adding.{sum-step, sum-to}
 use Rattle.sums.specs.Totals.{only-le}

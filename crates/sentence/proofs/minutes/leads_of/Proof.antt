@@ -1,4 +1,4 @@
-use Prim.Native.Nat.{ℕ, _<_}
+use Prim.Native.Nat.{ℕ}
 use mathlib.Core.Path.{ap, _∙_}
 use Rattle.order.specs.Machine.{machine-back}
 use Rattle.order.specs.Refusals.{dueInRange}

@@ -1,6 +1,4 @@
 use borrow.Author.Tests.{eq-eqb, ne-eqb}
-use borrow.Author.Needs.{needs}
-use native.Mathlib.Omega.{arith}
 use Rattle.sentence.proofs.minutes.owed_in.Statement.{statement}
 use Rattle.sentence.proofs.minutes.owed_in.Tie as tie
 use Rattle.sentence.proofs.minutes.owed_in.Reads as reads

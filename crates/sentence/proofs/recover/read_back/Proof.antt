@@ -1,4 +1,4 @@
-use mathlib.Core.Path.{_≡_, sym, ap, _∙_}
+use mathlib.Core.Path.{sym, ap, _∙_}
 use borrow.Author.Tests.{not-true, not-false}
 use lib.IntN.{ℤ}
 use mir.Syntax.{w32}
@@ -9,7 +9,6 @@ use Rattle.reason.specs.Told.{whyOf}
 use Rattle.sentence.specs.Line.{readBack}
 use Rattle.sentence.proofs.Answers.{read-order, read-bound, read-done}
 use borrow.Author.Needs.{needs}
-use native.Mathlib.Omega.{arith}
 use Rattle.sentence.proofs.recover.read_back.Statement.{statement}
 use Rattle.sentence.proofs.recover.read_back.Tie as tie
 use Rattle.sentence.proofs.recover.read_back.Reads as reads

@@ -1,13 +1,11 @@
-use mathlib.Core.Path.{_≡_, sym, ap, _∙_}
+use mathlib.Core.Path.{sym, ap, _∙_}
 use mathlib.Core.Bool.{true≢false}
-use lib.IntN.{ℤ}
 use mir.Syntax.{w32}
 use mir.ValLaws.{toZ-ofZ}
 use Rattle.order.specs.Refusals.{boundInRange}
 use Rattle.order.specs.Table.{orderOf}
 use Rattle.sentence.proofs.Readings.{read-is, read-not, has-at}
 use borrow.Author.Needs.{needs}
-use native.Mathlib.Omega.{arith}
 use Rattle.sentence.proofs.recover.recovered.Statement.{statement}
 use Rattle.sentence.proofs.recover.recovered.Tie as tie
 use Rattle.sentence.proofs.recover.recovered.Reads as reads

@@ -1,5 +1,4 @@
 use mathlib.Core.Path.{refl, sym, ap, _∙_, subst}
-use mathlib.Core.Bool.{true, false}
 use lib.IntN.{ℤ}
 use native.Mathlib.Decide.{ℕ-discrete}
 use mir.Val.{ofZ}

@@ -5,7 +5,6 @@ use Rattle.order.specs.Machine.{machine-back}
 use Rattle.order.specs.Table.{orderOf}
 use Rattle.sentence.proofs.Dues.{no-due, first-due, later-due}
 use borrow.Author.Needs.{needs}
-use native.Mathlib.Omega.{arith}
 use Rattle.sentence.proofs.standing.step_fits.Statement.{statement}
 use Rattle.sentence.proofs.standing.step_fits.Tie as tie
 use Rattle.sentence.proofs.standing.step_fits.Reads as reads

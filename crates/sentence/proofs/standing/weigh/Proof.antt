@@ -1,9 +1,7 @@
-use Prim.Native.Nat.{_≤_}
 use mathlib.Core.Path.{_≡_, sym, ap, _∙_}
 use mathlib.Core.Bool.{true≢false}
 use borrow.Author.Tests.{not-true, not-false}
 use lib.IntN.{ℤ}
-use lib.ListN.{length}
 use mir.Syntax.{w32}
 use mir.ValLaws.{toZ-ofZ}
 use Rattle.order.specs.Lead.{reachAt, lastDue}
@@ -12,8 +10,7 @@ use Rattle.order.specs.RefusalLaws.{accepted-iff}
 use Rattle.order.specs.Table.{orderOf}
 use Rattle.table.specs.Making.{fine-of}
 use Rattle.sentence.specs.WeighLaws.{stands-fits}
-use Rattle.sentence.proofs.Standings.{all-in-time, one-late, reached, weighed}
-use borrow.Author.Needs.{needs}
+use Rattle.sentence.proofs.Standings.{one-late, reached, weighed}
 use native.Mathlib.Omega.{arith}
 use Rattle.sentence.proofs.standing.weigh.Statement.{statement}
 use Rattle.sentence.proofs.standing.weigh.Tie as tie

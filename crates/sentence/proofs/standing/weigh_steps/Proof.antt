@@ -1,6 +1,5 @@
 use mathlib.Core.Path.{_∙_}
 use Rattle.sentence.proofs.Adding.{owed-same, hand-same}
-use borrow.Author.Needs.{needs}
 use native.Mathlib.Omega.{arith}
 use Rattle.sentence.proofs.standing.weigh_steps.Statement.{statement}
 use Rattle.sentence.proofs.standing.weigh_steps.Tie as tie
