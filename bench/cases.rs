@@ -1,4 +1,5 @@
-//! The cases: a file of each drawn order, its least lateness, a looser bound and plans to check.
+//! The cases: a file of each drawn order, its least lateness, a looser bound, plans to check, and a
+//! reason with its line.
 
 use crate::families::{FAMILIES, ORDERS_EACH};
 use crate::orders::Order;
@@ -15,10 +16,16 @@ pub struct Case {
     /// a plan of as many rows as a check may have, shuffled; of the first order of a family only,
     /// else empty
     pub long_plan: Vec<u32>,
+    /// the reason one minute below the least lateness, and its line
+    pub reason: [i32; 19],
+    pub line: Vec<u8>,
 }
 
 /// The most rows of a plan, and of a check.
 pub const ROWS_MOST: usize = 3024;
+
+/// The most bytes of a line.
+pub const LINE_MOST: usize = 541;
 
 pub fn draw(seed: u64) -> Vec<Case> {
     let mut random = Random::new(seed);
@@ -47,6 +54,7 @@ pub fn case_of(order: &Order, family: &'static str) -> Case {
     assert_eq!(result, 0, "a drawn order is refused");
     let [least, count] = answer;
     rows.truncate(4 * count as usize);
+    let (reason, line) = told(&file, least - 1);
     Case {
         family,
         file,
@@ -54,7 +62,23 @@ pub fn case_of(order: &Order, family: &'static str) -> Case {
         looser: least + order.longest_time(),
         plan: rows,
         long_plan: Vec::new(),
+        reason,
+        line,
     }
+}
+
+/// The reason at a bound that is too tight, and its line.
+fn told(file: &[u8], bound: i32) -> ([i32; 19], Vec<u8>) {
+    let mut reason = [0; 19];
+    let mut line = vec![0; LINE_MOST];
+    let mut answer = [0];
+    let result = plain::reason(file, bound, &mut reason);
+    assert_eq!(result, 0, "a reason is refused");
+    let result = plain::sentence(file, bound, &reason, &mut line, &mut answer);
+    assert_eq!(result, 0, "a line is refused");
+    line.truncate(answer[0] as usize);
+    assert!(!line.is_empty(), "a reason does not stand");
+    (reason, line)
 }
 
 /// Rows are halved, one after the other, until there are as many as a check may have or each is a

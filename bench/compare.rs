@@ -2,8 +2,9 @@
 //! stops the benchmark. The library and its plain build are of one method, so their rows must be
 //! the same word for word.
 
-use crate::cases::Case;
-use crate::independent::{self, Reason};
+use crate::cases::{Case, LINE_MOST};
+use crate::independent;
+use crate::numbers::{numbers_of, reason_of};
 use crate::subjects::{run, Buffers, Task, LIBRARY, PLAIN, TASKS};
 
 const BOUND_TOO_TIGHT: u32 = 10;
@@ -28,10 +29,11 @@ pub fn compare(place: usize, case: &Case) {
     check_judge(case, &order);
     check_least(case, &order);
     check_tight(case, &order);
+    check_lines(case, &order);
     check_plans(case, &order);
 }
 
-/// The library and its plain build give the same result, rows and answer.
+/// The library and its plain build give the same result, rows, line and answer.
 fn same_answers(case: &Case, task: Task) {
     let mut ours = Buffers::new();
     let mut plain = Buffers::new();
@@ -44,6 +46,7 @@ fn same_answers(case: &Case, task: Task) {
     assert_eq!(result, 0, "an accepted order is refused");
     assert_eq!(ours.answer, plain.answer, "answers differ");
     assert!(ours.rows == plain.rows, "rows differ");
+    assert!(ours.line == plain.line, "lines differ");
 }
 
 fn check_judge(case: &Case, order: &independent::Order) {
@@ -79,18 +82,48 @@ fn check_tight(case: &Case, order: &independent::Order) {
         "a plan below the least lateness"
     );
     run(&LIBRARY, Task::Reason, case, &mut buffers);
-    let mut expected = [0; 19];
-    match independent::reason(order, bound) {
-        Some(Reason::Job { job, time }) => {
-            expected[..3].copy_from_slice(&[1, job as i32, time as i32]);
-        }
-        Some(Reason::Stairs(dues)) => {
-            expected[..2].copy_from_slice(&[2, dues.len() as i32]);
-            expected[3..3 + dues.len()].copy_from_slice(&dues);
-        }
-        None => {}
-    }
+    let expected = numbers_of(independent::reason(order, bound));
     assert_eq!(buffers.answer, expected, "reasons differ");
+    assert_eq!(case.reason, expected, "reasons differ");
+}
+
+/// A minute below the least lateness the reason has its line and the line this reason. At the least
+/// lateness neither has the other, and a line that is cut or empty has none.
+fn check_lines(case: &Case, order: &independent::Order) {
+    let tight = case.least - 1;
+    let none = [0; 19];
+    composed(case, order, tight, &case.line);
+    composed(case, order, case.least, b"");
+    read_back(case, order, tight, &case.line, &case.reason);
+    read_back(case, order, case.least, &case.line, &none);
+    read_back(case, order, tight, &case.line[1..], &none);
+    read_back(case, order, tight, &case.line[..case.line.len() - 1], &none);
+    read_back(case, order, tight, b"", &none);
+}
+
+/// All three compose this line of the case's reason.
+fn composed(case: &Case, order: &independent::Order, bound: i32, line: &[u8]) {
+    for functions in [LIBRARY, PLAIN] {
+        let mut own = [0; LINE_MOST];
+        let mut answer = [0];
+        let result = (functions.sentence)(&case.file, bound, &case.reason, &mut own, &mut answer);
+        assert_eq!(result, 0, "a line is refused");
+        assert_eq!(&own[..answer[0] as usize], line, "lines differ");
+    }
+    let other = independent::composed(order, bound, &reason_of(&case.reason));
+    assert_eq!(other.as_bytes(), line, "lines differ");
+}
+
+/// All three read this reason, or none, from a line.
+fn read_back(case: &Case, order: &independent::Order, bound: i32, line: &[u8], reason: &[i32; 19]) {
+    for functions in [LIBRARY, PLAIN] {
+        let mut answer = [1; 19];
+        let result = (functions.parse)(&case.file, bound, line, &mut answer);
+        assert_eq!(result, 0, "a line is refused");
+        assert_eq!(&answer, reason, "readings differ");
+    }
+    let other = numbers_of(independent::read_back(order, bound, line));
+    assert_eq!(&other, reason, "readings differ");
 }
 
 /// Each one's plan is right by every check, and a plan that lacks its last row is not.

@@ -49,6 +49,44 @@ pub fn reason(file: &[u8], bound: i32, answer: &mut [i32]) -> u32 {
     }
 }
 
+pub fn sentence(
+    file: &[u8],
+    bound: i32,
+    reason: &[i32],
+    line: &mut [u8],
+    answer: &mut [i32],
+) -> u32 {
+    // SAFETY: as above.
+    unsafe {
+        raw::hbr_sentence(
+            file.as_ptr(),
+            file.len(),
+            bound,
+            reason.as_ptr(),
+            reason.len(),
+            line.as_mut_ptr(),
+            line.len(),
+            answer.as_mut_ptr(),
+            answer.len(),
+        )
+    }
+}
+
+pub fn parse(file: &[u8], bound: i32, line: &[u8], answer: &mut [i32]) -> u32 {
+    // SAFETY: as above.
+    unsafe {
+        raw::hbr_parse(
+            file.as_ptr(),
+            file.len(),
+            bound,
+            line.as_ptr(),
+            line.len(),
+            answer.as_mut_ptr(),
+            answer.len(),
+        )
+    }
+}
+
 pub fn check(file: &[u8], bound: i32, rows: &[u32], answer: &mut [i32]) -> u32 {
     // SAFETY: as above.
     unsafe {

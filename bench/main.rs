@@ -12,6 +12,7 @@ mod highboyrobin;
 #[path = "../tests/linked/independent.rs"]
 mod independent;
 mod library;
+mod numbers;
 mod orders;
 mod plain;
 mod random;

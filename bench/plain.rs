@@ -1,13 +1,18 @@
 //! The library's method in plain Rust, for the benchmark to compare with: the same algorithms,
-//! tables and passes, each value computed once and handed on by reference. Five functions of the C
-//! interface, with the same results.
+//! tables and passes, each value computed once and handed on by reference. Seven functions of the
+//! C interface, with the same results.
 
 mod amounts;
 mod check;
+mod line;
 mod order;
 mod read;
+mod recover;
+mod scan;
 mod setting;
 mod stairs;
+mod standing;
+mod text;
 mod wrap;
 
 use amounts::Amounts;
@@ -22,6 +27,7 @@ const BOUND_OUT_OF_RANGE: Refusal = Refusal::plain(8);
 const BUFFER_TOO_SHORT: Refusal = Refusal::plain(9);
 const BOUND_TOO_TIGHT: Refusal = Refusal::plain(10);
 const TOO_MANY_ROWS: Refusal = Refusal::plain(11);
+const SHORT_REASON: Refusal = Refusal::plain(253);
 const SHORT_ANSWER: Refusal = Refusal::plain(255);
 
 /// Judges an order file: processors, jobs, rows that a plan may have.
@@ -42,6 +48,22 @@ pub fn plan(file: &[u8], bound: i32, rows: &mut [u32], answer: &mut [i32]) -> u3
 /// Why no plan can meet the bound: the kind of the reason, then its numbers.
 pub fn reason(file: &[u8], bound: i32, answer: &mut [i32]) -> u32 {
     code(try_reason(file, bound, answer))
+}
+
+/// The line of a reason in `line`: its length, 0 where the reason does not stand.
+pub fn sentence(
+    file: &[u8],
+    bound: i32,
+    reason: &[i32],
+    line: &mut [u8],
+    answer: &mut [i32],
+) -> u32 {
+    code(try_sentence(file, bound, reason, line, answer))
+}
+
+/// The reason of a line: its kind, then its numbers; zeros where there is none.
+pub fn parse(file: &[u8], bound: i32, line: &[u8], answer: &mut [i32]) -> u32 {
+    code(try_parse(file, bound, line, answer))
 }
 
 /// Whether rows are a right plan that meets the bound: 1 for yes, 0 for no.
@@ -151,6 +173,33 @@ fn try_reason(file: &[u8], bound: i32, answer: &mut [i32]) -> Result<(), Refusal
             }
         }
     }
+    Ok(())
+}
+
+fn try_sentence(
+    file: &[u8],
+    bound: i32,
+    reason: &[i32],
+    line: &mut [u8],
+    answer: &mut [i32],
+) -> Result<(), Refusal> {
+    ask_answer(answer, 1)?;
+    let reason = reason.first_chunk().ok_or(SHORT_REASON)?;
+    let order = read::read(file)?;
+    ask_bound(bound)?;
+    let text = line::line_of(&order, bound, reason);
+    let written = text.written();
+    let room = line.get_mut(..written.len()).ok_or(BUFFER_TOO_SHORT)?;
+    room.copy_from_slice(written);
+    answer[0] = written.len() as i32;
+    Ok(())
+}
+
+fn try_parse(file: &[u8], bound: i32, line: &[u8], answer: &mut [i32]) -> Result<(), Refusal> {
+    ask_answer(answer, 19)?;
+    let order = read::read(file)?;
+    ask_bound(bound)?;
+    answer[..19].copy_from_slice(&recover::recover(&order, bound, line));
     Ok(())
 }
 

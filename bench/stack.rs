@@ -14,7 +14,7 @@ mod plain;
 mod random;
 mod worst;
 
-use cases::{Case, ROWS_MOST};
+use cases::{Case, LINE_MOST, ROWS_MOST};
 use highboyrobin::{raw, MOST_BYTES};
 use std::arch::asm;
 
@@ -28,10 +28,12 @@ struct Function {
 const WRITE: Function = function("hbr_write", raw::hbr_write as *const ());
 const JUDGE: Function = function("hbr_judge", raw::hbr_judge as *const ());
 const CHECK: Function = function("hbr_check", raw::hbr_check as *const ());
+const PARSE: Function = function("hbr_parse", raw::hbr_parse as *const ());
+const SENTENCE: Function = function("hbr_sentence", raw::hbr_sentence as *const ());
 const REASON: Function = function("hbr_reason", raw::hbr_reason as *const ());
 const PLAN: Function = function("hbr_plan", raw::hbr_plan as *const ());
 const LEAST: Function = function("hbr_least", raw::hbr_least as *const ());
-const FUNCTIONS: [Function; 6] = [WRITE, JUDGE, CHECK, REASON, PLAN, LEAST];
+const FUNCTIONS: [Function; 8] = [WRITE, JUDGE, CHECK, PARSE, SENTENCE, REASON, PLAN, LEAST];
 
 const fn function(name: &'static str, address: *const ()) -> Function {
     Function { name, address }
@@ -56,6 +58,14 @@ struct Stack([u8; STACK_BYTES]);
 const FILLINGS: [u8; 2] = [0x55, 0xAA];
 
 impl Call {
+    fn of(function: Function, arguments: &[Vec<u64>], result: u32) -> Call {
+        Call {
+            function,
+            arguments: arguments.concat(),
+            result,
+        }
+    }
+
     /// The bytes from the top of the stack down to the lowest that the call changed: its arguments there, return addresses and
     /// frames.
     fn depth(&self, stack: &mut Stack) -> usize {
@@ -108,6 +118,7 @@ impl Call {
 struct Lent {
     file: Vec<u8>,
     rows: Vec<u32>,
+    line: Vec<u8>,
     answer: [i32; 19],
 }
 
@@ -126,11 +137,7 @@ fn number(n: i32) -> Vec<u64> {
 fn calls(case: &Case, lists: &[u32], lent: &mut Lent) -> Vec<Call> {
     let mut calls = Vec::new();
     let mut add = |function: Function, arguments: &[Vec<u64>], result: u32| {
-        calls.push(Call {
-            function,
-            arguments: arguments.concat(),
-            result,
-        });
+        calls.push(Call::of(function, arguments, result));
     };
     let answer = lend(&mut lent.answer);
     let file = read(&case.file);
@@ -164,7 +171,56 @@ fn calls(case: &Case, lists: &[u32], lent: &mut Lent) -> Vec<Call> {
         let rows = lend(&mut lent.rows[..room]);
         add(LEAST, &[file.clone(), rows, answer.clone()], result);
     }
+    calls.extend(sentence_calls(case, lent));
+    calls.extend(parse_calls(case, lent));
     calls
+}
+
+/// The reason of a case, at other bounds too, and no reason; then refusals.
+fn sentence_calls(case: &Case, lent: &mut Lent) -> Vec<Call> {
+    let tight = case.least - 1;
+    let (file, reason) = (&case.file[..], &case.reason[..]);
+    let answer = lend(&mut lent.answer);
+    let given: [(&[u8], i32, &[i32], usize, u32); 9] = [
+        (file, tight, reason, LINE_MOST, 0),
+        (file, tight, reason, case.line.len(), 0),
+        (file, case.least, reason, 0, 0),
+        (file, -10_000_000, reason, LINE_MOST, 0),
+        (file, tight, &[0; 19], 0, 0),
+        (file, 10_000_001, reason, LINE_MOST, 8),
+        (file, tight, reason, case.line.len() - 1, 9),
+        (&file[1..], tight, reason, LINE_MOST, 12),
+        (file, tight, &reason[1..], LINE_MOST, 253),
+    ];
+    let call = |(file, bound, reason, room, result)| {
+        let line = lend(&mut lent.line[..room]);
+        let (file, bound, reason) = (read(file), number(bound), read(reason));
+        let arguments = [file, bound, reason, line, answer.clone()];
+        Call::of(SENTENCE, &arguments, result)
+    };
+    given.map(call).into()
+}
+
+/// The line of that reason, at other bounds too, an empty one, and two that are no reason's; then refusals.
+fn parse_calls(case: &Case, lent: &mut Lent) -> Vec<Call> {
+    let tight = case.least - 1;
+    let (file, line) = (&case.file[..], &case.line[..]);
+    let answer = lend(&mut lent.answer);
+    let given: [(&[u8], i32, &[u8], u32); 8] = [
+        (file, tight, line, 0),
+        (file, case.least, line, 0),
+        (file, -10_000_000, line, 0),
+        (file, tight, b"", 0),
+        (file, tight, &line[1..], 0),
+        (file, tight, &line[..line.len() - 1], 0),
+        (file, 10_000_001, line, 8),
+        (&file[1..], tight, line, 12),
+    ];
+    let call = |(file, bound, line, result)| {
+        let arguments = [read(file), number(bound), read(line), answer.clone()];
+        Call::of(PARSE, &arguments, result)
+    };
+    given.map(call).into()
 }
 
 /// The numbers of both lists of an order file.
@@ -180,6 +236,7 @@ fn main() {
     let mut lent = Lent {
         file: vec![0; MOST_BYTES],
         rows: vec![0; 4 * ROWS_MOST],
+        line: vec![0; LINE_MOST],
         answer: [0; 19],
     };
     let mut depths = Vec::new();

@@ -1,8 +1,8 @@
 //! The three implementations that are compared, each behind a function that does one task on one
 //! case.
 
-use crate::cases::{Case, ROWS_MOST};
-use crate::{independent, library, plain};
+use crate::cases::{Case, LINE_MOST, ROWS_MOST};
+use crate::{independent, library, numbers, plain};
 use std::hint::black_box;
 
 /// The C interface on slices, as the library and its plain build both have it.
@@ -11,6 +11,8 @@ pub struct Functions {
     pub least: fn(&[u8], &mut [u32], &mut [i32]) -> u32,
     pub plan: fn(&[u8], i32, &mut [u32], &mut [i32]) -> u32,
     pub reason: fn(&[u8], i32, &mut [i32]) -> u32,
+    pub sentence: fn(&[u8], i32, &[i32], &mut [u8], &mut [i32]) -> u32,
+    pub parse: fn(&[u8], i32, &[u8], &mut [i32]) -> u32,
     pub check: fn(&[u8], i32, &[u32], &mut [i32]) -> u32,
 }
 
@@ -19,6 +21,8 @@ pub const LIBRARY: Functions = Functions {
     least: library::least,
     plan: library::plan,
     reason: library::reason,
+    sentence: library::sentence,
+    parse: library::parse,
     check: library::check,
 };
 
@@ -27,6 +31,8 @@ pub const PLAIN: Functions = Functions {
     least: plain::least,
     plan: plain::plan,
     reason: plain::reason,
+    sentence: plain::sentence,
+    parse: plain::parse,
     check: plain::check,
 };
 
@@ -37,16 +43,20 @@ pub enum Task {
     PlanAtLeast,
     PlanLooser,
     Reason,
+    Sentence,
+    Parse,
     Check,
     CheckLong,
 }
 
-pub const TASKS: [(Task, &str); 7] = [
+pub const TASKS: [(Task, &str); 9] = [
     (Task::Judge, "judge a file"),
     (Task::Least, "least lateness with a plan"),
     (Task::PlanAtLeast, "plan at the least lateness"),
     (Task::PlanLooser, "plan at a looser bound"),
     (Task::Reason, "reason one minute below the least"),
+    (Task::Sentence, "sentence of that reason"),
+    (Task::Parse, "reading that sentence back"),
     (Task::Check, "check of that plan"),
     (Task::CheckLong, "check of it in 3,024 shuffled rows"),
 ];
@@ -54,6 +64,7 @@ pub const TASKS: [(Task, &str); 7] = [
 /// What a call writes to, never cleared between calls.
 pub struct Buffers {
     pub rows: Vec<u32>,
+    pub line: Vec<u8>,
     pub answer: [i32; 19],
 }
 
@@ -61,20 +72,24 @@ impl Buffers {
     pub fn new() -> Buffers {
         Buffers {
             rows: vec![0; 4 * ROWS_MOST],
+            line: vec![0; LINE_MOST],
             answer: [0; 19],
         }
     }
 }
 
 pub fn run(functions: &Functions, task: Task, case: &Case, buffers: &mut Buffers) -> u32 {
-    let Buffers { rows, answer } = buffers;
+    let Buffers { rows, line, answer } = buffers;
     let file = black_box(&case.file[..]);
+    let tight = case.least - 1;
     match task {
         Task::Judge => (functions.judge)(file, answer),
         Task::Least => (functions.least)(file, rows, answer),
         Task::PlanAtLeast => (functions.plan)(file, case.least, rows, answer),
         Task::PlanLooser => (functions.plan)(file, case.looser, rows, answer),
-        Task::Reason => (functions.reason)(file, case.least - 1, answer),
+        Task::Reason => (functions.reason)(file, tight, answer),
+        Task::Sentence => (functions.sentence)(file, tight, &case.reason, line, answer),
+        Task::Parse => (functions.parse)(file, tight, &case.line, answer),
         Task::Check => (functions.check)(file, case.least, &case.plan, answer),
         Task::CheckLong => (functions.check)(file, case.least, &case.long_plan, answer),
     }
@@ -85,6 +100,7 @@ pub fn run_independent(task: Task, case: &Case) {
     let Ok(order) = independent::read(black_box(&case.file)) else {
         return;
     };
+    let tight = case.least - 1;
     match task {
         Task::Judge => {
             black_box(independent::rows_asked(&order));
@@ -95,7 +111,12 @@ pub fn run_independent(task: Task, case: &Case) {
         }
         Task::PlanAtLeast => drop(black_box(independent::plan(&order, case.least))),
         Task::PlanLooser => drop(black_box(independent::plan(&order, case.looser))),
-        Task::Reason => drop(black_box(independent::reason(&order, case.least - 1))),
+        Task::Reason => drop(black_box(independent::reason(&order, tight))),
+        Task::Sentence => {
+            let reason = numbers::reason_of(&case.reason);
+            drop(black_box(independent::composed(&order, tight, &reason)));
+        }
+        Task::Parse => drop(black_box(independent::read_back(&order, tight, &case.line))),
         Task::Check => {
             black_box(independent::right(&order, case.least.into(), &case.plan));
         }

@@ -21,7 +21,7 @@ pub enum Reason {
 }
 
 /// The minutes that a job owes by the time of the lead g.
-fn owed(time: u32, lead: u32, g: u32) -> u32 {
+pub fn owed(time: u32, lead: u32, g: u32) -> u32 {
     if g <= lead {
         return time;
     }
@@ -89,15 +89,19 @@ pub fn least_reach(order: &Order, setting: &Setting) -> u32 {
 
 /// Why a reach is too small, or that it is not.
 pub fn reason(order: &Order, setting: &Setting, reach: u32) -> Reason {
-    for (j, job) in order.jobs().iter().enumerate() {
-        if reach < job.time + setting.leads[j] {
-            return Reason::Job {
-                job: j as u32 + 1,
-                time: job.time,
-            };
-        }
+    if let Some(j) = first_late(order, setting, reach) {
+        return Reason::Job {
+            job: j as u32 + 1,
+            time: order.jobs[j].time,
+        };
     }
     first_overfull(order, setting, reach)
+}
+
+/// The first job whose time exceeds its end.
+pub fn first_late(order: &Order, setting: &Setting, reach: u32) -> Option<usize> {
+    let mut jobs = order.jobs().iter().zip(&setting.leads);
+    jobs.position(|(job, lead)| reach < job.time + lead)
 }
 
 /// The first overfull staircase: the fewest classes, then the earliest due time for class 1, for
