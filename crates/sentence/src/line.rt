@@ -1,4 +1,4 @@
-// A line, put into a buffer. All serve this crate and those above, and have a `requires`.
+// A line, put into a buffer. All serve this crate and those above; all but `all_zero` have a `requires`.
 use super::Weighed;
 use super::standing::weigh;
 use order::Order;

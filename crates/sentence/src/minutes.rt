@@ -1,4 +1,4 @@
-// Minutes owed and minutes on hand of a staircase. All serve this crate alone and have a `requires`.
+// Minutes owed and minutes on hand of a staircase. All serve this crate alone; all but `owed_in` have a `requires`.
 use super::Sums;
 use reason::weight::owed;
 use table::Table;

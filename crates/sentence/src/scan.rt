@@ -1,5 +1,5 @@
 // The numbers in a line, byte by byte. What is found is only tried: the line is composed from it and compared. All serve this crate
-// alone and have a `requires`.
+// alone; those that go on with a number have a `requires`.
 use super::Numbers;
 ghost use mathlib.Core.Path.{_≡_};
 ghost use Prim.Native.Nat.{_<_};
