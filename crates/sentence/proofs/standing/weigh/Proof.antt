@@ -35,7 +35,7 @@ returns c =
     let e : c .before .before .reach-of .result ≡ reachAt lastDue (s .args .bound)
     = c .before .before .reach-of .ensures .0 ∙ ap (λ (z : ℤ). reachAt lastDue z) (toZ-ofZ w32 (s .args .bound) (s .fits .bound)) in
     let late = c .before .first-late in
-    one-late o a (s .args .t) (s .pre .2) (s .args .bound) _ e (late .result) (late .ensures .1) (c .if1 .taken) _
+    one-late o a (s .args .t) (s .pre .2) (s .args .bound) _ e (late .result) (late .ensures .1) (omega (arith, c .if1 .taken)) _
 
 returns-2 : tie.Need-returns-2
 returns-2 c =
