@@ -18,14 +18,11 @@ use Rattle.reason.specs.declared.Why.{Why}
 use Rattle.sentence.specs.Handed.{allZero, handed, handedBy}
 use Rattle.sentence.specs.Inside.{jobComposed}
 use Rattle.sentence.specs.Line.{composed}
+use Rattle.sentence.specs.LineLaws.{composed-nothing}
 
 module _ (o : Order) (bound : ℤ) (why : Why) where
-  none-composed : composed o bound nothing ≡ []
-  unfolding composed
-  none-composed = refl
-
   pub met-none : why .tightness ≡ Met → composed o bound (handed o why) ≡ []
-  met-none e = ap (λ (t : Tightness). composed o bound (handedBy o t (why .dues))) e ∙ none-composed
+  met-none e = ap (λ (t : Tightness). composed o bound (handedBy o t (why .dues))) e ∙ composed-nothing o bound
 
   module _ (r : Reason) (e : why .tightness ≡ Tight r) (b : Bool) where
     -- a job
@@ -45,7 +42,7 @@ module _ (o : Order) (bound : ℤ) (why : Why) where
       job-beside h =
           ap (composed o bound) job-told
           ∙ (ap (λ (c : Bool). composed o bound (cond c (found (overEnd j)) nothing))
-          (neither (eqb time (jobOf o j .time)) (allZero (why .dues)) (sym z ∙ not-true b h)) ∙ none-composed)
+          (neither (eqb time (jobOf o j .time)) (allZero (why .dues)) (sym z ∙ not-true b h)) ∙ composed-nothing o bound)
 
       pub job-handed : not b ≡ false → jobComposed o bound j time ≡ composed o bound (handed o why)
       job-handed h =
@@ -62,14 +59,10 @@ module _ (o : Order) (bound : ℤ) (why : Why) where
 
 -- a staircase of k classes
 module _ (o : Order) (bound : ℤ) (dues : List ℤ) (k : ℕ) where
-  nothing-composed : composed o bound nothing ≡ []
-  unfolding composed
-  nothing-composed = refl
-
   pub stairs-beyond : length dues < k → composed o bound (handedBy o (Tight (Stairs k)) dues) ≡ []
   stairs-beyond h =
       ap (λ (c : Bool). composed o bound (cond (c && allZero (drop k dues)) (found (stairs (take k dues))) nothing))
-      (lt-leb k (length dues) h) ∙ nothing-composed
+      (lt-leb k (length dues) h) ∙ composed-nothing o bound
 
   module _ (few : k ≤ length dues) (b : Bool) (z : b ≡ allZero (drop k dues)) where
     within : handedBy o (Tight (Stairs k)) dues ≡ cond b (found (stairs (take k dues))) nothing
@@ -80,7 +73,7 @@ module _ (o : Order) (bound : ℤ) (dues : List ℤ) (k : ℕ) where
     pub stairs-beside : not b ≡ true → composed o bound (handedBy o (Tight (Stairs k)) dues) ≡ []
     stairs-beside h =
         ap (composed o bound) (within ∙ ap (λ (c : Bool). cond c (found (stairs (take k dues))) nothing) (not-true b h))
-        ∙ nothing-composed
+        ∙ composed-nothing o bound
 
     pub stairs-handed : not b ≡ false →
         composed o bound (found (stairs (take k dues))) ≡ composed o bound (handedBy o (Tight (Stairs k)) dues)

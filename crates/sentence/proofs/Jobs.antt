@@ -28,23 +28,19 @@ use Rattle.profile.specs.Search.{nothing, found}
 use Rattle.sentence.specs.Inside.{jobComposed}
 use Rattle.text.specs.Text.{ascii}
 use Rattle.sentence.specs.Line.{between, jobText, sumsText, lineOf, composed}
-use Rattle.sentence.specs.LineLaws.{composed-line, composed-none}
+use Rattle.sentence.specs.LineLaws.{composed-nothing, composed-line, composed-none}
 
 module _ (o : Order) (bound : ℤ) (j time : ℕ) where
-  none-composed : composed o bound nothing ≡ []
-  unfolding composed
-  none-composed = refl
-
   -- nothing of a job that does not stand, or with another time
   pub job-none : ¬ Stands o bound (overEnd j) → jobComposed o bound j time ≡ []
   job-none h = at (eqb time (jobOf o j .time))
     where
       at : (b : Bool) → composed o bound (cond b (found (overEnd j)) nothing) ≡ []
       at true = composed-none o bound (overEnd j) h
-      at false = none-composed
+      at false = composed-nothing o bound
 
   pub job-other : ¬ (time ≡ jobOf o j .time) → jobComposed o bound j time ≡ []
-  job-other h = rw (ne-eqb time (jobOf o j .time) h) none-composed
+  job-other h = rw (ne-eqb time (jobOf o j .time) h) (composed-nothing o bound)
 
   -- else its line
   pub job-line : (end : ℤ) → Numbers (jobCount o) j → time ≡ jobOf o j .time → end ≡ endOf bound (jobOf o j) →

@@ -39,7 +39,11 @@ unfolding lineOf
 line-some o bound r =
     omega (arith, length-append (subjectOf o bound r) (sumsText (owedOf o bound r) (onHandOf o bound r)))
 
--- what is composed: the line of a reason that stands, and nothing of another
+-- what is composed: nothing where there is no reason, the line of a reason that stands, and nothing of another
+pub composed-nothing : (o : Order) (bound : ℤ) → composed o bound nothing ≡ []
+unfolding composed
+composed-nothing o bound = refl
+
 module _ (o : Order) (bound : ℤ) (r : Reason) where
   pub composed-line : Stands o bound r → composed o bound (found r) ≡ lineOf o bound r
   unfolding composed
