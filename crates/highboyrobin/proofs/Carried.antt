@@ -103,7 +103,8 @@ read-carries f = whole-carries 12 48 (not (goodFile f)) _ (order-carries (orderI
 
 pub least-carries : (o : Order) (n : ℕ) → carriedBy (judge (leastRows o n)) ≤ 48
 unfolding leastRows
-least-carries o n = append-carries (orderRows limits o) _ (order-carries o) (whole-carries 9 48 (ltb (n / 4) (rowsAsked o)) [] none-carries)
+least-carries o n = append-carries (orderRows limits o) _ (order-carries o)
+    (whole-carries 9 48 (ltb (n / 4) (rowsAsked o)) [] none-carries)
 
 pub plan-carries : (o : Order) (bound : ℤ) (n : ℕ) → carriedBy (judge (planRows o bound n)) ≤ 48
 unfolding planRows earlierRows

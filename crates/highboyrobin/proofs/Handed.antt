@@ -30,7 +30,8 @@ module _ (z : ℤ) (f : SFits w32 z) where
   whole (negsuc n) h e = let w : _≡_ {A = ℕ} 0 1 = cc in absurd (omega arith)
 
   -- one that is not negative is cast
-  pub casts : ltZ (toZ w32 (ofZ w32 z)) (pos 0) ≡ false → T (nonNeg (toZ w32 (ofZ w32 z))) × Fits w32 (natAbs (toZ w32 (ofZ w32 z)))
+  pub casts : ltZ (toZ w32 (ofZ w32 z)) (pos 0) ≡ false → T (nonNeg (toZ w32 (ofZ w32 z))) × Fits w32
+      (natAbs (toZ w32 (ofZ w32 z)))
   casts e = rw (toZ-ofZ w32 z f) (whole z (f .sfits) (rw (toZ-ofZ w32 z f) at e))
 
   natural : (y : ℤ) → ltZ y (pos 0) ≡ false → y ≡ pos (natAbs y)
@@ -84,5 +85,6 @@ pub why-is : (numbers : List ℤ) (a b c : ℤ) (t : Tightness) (dues : List ℤ
     _≡_ {A = Why} (record { tightness = t; dues = dues }) (whyFrom numbers)
 unfolding whyFrom
 why-is numbers a b c t dues p q r e f =
-    let same : t ≡ tightnessFrom (getD numbers 0 (pos 0)) (getD numbers 1 (pos 0)) (getD numbers 2 (pos 0)) = e ∙ rw (p, q, r) refl in
+    let same : t ≡ tightnessFrom (getD numbers 0 (pos 0)) (getD numbers 1 (pos 0)) (getD numbers 2 (pos 0)) = e ∙ rw
+    (p, q, r) refl in
     cc (same, f)

@@ -41,7 +41,8 @@ module _ (v : Verdict) (text line : List ℕ) (answer : List ℤ) where
       (line′ : List ℕ) → line′ ≡ line → SentenceEnded result line′ answer
   sentence-told why e result r line′ k =
       let t = refused-told why in
-      subst (λ (n : ℕ). SentenceEnded n line′ answer) (sym (r ∙ ap resultOf (t .2))) (sentence-refused (t .0) (t .1) (e ∙ t .2) line′ k)
+      subst (λ (n : ℕ). SentenceEnded n line′ answer) (sym (r ∙ ap resultOf (t .2)))
+      (sentence-refused (t .0) (t .1) (e ∙ t .2) line′ k)
 
   pub sentence-done : v ≡ accepted → (n : ℕ) → n ≡ length text → (line′ : List ℕ) → line′ ≡ text ++ drop (length text) line →
       (answer′ : List ℤ) → answer′ ≡ pos n ∷ drop 1 answer → SentenceEnded 0 line′ answer′
@@ -74,7 +75,8 @@ module _ (f : List ℕ) (bound : ℤ) (numbers : List ℤ) (lent answer : ℕ) w
       sentence-unread why is =
           first-clear
           ∙ file-refused f r e rows
-          (boundRow bound ∷ roomRow lent (length (composed (orderIn f) bound (handed (orderIn f) (whyFrom numbers)))) ∷ []) refl why is
+          (boundRow bound ∷ roomRow lent (length (composed (orderIn f) bound
+          (handed (orderIn f) (whyFrom numbers)))) ∷ []) refl why is
 
       pub sentence-read : r .status ≡ Accepts → judge (sentenceCall f bound numbers lent answer) ≡ judge rows
       sentence-read is = first-clear ∙ file-read f r e rows is
@@ -111,8 +113,13 @@ module _ (o : Order) (bound : ℤ) (why : Why) (line line′ : List ℕ) (c : Co
   pub compose-wrote : (n : ℕ) → c ≡ Length n →
       (v ≡ accepted) × (n ≡ length text) × (line′ ≡ text ++ drop (length text) line) × (n ≤ 598)
   compose-wrote n e =
-      let w = verdict-accepted v n (length text) (sym (ap composedTold e) ∙ t .0) in
-      (w .0, w .1, t .1 .0 ∙ ap (λ (x : Verdict). lineBy x text line) (w .0), subst (λ (x : Composed). lengthTold x ≤ 598) e (t .1 .1))
+      let w = verdict-accepted v n (length text) (sym (ap composedTold e) ∙ t .0) in (
+        w .0,
+        w .1,
+        t .1 .0 ∙ ap (λ (x : Verdict). lineBy x text line) (w .0),
+        subst (λ (x : Composed). lengthTold x ≤ 598) e
+            (t .1 .1),
+      )
 
 -- what reading back answers
 abbrev pub BackTold : Order → ℤ → List ℕ → Acceptance → Why → Type 0

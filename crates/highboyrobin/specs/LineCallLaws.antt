@@ -86,10 +86,12 @@ module _ (o : Order) (numbers : List ℤ) (enough : 19 ≤ length numbers) where
     where
       at : (r : Reason) → whyFrom numbers ≡ whyOf o (found r) → tabulate 19 (λ i. getD numbers i (pos 0)) ≡ reasonNumbers o (found r)
       at (overEnd j) w =
-          let h = from-numbers (getD numbers 0 (pos 0)) (getD numbers 1 (pos 0)) (getD numbers 2 (pos 0)) _ (ap (λ (x : Why). x .tightness) w) in
+          let h = from-numbers (getD numbers 0 (pos 0)) (getD numbers 1 (pos 0)) (getD numbers 2 (pos 0)) _
+          (ap (λ (x : Why). x .tightness) w) in
           cc (h .0, h .1, h .2, ap (λ (x : Why). x .dues) w)
       at (stairs dues) w =
-          let h = from-numbers (getD numbers 0 (pos 0)) (getD numbers 1 (pos 0)) (getD numbers 2 (pos 0)) _ (ap (λ (x : Why). x .tightness) w) in
+          let h = from-numbers (getD numbers 0 (pos 0)) (getD numbers 1 (pos 0)) (getD numbers 2 (pos 0)) _
+          (ap (λ (x : Why). x .tightness) w) in
           cc (h .0, h .1, h .2, ap (λ (x : Why). x .dues) w)
 
   -- the numbers of a reason, read as one, are what the planner tells of it
@@ -115,7 +117,8 @@ module _ (f : List ℕ) (bound : ℤ) (numbers : List ℤ) (ok : Accepted (order
   abbrev o : Order
   o = orderIn f
 
-  pub sentence-stands : (r : Reason) × (handed o (whyFrom numbers) ≡ found r) × Stands o bound r × (lineFrom f bound numbers ≡ lineOf o bound r)
+  pub sentence-stands : (r : Reason) × (handed o (whyFrom numbers) ≡ found r) × Stands o bound r ×
+      (lineFrom f bound numbers ≡ lineOf o bound r)
   unfolding composed
   sentence-stands = at (handed o (whyFrom numbers)) refl
     where

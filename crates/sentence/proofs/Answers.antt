@@ -47,7 +47,8 @@ module _ (o : Order) (bound : ℤ) (later : List TableRow) where
       judge rows ≡ refusalTold r
   order-refused a r e is =
       let t = refused-told r in
-      judge-refused-append (orderRows limits o) (boundRow bound ∷ later) (t .0) (t .1) (sym e ∙ (ap acceptanceTold is ∙ t .2)) ∙ sym (t .2)
+      judge-refused-append (orderRows limits o) (boundRow bound ∷ later) (t .0) (t .1)
+      (sym e ∙ (ap acceptanceTold is ∙ t .2)) ∙ sym (t .2)
 
   bound-refused : Accepted o → boundInRange bound ≡ false → judge rows ≡ refused 8 0
   unfolding judge
@@ -66,7 +67,8 @@ module _ (o : Order) (bound : ℤ) (why : Why) (entry : List ℕ) where
   v = judge (composeRows o bound why (length entry))
 
   -- a refusal leaves the buffer
-  refuses : (r : Refusal) → v ≡ refusalTold r → (answerBy (refusalTold r) 0 ≡ answerBy v (length text)) × (entry ≡ lineBy v text entry)
+  refuses : (r : Refusal) → v ≡ refusalTold r → (answerBy (refusalTold r) 0 ≡ answerBy v (length text)) ×
+      (entry ≡ lineBy v text entry)
   refuses r e = let t = refused-told r in rw (e, t .2) (refl, refl)
 
   pub compose-order : (a : Acceptance) (r : Refusal) → acceptanceTold a ≡ judge (orderRows limits o) → a ≡ Refused r →
@@ -94,7 +96,8 @@ module _ (o : Order) (bound : ℤ) (why : Why) (entry : List ℕ) where
       unfolding composeRows judge
       compose-done after n r h size p =
           let open-is : v ≡ accepted
-          = bound-passed o bound (roomRow (length entry) (length text) ∷ []) a b ∙ rw (le-ltb (length entry) (length text) h) refl in
+          = bound-passed o bound (roomRow (length entry) (length text) ∷ []) a b ∙ rw
+          (le-ltb (length entry) (length text) h) refl in
           let place : 0 + length text ≡ length text = omega arith in
           rw open-is (ap answer size, p .after-is ∙ ap (λ (k : ℕ). text ++ drop k entry) place)
 

@@ -63,7 +63,8 @@ pub number-job : (t : OrderTable) (j : ℕ) → ¬ (j ≡ 0) → j ≤ t .jobs �
 number-job t j some few = (omega arith, omega (arith, job-count t))
 
 -- a job of an accepted order and its end, as the machine has them
-module _ (t : OrderTable) (ok : Accepted (orderOf t)) (bound : ℤ) (fits : mag bound < 2147483648) (range : boundInRange bound ≡ true)
+module _ (t : OrderTable) (ok : Accepted (orderOf t)) (bound : ℤ) (fits : mag bound < 2147483648)
+    (range : boundInRange bound ≡ true)
     (j : ℕ) (some : ¬ (j ≡ 0)) (few : j ≤ t .jobs) where
   abbrev due : ℤ
   due = getD (t .dues) (j - 1) (pos 0)
@@ -105,7 +106,8 @@ module _ (t : OrderTable) (ok : Accepted (orderOf t)) (bound : ℤ) (fits : mag 
         unfolding endOf
         end-is = end-at ∙ ap (endAt bound) due-is
 
-        read : leZ (toZ w32 time) (toZ w32 (ofZ w32 end)) ≡ leZ (pos (jobOf (orderOf t) j .time)) (endOf bound (jobOf (orderOf t) j))
+        read : leZ (toZ w32 time) (toZ w32 (ofZ w32 end)) ≡ leZ (pos (jobOf (orderOf t) j .time))
+            (endOf bound (jobOf (orderOf t) j))
         read =
             rw (machine-low time (omega (arith, time-range)), machine-back end end-small, end-is)
             (ap (λ (n : ℕ). leZ (pos n) (endOf bound (jobOf (orderOf t) j))) time-is)

@@ -56,7 +56,8 @@ module _ (o : Order) (a : Acceptable o) (t : Table) (m : Tabled lastDue o t) (bo
     pub reached : StepsReached reach dues k
     reached = subst (λ (x : ℕ). StepsReached x dues k) (sym e) (steps-reached o a bound (all-in-time none) dues k fit)
 
-    pub weighed : k ≤ t .s → (w : Weighed) → SumsTold (owedTo t dues k) (handTo t reach dues k) w → WeighedTold o bound (take k dues) w
+    pub weighed : k ≤ t .s → (w : Weighed) → SumsTold (owedTo t dues k) (handTo t reach dues k) w → WeighedTold o bound
+        (take k dues) w
     weighed classed w h =
         weighed-told o a bound (all-in-time none) t m dues k few most
         (steps-reached o a bound (all-in-time none) dues k fit) fit (omega (arith, m .classed)) w

@@ -103,7 +103,8 @@ module _ (o : Order) (ok : Accepted o) (bound : ℤ) where
 
       back : (f : Found Reason) → readBack o bound line ≡ f → Stands o bound r × (line ≡ lineOf o bound r) → readBack o bound line ≡ found r
       back nothing e h =
-          let z = nothing-passes (λ (s : Reason). sameList eqb (lineOf o bound s) line) (reasonsAt o bound) e r (reasons-are o bound r .1 (h .0)) in
+          let z = nothing-passes (λ (s : Reason). sameList eqb (lineOf o bound s) line) (reasonsAt o bound) e r
+          (reasons-are o bound r .1 (h .0)) in
           let w : _≡_ {A = ℕ} 0 1 = cc (z, bytes-tell (lineOf o bound r) line .1 (sym (h .1))) in
           absurd (omega arith)
       back (found s) e h =

@@ -199,7 +199,8 @@ read-class i memory dues due s few short r =
       first = _;
       closed = ap (λ (t : Numbers). otherByte t 32)
           (scan-class i memory due s (2 * length dues) (r .first) (sixteen dues) (omega arith) (r .closed))
-          ∙ same (omega (arith, more-is (2 * length dues + 1) (omega arith), length-append dues (due ∷ []))) (stored-class dues due _ few short);
+          ∙ same (omega (arith, more-is (2 * length dues + 1) (omega arith), length-append dues (due ∷ [])))
+          (stored-class dues due _ few short);
     }
   where
     same : {m n first : ℕ} {xs ys : List ℤ} → m ≡ n → xs ≡ ys → outside false m first xs ≡ outside false n first ys

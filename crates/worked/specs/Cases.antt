@@ -78,7 +78,8 @@ cases =
     ∷ lineIs B (pos 0) (stairs (pos 4 ∷ pos 2 ∷ [])) "memory 8 due 4, memory 4 due 2: owed 8, on hand 6"
     ∷ lineIs C (negsuc 7) (overEnd 1) "job 1: time 3, end 2: owed 3, on hand 2"
     ∷ lineIs A (pos 0) (stairs (pos 3 ∷ pos 3 ∷ [])) "memory 8 due 3, memory 4 due 3: owed 7, on hand 6"
-    -- beyond them: due times where the ends are others; a negative end; of three jobs each late one has a line, the other none, and no staircase has one
+    -- beyond them: due times where the ends are others; a negative end; of three jobs each late one has a line, the other none,
+    -- and no staircase has one
     ∷ lineIs D (negsuc 2) (stairs (pos 4 ∷ [])) "memory 8 due 4: owed 3, on hand 2"
     ∷ lineIs C (negsuc 19) (overEnd 1) "job 1: time 3, end -10: owed 3, on hand -10"
     ∷ lineIs twoLate (pos 0) (overEnd 1) "job 1: time 3, end 1: owed 3, on hand 1"

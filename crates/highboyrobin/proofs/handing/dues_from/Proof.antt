@@ -43,14 +43,19 @@ loop-less : tie.Need-loop-less Inv-loop μ-loop
 loop-less c = search needs
 
 loop-again : tie.Need-loop-again Inv-loop μ-loop
-loop-again c = (omega arith, padded-more 16 _ (pos 0) _ _ _ (omega arith) (c .before .before .loop .inv .1) (machine-back _ (c .r .given)))
+loop-again c = (
+  omega arith,
+  padded-more 16 _ (pos 0) _ _ _ (omega arith) (c .before .before .loop .inv .1)
+      (machine-back _ (c .r .given)),
+)
 
 returns : tie.Need-returns Inv-loop μ-loop
 unfolding paddedTo
 returns c =
     let l = c .before .loop in
     let e : l .i ≡ 16 = omega arith in
-    l .inv .1 ∙ (ap (λ (n : ℕ). paddedTo 16 n (pos 0) (λ (k : ℕ). getD (c .before .before .args .numbers .now) (3 + k) (pos 0))) e ∙ refl)
+    l .inv .1 ∙ (ap (λ (n : ℕ). paddedTo 16 n (pos 0) (λ (k : ℕ). getD (c .before .before .args .numbers .now) (3 + k)
+    (pos 0))) e ∙ refl)
 
 pub dues-from-spec : {M : Type 1} → statement M
 dues-from-spec =

@@ -29,7 +29,8 @@ returns : tie.Need-returns
 returns c =
     let n = c .before .before .before .before .before .args .numbers .now in
     why-is n _ _ _ _ _ (machine-back (getD n 0 (pos 0)) (c .before .before .before .tightness-from-arg .given))
-    (machine-back (getD n 1 (pos 0)) (c .before .before .tightness-from-arg2 .given)) (machine-back (getD n 2 (pos 0)) (c .before .tightness-from-arg3 .given))
+    (machine-back (getD n 1 (pos 0)) (c .before .before .tightness-from-arg2 .given))
+    (machine-back (getD n 2 (pos 0)) (c .before .tightness-from-arg3 .given))
     (c .tightness-from .ensures) (c .before .before .before .before .dues-from .ensures)
 
 pub why-from-spec : {M : Type 1} → statement M

@@ -53,7 +53,8 @@ returns-2 c =
     let r = c .before .before .before .before .read-order .result in
     let e = c .before .before .before .before .read-order .ensures .0 in
     ended-told _ _ _ (c .before .before .status .given .0 .0)
-    (call-refused f (length (s .answer .now)) 19 r e (c .before .before .before .before .before .if1 .left) _ _ (back-begins (orderIn f) (s .bound)) _ (c .before .before .status .given .1))
+    (call-refused f (length (s .answer .now)) 19 r e (c .before .before .before .before .before .if1 .left) _ _
+    (back-begins (orderIn f) (s .bound)) _ (c .before .before .status .given .1))
     _ (c .result-of .ensures)
 
 enum-told : tie.Need-enum-told
@@ -73,10 +74,13 @@ result-of-requires-2 c κs =
     let e = c .before .before .before .before .before .before .read-order .ensures .0 in
     let ok = c .before .before .before .before .enum-told .given .1 in
     let is = order-is f r e ok in
-    let same = toZ-ofZ w32 (s .bound) (c .before .before .before .before .before .before .before .before .before .before .fits .bound) in
+    let same = toZ-ofZ w32 (s .bound) (c .before .before .before .before .before .before .before .before .before
+    .before .fits .bound) in
     let q = c .before .before .before .read-back in
-    let t = back-moved (orderOf (r .order)) (orderIn f) _ (s .bound) (s .line .now) (q .result .status) _ is same (q .ensures .0, q .ensures .1) in
-    carried-few _ _ (back-refused (orderIn f) (s .bound) (s .line .now) _ _ t (c .before .judged .given .0 .0) (c .before .judged .given .1))
+    let t = back-moved (orderOf (r .order)) (orderIn f) _ (s .bound) (s .line .now) (q .result .status) _ is same
+    (q .ensures .0, q .ensures .1) in
+    carried-few _ _ (back-refused (orderIn f) (s .bound) (s .line .now) _ _ t (c .before .judged .given .0 .0)
+    (c .before .judged .given .1))
     (back-carries (orderIn f) (s .bound))
 
 returns-3 : tie.Need-returns-3
@@ -87,12 +91,16 @@ returns-3 c =
     let e = c .before .before .before .before .before .before .before .read-order .ensures .0 in
     let ok = c .before .before .before .before .before .enum-told .given .1 in
     let is = order-is f r e ok in
-    let same = toZ-ofZ w32 (s .bound) (c .before .before .before .before .before .before .before .before .before .before .before .fits .bound) in
+    let same = toZ-ofZ w32 (s .bound) (c .before .before .before .before .before .before .before .before .before .before
+    .before .fits .bound) in
     let q = c .before .before .before .before .read-back in
-    let t = back-moved (orderOf (r .order)) (orderIn f) _ (s .bound) (s .line .now) (q .result .status) _ is same (q .ensures .0, q .ensures .1) in
+    let t = back-moved (orderOf (r .order)) (orderIn f) _ (s .bound) (s .line .now) (q .result .status) _ is same
+    (q .ensures .0, q .ensures .1) in
     ended-told _ _ _ (c .before .before .judged .given .0 .0)
-    (call-read f (length (s .answer .now)) 19 r e (c .before .before .before .before .before .before .before .before .if1 .left) _ ok
-    ∙ back-refused (orderIn f) (s .bound) (s .line .now) _ _ t (c .before .before .judged .given .0 .0) (c .before .before .judged .given .1))
+    (call-read f (length (s .answer .now)) 19 r e (c .before .before .before .before .before .before .before
+    .before .if1 .left) _ ok
+    ∙ back-refused (orderIn f) (s .bound) (s .line .now) _ _ t (c .before .before .judged .given .0 .0)
+    (c .before .before .judged .given .1))
     _ (c .result-of2 .ensures)
 
 enum-told-2 : tie.Need-enum-told-2
@@ -106,9 +114,11 @@ put-reason-requires c κs =
     let e = c .before .before .before .before .before .before .read-order .ensures .0 in
     let ok = c .before .before .before .before .enum-told .given .1 in
     let is = order-is f r e ok in
-    let same = toZ-ofZ w32 (s .bound) (c .before .before .before .before .before .before .before .before .before .before .fits .bound) in
+    let same = toZ-ofZ w32 (s .bound) (c .before .before .before .before .before .before .before .before .before
+    .before .fits .bound) in
     let q = c .before .before .before .read-back in
-    let t = back-moved (orderOf (r .order)) (orderIn f) _ (s .bound) (s .line .now) (q .result .status) _ is same (q .ensures .0, q .ensures .1) in
+    let t = back-moved (orderOf (r .order)) (orderIn f) _ (s .bound) (s .line .now) (q .result .status) _ is same
+    (q .ensures .0, q .ensures .1) in
     let h = back-read (orderIn f) (s .bound) (s .line .now) _ _ t (c .before .enum-told2 .given .1) in
     let b = read-small (orderIn f) (s .bound) (order-accepted f r e ok) (s .line .now) _ (h .1) in
     (b .0, b .1, c .before .before .before .before .before .before .before .if1 .left)
@@ -124,13 +134,16 @@ returns-4 c =
     let e = c .before .before .before .before .before .before .before .before .read-order .ensures .0 in
     let ok = c .before .before .before .before .before .before .enum-told .given .1 in
     let is = order-is f r e ok in
-    let same = toZ-ofZ w32 (s .bound) (c .before .before .before .before .before .before .before .before .before .before .before .before .fits .bound) in
+    let same = toZ-ofZ w32 (s .bound) (c .before .before .before .before .before .before .before .before .before .before .before
+    .before .fits .bound) in
     let q = c .before .before .before .before .before .read-back in
-    let t = back-moved (orderOf (r .order)) (orderIn f) _ (s .bound) (s .line .now) (q .result .status) _ is same (q .ensures .0, q .ensures .1) in
+    let t = back-moved (orderOf (r .order)) (orderIn f) _ (s .bound) (s .line .now) (q .result .status) _ is same
+    (q .ensures .0, q .ensures .1) in
     let h = back-read (orderIn f) (s .bound) (s .line .now) _ _ t (c .before .before .before .enum-told2 .given .1) in
     let g = readBack (orderIn f) (s .bound) (s .line .now) in
     ended-done _ _ _ _
-    (call-read f (length (s .answer .now)) 19 r e (c .before .before .before .before .before .before .before .before .before .if1 .left) _ ok ∙ h .0)
+    (call-read f (length (s .answer .now)) 19 r e (c .before .before .before .before .before .before .before .before
+    .before .if1 .left) _ ok ∙ h .0)
     (c .before .put-reason .ensures
     ∙ ap (λ (xs : List ℤ). xs ++ drop 19 (s .answer .now)) (ap whyNumbers (h .1) ∙ numbers-are (orderIn f) g)
     ∙ ap (λ (n : ℕ). reasonNumbers (orderIn f) g ++ drop n (s .answer .now)) (sym (numbers-count (orderIn f) g)))

@@ -34,13 +34,15 @@ use Rattle.sentence.proofs.compose.compose.Reads as compose-reads
 returns : tie.Need-returns
 returns c =
     let s = c .before .before .before .args in
-    sentence-refused _ _ _ _ 255 0 (answer-short (s .file .now) (s .bound) (s .reason .now) (length (s .line .now)) (length (s .answer .now))
+    sentence-refused _ _ _ _ 255 0 (answer-short (s .file .now) (s .bound) (s .reason .now) (length (s .line .now))
+    (length (s .answer .now))
     (c .if1 .taken)) _ refl
 
 returns-2 : tie.Need-returns-2
 returns-2 c =
     let s = c .before .before .before .before .args in
-    sentence-refused _ _ _ _ 253 0 (reason-short (s .file .now) (s .bound) (s .reason .now) (length (s .line .now)) (length (s .answer .now))
+    sentence-refused _ _ _ _ 253 0 (reason-short (s .file .now) (s .bound) (s .reason .now) (length (s .line .now))
+    (length (s .answer .now))
     (c .before .if1 .left) (c .if2 .taken)) _ refl
 
 read-order-requires : tie.Need-read-order-requires
@@ -64,7 +66,8 @@ returns-3 c =
     let r = c .before .before .before .before .read-order .result in
     let e = c .before .before .before .before .read-order .ensures .0 in
     sentence-told _ _ _ _ (c .before .before .status .given .0 .0)
-    (sentence-unread f (s .bound) (s .reason .now) (length (s .line .now)) (length (s .answer .now)) (c .before .before .before .before .before .before .if1 .left) (c .before .before .before .before .before .if2 .left)
+    (sentence-unread f (s .bound) (s .reason .now) (length (s .line .now)) (length (s .answer .now))
+    (c .before .before .before .before .before .before .if1 .left) (c .before .before .before .before .before .if2 .left)
     r e _ (c .before .before .status .given .1)) _ (c .result-of .ensures) _ refl
 
 enum-told : tie.Need-enum-told
@@ -81,18 +84,22 @@ enum-known-composed c = search needs
 
 result-of-requires-2 : tie.Need-result-of-requires-2
 result-of-requires-2 c κs =
-    let s = c .before .before .before .before .before .before .before .before .before .before .before .before .before .before .before .args in
+    let s = c .before .before .before .before .before .before .before .before .before .before .before .before .before .before
+    .before .args in
     let f = s .file .now in
     let r = c .before .before .before .before .before .before .before .before .before .before .read-order .result in
     let e = c .before .before .before .before .before .before .before .before .before .before .read-order .ensures .0 in
     let ok = c .before .before .before .before .before .before .before .before .enum-told .given .1 in
     let is = order-is f r e ok in
-    let same = toZ-ofZ w32 (s .bound) (c .before .before .before .before .before .before .before .before .before .before .before .before .before .before .before .fits .bound) in
+    let same = toZ-ofZ w32 (s .bound) (c .before .before .before .before .before .before .before .before .before .before .before
+    .before .before .before .before .fits .bound) in
     let q = c .before .before .before .before .before .compose in
     let w = whyFrom (s .reason .now) in
-    let t = compose-moved (orderOf (r .order)) (orderIn f) _ (s .bound) _ w (s .line .now) _ (q .result) is same (c .before .before .before .before .before .before .before .why-from .ensures)
+    let t = compose-moved (orderOf (r .order)) (orderIn f) _ (s .bound) _ w (s .line .now) _ (q .result) is same
+    (c .before .before .before .before .before .before .before .why-from .ensures)
     (q .ensures .0, (q .ensures .1 .0, q .ensures .1 .1)) in
-    let h = compose-refused (orderIn f) (s .bound) w (s .line .now) _ (q .result) t (c .before .composed .given .0 .0) (c .before .composed .given .1) in
+    let h = compose-refused (orderIn f) (s .bound) w (s .line .now) _ (q .result) t (c .before .composed .given .0 .0)
+    (c .before .composed .given .1) in
     carried-few _ _ (h .0) (compose-carries (orderIn f) (s .bound) w (length (s .line .now)))
 
 enum-known-composed-2 : tie.Need-enum-known-composed-2
@@ -100,39 +107,52 @@ enum-known-composed-2 c = search needs
 
 put-count-requires : tie.Need-put-count-requires
 put-count-requires c κs =
-    let s = c .before .before .before .before .before .before .before .before .before .before .before .before .before .before .before .before .args in
+    let s = c .before .before .before .before .before .before .before .before .before .before .before .before .before .before
+    .before .before .args in
     let f = s .file .now in
     let r = c .before .before .before .before .before .before .before .before .before .before .before .read-order .result in
     let e = c .before .before .before .before .before .before .before .before .before .before .before .read-order .ensures .0 in
     let ok = c .before .before .before .before .before .before .before .before .before .enum-told .given .1 in
     let is = order-is f r e ok in
-    let same = toZ-ofZ w32 (s .bound) (c .before .before .before .before .before .before .before .before .before .before .before .before .before .before .before .before .fits .bound) in
+    let same = toZ-ofZ w32 (s .bound) (c .before .before .before .before .before .before .before .before .before .before .before
+    .before .before .before .before .before .fits .bound) in
     let q = c .before .before .before .before .before .before .compose in
     let w = whyFrom (s .reason .now) in
-    let t = compose-moved (orderOf (r .order)) (orderIn f) _ (s .bound) _ w (s .line .now) _ (q .result) is same (c .before .before .before .before .before .before .before .before .why-from .ensures)
+    let t = compose-moved (orderOf (r .order)) (orderIn f) _ (s .bound) _ w (s .line .now) _ (q .result) is same
+    (c .before .before .before .before .before .before .before .before .why-from .ensures)
     (q .ensures .0, (q .ensures .1 .0, q .ensures .1 .1)) in
-    let h = compose-wrote (orderIn f) (s .bound) w (s .line .now) _ (q .result) t (c .before .before .composed2 .given .0 .0) (c .before .before .composed2 .given .1) in
-    (omega (arith, h .3), c .before .before .before .before .before .before .before .before .before .before .before .before .before .if1 .left)
+    let h = compose-wrote (orderIn f) (s .bound) w (s .line .now) _ (q .result) t (c .before .before .composed2 .given .0 .0)
+    (c .before .before .composed2 .given .1) in (
+      omega (arith, h .3),
+      c .before .before .before .before .before .before .before .before .before .before .before .before
+          .before .if1 .left,
+    )
 
 same-length : tie.Need-same-length
 same-length c = search needs
 
 returns-4 : tie.Need-returns-4
 returns-4 c =
-    let s = c .before .before .before .before .before .before .before .before .before .before .before .before .before .before .before .before .args in
+    let s = c .before .before .before .before .before .before .before .before .before .before .before .before .before .before
+    .before .before .args in
     let f = s .file .now in
     let r = c .before .before .before .before .before .before .before .before .before .before .before .read-order .result in
     let e = c .before .before .before .before .before .before .before .before .before .before .before .read-order .ensures .0 in
     let ok = c .before .before .before .before .before .before .before .before .before .enum-told .given .1 in
     let is = order-is f r e ok in
-    let same = toZ-ofZ w32 (s .bound) (c .before .before .before .before .before .before .before .before .before .before .before .before .before .before .before .before .fits .bound) in
+    let same = toZ-ofZ w32 (s .bound) (c .before .before .before .before .before .before .before .before .before .before .before
+    .before .before .before .before .before .fits .bound) in
     let q = c .before .before .before .before .before .before .compose in
     let w = whyFrom (s .reason .now) in
-    let t = compose-moved (orderOf (r .order)) (orderIn f) _ (s .bound) _ w (s .line .now) _ (q .result) is same (c .before .before .before .before .before .before .before .before .why-from .ensures)
+    let t = compose-moved (orderOf (r .order)) (orderIn f) _ (s .bound) _ w (s .line .now) _ (q .result) is same
+    (c .before .before .before .before .before .before .before .before .why-from .ensures)
     (q .ensures .0, (q .ensures .1 .0, q .ensures .1 .1)) in
-    let h = compose-refused (orderIn f) (s .bound) w (s .line .now) _ (q .result) t (c .before .before .composed .given .0 .0) (c .before .before .composed .given .1) in
+    let h = compose-refused (orderIn f) (s .bound) w (s .line .now) _ (q .result) t (c .before .before .composed .given .0 .0)
+    (c .before .before .composed .given .1) in
     sentence-told _ _ _ _ (c .before .before .composed .given .0 .0)
-    (sentence-read f (s .bound) (s .reason .now) (length (s .line .now)) (length (s .answer .now)) (c .before .before .before .before .before .before .before .before .before .before .before .before .before .if1 .left) (c .before .before .before .before .before .before .before .before .before .before .before .before .if2 .left)
+    (sentence-read f (s .bound) (s .reason .now) (length (s .line .now)) (length (s .answer .now))
+    (c .before .before .before .before .before .before .before .before .before .before .before .before .before .if1 .left)
+    (c .before .before .before .before .before .before .before .before .before .before .before .before .if2 .left)
     r e ok ∙ h .0) _ (c .result-of2 .ensures) _ (h .1)
 
 same-length-2 : tie.Need-same-length-2
@@ -143,20 +163,29 @@ same-length-3 c = search needs
 
 returns-5 : tie.Need-returns-5
 returns-5 c =
-    let s = c .before .before .before .before .before .before .before .before .before .before .before .before .before .before .before .before .before .before .args in
+    let s = c .before .before .before .before .before .before .before .before .before .before .before .before .before .before
+    .before .before .before .before .args in
     let f = s .file .now in
-    let r = c .before .before .before .before .before .before .before .before .before .before .before .before .before .read-order .result in
-    let e = c .before .before .before .before .before .before .before .before .before .before .before .before .before .read-order .ensures .0 in
+    let r = c .before .before .before .before .before .before .before .before .before .before .before .before
+    .before .read-order .result in
+    let e = c .before .before .before .before .before .before .before .before .before .before .before .before
+    .before .read-order .ensures .0 in
     let ok = c .before .before .before .before .before .before .before .before .before .before .before .enum-told .given .1 in
     let is = order-is f r e ok in
-    let same = toZ-ofZ w32 (s .bound) (c .before .before .before .before .before .before .before .before .before .before .before .before .before .before .before .before .before .before .fits .bound) in
+    let same = toZ-ofZ w32 (s .bound) (c .before .before .before .before .before .before .before .before .before .before .before
+    .before .before .before .before .before .before .before .fits .bound) in
     let q = c .before .before .before .before .before .before .before .before .compose in
     let w = whyFrom (s .reason .now) in
-    let t = compose-moved (orderOf (r .order)) (orderIn f) _ (s .bound) _ w (s .line .now) _ (q .result) is same (c .before .before .before .before .before .before .before .before .before .before .why-from .ensures)
+    let t = compose-moved (orderOf (r .order)) (orderIn f) _ (s .bound) _ w (s .line .now) _ (q .result) is same
+    (c .before .before .before .before .before .before .before .before .before .before .why-from .ensures)
     (q .ensures .0, (q .ensures .1 .0, q .ensures .1 .1)) in
-    let h = compose-wrote (orderIn f) (s .bound) w (s .line .now) _ (q .result) t (c .before .before .before .before .composed2 .given .0 .0) (c .before .before .before .before .composed2 .given .1) in
+    let h = compose-wrote (orderIn f) (s .bound) w (s .line .now) _ (q .result) t
+    (c .before .before .before .before .composed2 .given .0 .0) (c .before .before .before .before .composed2 .given .1) in
     sentence-done _ _ _ _
-    (sentence-read f (s .bound) (s .reason .now) (length (s .line .now)) (length (s .answer .now)) (c .before .before .before .before .before .before .before .before .before .before .before .before .before .before .before .if1 .left) (c .before .before .before .before .before .before .before .before .before .before .before .before .before .before .if2 .left)
+    (sentence-read f (s .bound) (s .reason .now) (length (s .line .now)) (length (s .answer .now))
+    (c .before .before .before .before .before .before .before .before .before .before .before .before .before .before
+    .before .if1 .left) (c .before .before .before .before .before .before .before .before .before .before .before .before
+    .before .before .if2 .left)
     r e ok ∙ h .0) _ (h .1) _ (h .2) _ (c .before .put-count .ensures)
 
 pub hbr-sentence-spec : {M : Type 1} → statement M

@@ -30,7 +30,8 @@ enum-known-refusal c = search needs
 returns : tie.Need-returns
 returns c =
     let s = c .before .before .before .before .before in
-    let r = compose-order (orderOf (s .args .order)) (s .args .bound) (s .args .why) (s .args .line .now) _ _ (c .before .before .before .accept .ensures)
+    let r = compose-order (orderOf (s .args .order)) (s .args .bound) (s .args .why) (s .args .line .now) _ _
+    (c .before .before .before .accept .ensures)
     (c .before .refusal .given .1) in
     (r .0, (r .1, omega arith))
 
@@ -44,7 +45,8 @@ returns-2 : tie.Need-returns-2
 returns-2 c =
     let s = c .before .before .before .before .before .before in
     let z = toZ-ofZ w32 (s .args .bound) (s .fits .bound) in
-    let a = sym (c .before .before .before .before .accept .ensures) ∙ ap acceptanceTold (c .before .before .enum-told .given .1) in
+    let a = sym (c .before .before .before .before .accept .ensures) ∙ ap acceptanceTold
+    (c .before .before .enum-told .given .1) in
     let r = compose-bound (orderOf (s .args .order)) (s .args .bound) (s .args .why) (s .args .line .now) a
     (ap boundInRange (sym z) ∙ sym (c .before .bound-in-range .ensures) ∙ not-true _ (c .if1 .taken)) in
     (r .0, (r .1, omega arith))
@@ -54,7 +56,8 @@ slice-aggregate-put-line c = search needs
 
 put-line-requires : tie.Need-put-line-requires
 put-line-requires c κs = (
-  sym (c .before .before .before .before .before .accept .ensures) ∙ ap acceptanceTold (c .before .before .before .enum-told .given .1),
+  sym (c .before .before .before .before .before .accept .ensures) ∙ ap acceptanceTold
+      (c .before .before .before .enum-told .given .1),
   sym (c .before .before .bound-in-range .ensures) ∙ not-false _ (c .before .if1 .left),
   omega arith,
 )
@@ -64,11 +67,13 @@ returns-3 c =
     let s = c .before .before .before .before .before .before .before .before .before .before in
     let o = orderOf (s .args .order) in
     let z = toZ-ofZ w32 (s .args .bound) (s .fits .bound) in
-    let a = sym (c .before .before .before .before .before .before .before .before .accept .ensures) ∙ ap acceptanceTold (c .before .before .before .before .before .before .enum-told .given .1) in
+    let a = sym (c .before .before .before .before .before .before .before .before .accept .ensures) ∙ ap acceptanceTold
+    (c .before .before .before .before .before .before .enum-told .given .1) in
     let p = c .before .before .put-line .ensures .0 in
     let size = ap (λ (b : ℤ). length (composed o b (handed o (s .args .why)))) z in
     let r = compose-short o (s .args .bound) (s .args .why) (s .args .line .now) a
-    (ap boundInRange (sym z) ∙ sym (c .before .before .before .before .before .bound-in-range .ensures) ∙ not-false _ (c .before .before .before .before .if1 .left))
+    (ap boundInRange (sym z) ∙ sym (c .before .before .before .before .before .bound-in-range .ensures) ∙ not-false _
+    (c .before .before .before .before .if1 .left))
     (omega (arith, c .if2 .taken, p .next-is, size)) in
     (r .0, (r .1, omega arith))
 
@@ -93,15 +98,20 @@ same-length c = search needs
 
 returns-4 : tie.Need-returns-4
 returns-4 c =
-    let s = c .before .before .before .before .before .before .before .before .before .before .before .before .before .before .before in
+    let s = c .before .before .before .before .before .before .before .before .before .before .before .before .before .before
+    .before in
     let o = orderOf (s .args .order) in
     let z = toZ-ofZ w32 (s .args .bound) (s .fits .bound) in
-    let a = sym (c .before .before .before .before .before .before .before .before .before .before .before .before .before .accept .ensures) ∙ ap acceptanceTold (c .before .before .before .before .before .before .before .before .before .before .before .enum-told .given .1) in
+    let a = sym (c .before .before .before .before .before .before .before .before .before .before .before .before
+    .before .accept .ensures) ∙ ap acceptanceTold (c .before .before .before .before .before .before .before .before .before
+    .before .before .enum-told .given .1) in
     let p = c .before .before .before .before .before .before .before .put-line .ensures .0 in
     let same = ap (λ (b : ℤ). composed o b (handed o (s .args .why))) z in
     let size = ap length same in
     let r = compose-done o (s .args .bound) (s .args .why) (s .args .line .now) a
-    (ap boundInRange (sym z) ∙ sym (c .before .before .before .before .before .before .before .before .before .before .bound-in-range .ensures) ∙ not-false _ (c .before .before .before .before .before .before .before .before .before .if1 .left)) _ (c .before .before .before .before .before .before .before .put-line .result) _
+    (ap boundInRange (sym z) ∙ sym (c .before .before .before .before .before .before .before .before .before
+    .before .bound-in-range .ensures) ∙ not-false _ (c .before .before .before .before .before .before .before .before
+    .before .if1 .left)) _ (c .before .before .before .before .before .before .before .put-line .result) _
     (omega (arith, c .before .before .before .before .before .if2 .left, p .next-is, size)) (omega (arith, p .next-is, size))
     (put-as (put-first p ∙ same) (c .before .before .put-bytes .ensures)) in
     (r .0, (r .1, c .before .before .before .before .before .before .before .put-line .ensures .1))

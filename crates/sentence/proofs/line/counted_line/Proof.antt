@@ -23,7 +23,8 @@ returns : tie.Need-returns
 returns c =
     let s = c .before .before in
     let size = s .good in (
-      put-as (sym (stairs-beyond (orderOf (s .args .order)) (s .args .bound) (s .args .dues) (s .args .count) (omega (arith, c .if1 .taken))))
+      put-as (sym (stairs-beyond (orderOf (s .args .order)) (s .args .bound) (s .args .dues) (s .args .count)
+          (omega (arith, c .if1 .taken))))
           (put-none (s .args .out .now) 0 (omega arith)),
       omega arith,
     )
@@ -37,14 +38,20 @@ returns-2 c =
     let z = c .before .all-zero in
     let size = s .good in (
       put-as (sym (stairs-beside (orderOf (s .args .order)) (s .args .bound) (s .args .dues) (s .args .count)
-          (omega (arith, c .before .before .if1 .left)) (z .result) (z .ensures) (c .if2 .taken))) (put-none (s .args .out .now) 0 (omega arith)),
+          (omega (arith, c .before .before .if1 .left)) (z .result) (z .ensures) (c .if2 .taken)))
+          (put-none (s .args .out .now) 0 (omega arith)),
       omega arith,
     )
 
 stairs-line-requires : tie.Need-stairs-line-requires
 stairs-line-requires c κs =
-    let s = c .before .before .before .before .before in
-    (s .pre .0, ap boundInRange (toZ-ofZ w32 (s .args .bound) (s .fits .bound)) ∙ s .pre .1, omega (arith, c .before .before .before .if1 .left), omega arith)
+    let s = c .before .before .before .before .before in (
+      s .pre .0,
+      ap boundInRange (toZ-ofZ w32 (s .args .bound) (s .fits .bound)) ∙ s .pre .1,
+      omega
+          (arith, c .before .before .before .if1 .left),
+      omega arith,
+    )
 
 same-length : tie.Need-same-length
 same-length c = search needs
@@ -59,7 +66,8 @@ returns-3 c =
       put-as (ap (λ (b : ℤ). composed o b (found (stairs (take (s .args .count) (s .args .dues)))))
           (toZ-ofZ w32 (s .args .bound) (s .fits .bound))
           ∙ stairs-handed o (s .args .bound) (s .args .dues) (s .args .count)
-          (omega (arith, c .before .before .before .before .before .before .if1 .left)) (z .result) (z .ensures) (c .before .before .before .before .if2 .left)) (q .0),
+          (omega (arith, c .before .before .before .before .before .before .if1 .left)) (z .result) (z .ensures)
+          (c .before .before .before .before .if2 .left)) (q .0),
       q .1,
     )
 

@@ -36,8 +36,10 @@ same-length c = search needs
 
 returns : tie.Need-returns
 returns c =
-    let s = c .before .before .before .before .before .before .before .before .before .before .before .before .before .before .before .before .before .before .before in
-    let p1 = c .before .before .before .before .before .before .before .before .before .before .before .before .before .before .before .put-bytes .ensures in
+    let s = c .before .before .before .before .before .before .before .before .before .before .before .before .before .before
+    .before .before .before .before .before in
+    let p1 = c .before .before .before .before .before .before .before .before .before .before .before .before .before .before
+    .before .put-bytes .ensures in
     let p2 = c .before .before .before .before .before .before .before .before .before .before .before .put-number .ensures .0 in
     let p3 = c .before .before .before .before .before .before .put-bytes2 .ensures in
     let p4 = put-as (ap signedNumber (toZ-ofZ w32 (s .args .due) (s .fits .due))) (c .before .before .put-signed .ensures .0) in

@@ -72,8 +72,11 @@ same-length c = search needs
 returns : tie.Need-returns Inv-loop μ-loop
 returns c =
     let l = c .before .loop in
-    let e : l .i ≡ c .before .before .before .args .k = omega arith in
-    (put-as (ap (λ (n : ℕ). classesFrom (c .before .before .before .args .t2 .at) 0 (take n (c .before .before .before .args .t3))) e) (l .inv .2), omega (arith, l .inv .1))
+    let e : l .i ≡ c .before .before .before .args .k = omega arith in (
+      put-as (ap (λ (n : ℕ). classesFrom (c .before .before .before .args .t2 .at) 0
+          (take n (c .before .before .before .args .t3))) e) (l .inv .2),
+      omega (arith, l .inv .1),
+    )
 
 pub put-classes-spec : {M : Type 1} → statement M
 put-classes-spec =

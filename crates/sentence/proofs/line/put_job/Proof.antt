@@ -45,10 +45,14 @@ same-length c = search needs
 
 returns : tie.Need-returns
 returns c =
-    let s = c .before .before .before .before .before .before .before .before .before .before .before .before .before .before .before .before .before .before .before .before .before .before .before .before .before .before .before .before in
-    let p1 = c .before .before .before .before .before .before .before .before .before .before .before .before .before .before .before .before .before .before .before .before .before .before .before .before .put-bytes .ensures in
-    let p2 = c .before .before .before .before .before .before .before .before .before .before .before .before .before .before .before .before .before .before .before .before .put-number .ensures .0 in
-    let p3 = c .before .before .before .before .before .before .before .before .before .before .before .before .before .before .before .put-bytes2 .ensures in
+    let s = c .before .before .before .before .before .before .before .before .before .before .before .before .before .before
+    .before .before .before .before .before .before .before .before .before .before .before .before .before .before in
+    let p1 = c .before .before .before .before .before .before .before .before .before .before .before .before .before .before
+    .before .before .before .before .before .before .before .before .before .before .put-bytes .ensures in
+    let p2 = c .before .before .before .before .before .before .before .before .before .before .before .before .before .before
+    .before .before .before .before .before .before .put-number .ensures .0 in
+    let p3 = c .before .before .before .before .before .before .before .before .before .before .before .before .before .before
+    .before .put-bytes2 .ensures in
     let p4 = c .before .before .before .before .before .before .before .before .before .before .before .put-number2 .ensures .0 in
     let p5 = c .before .before .before .before .before .before .put-bytes3 .ensures in
     let p6 = put-as (ap signedNumber (toZ-ofZ w32 (s .args .end) (s .fits .end))) (c .before .before .put-signed .ensures .0) in

@@ -47,7 +47,8 @@ returns-2 c =
     let t = c .before .before .before .before .before .before .tightness .given in
     let g = c .before .before .before .reason .given in
     let z = c .before .all-zero in (
-      put-as (sym (job-beside (orderOf (s .args .order)) (s .args .bound) (s .args .why) (t .0 .0) (t .1) (z .result) (g .0 .0) (g .0 .1 .0)
+      put-as (sym (job-beside (orderOf (s .args .order)) (s .args .bound) (s .args .why) (t .0 .0) (t .1) (z .result) (g .0 .0)
+          (g .0 .1 .0)
           (g .1) (z .ensures) (c .if1 .taken))) (put-none (s .args .out .now) 0 (omega arith)),
       omega arith,
     )

@@ -36,11 +36,14 @@ same-length c = search needs
 
 returns : tie.Need-returns
 returns c =
-    let s = c .before .before .before .before .before .before .before .before .before .before .before .before .before .before .before .before .before .before .before in
-    let p1 = c .before .before .before .before .before .before .before .before .before .before .before .before .before .before .before .put-bytes .ensures in
+    let s = c .before .before .before .before .before .before .before .before .before .before .before .before .before .before
+    .before .before .before .before .before in
+    let p1 = c .before .before .before .before .before .before .before .before .before .before .before .before .before .before
+    .before .put-bytes .ensures in
     let p2 = c .before .before .before .before .before .before .before .before .before .before .before .put-number .ensures .0 in
     let p3 = c .before .before .before .before .before .before .put-bytes2 .ensures in
-    let p4 = put-as (ap signedNumber (toZ-ofZ w32 (s .args .on-hand) (s .fits .on-hand))) (c .before .before .put-signed .ensures .0) in
+    let p4 = put-as (ap signedNumber (toZ-ofZ w32 (s .args .on-hand) (s .fits .on-hand)))
+    (c .before .before .put-signed .ensures .0) in
     (put-both p1 (put-both p2 (put-both p3 p4)), omega arith)
 
 pub put-sums-spec : {M : Type 1} → statement M

@@ -47,9 +47,11 @@ cast-put-sums c =
     let s = c .before .before .before .before .before .before .before .before .before .before .before .before in
     let o = orderOf (s .args .order) in
     let w = c .before .before .before .before .before .before .before .before .before .weigh in
-    let told = told-at-bound o _ (s .args .bound) (take (s .args .k) (s .args .dues)) (w .result) (toZ-ofZ w32 (s .args .bound) (s .fits .bound)) (w .ensures) in
+    let told = told-at-bound o _ (s .args .bound) (take (s .args .k) (s .args .dues)) (w .result)
+    (toZ-ofZ w32 (s .args .bound) (s .fits .bound)) (w .ensures) in
     let g = c .before .before .before .before .before .before .before .weighed .given in
-    let h = weighed-stands o (s .args .bound) (take (s .args .k) (s .args .dues)) (w .result) (g .0 .0) (g .0 .1 .0) (g .1) told in
+    let h = weighed-stands o (s .args .bound) (take (s .args .k) (s .args .dues)) (w .result) (g .0 .0) (g .0 .1 .0)
+    (g .1) told in
     record { sfits = omega (arith, h .3, h .4) }
 
 put-sums-requires : tie.Need-put-sums-requires
@@ -60,7 +62,8 @@ returns c =
     let s = c .before .before .before .before .before in
     let o = orderOf (s .args .order) in
     let w = c .before .before .weigh in
-    let told = told-at-bound o _ (s .args .bound) (take (s .args .k) (s .args .dues)) (w .result) (toZ-ofZ w32 (s .args .bound) (s .fits .bound)) (w .ensures) in (
+    let told = told-at-bound o _ (s .args .bound) (take (s .args .k) (s .args .dues)) (w .result)
+    (toZ-ofZ w32 (s .args .bound) (s .fits .bound)) (w .ensures) in (
       put-as (sym (composed-none o (s .args .bound) (stairs (take (s .args .k) (s .args .dues)))
           (weighed-falls o (s .args .bound) (take (s .args .k) (s .args .dues)) (w .result) (c .enum-told .given .1) told)))
           (put-none (s .args .out .now) 0 (omega arith)),
@@ -72,17 +75,21 @@ same-length c = search needs
 
 returns-2 : tie.Need-returns-2
 returns-2 c =
-    let s = c .before .before .before .before .before .before .before .before .before .before .before .before .before .before .before in
+    let s = c .before .before .before .before .before .before .before .before .before .before .before .before .before .before
+    .before in
     let o = orderOf (s .args .order) in
     let w = c .before .before .before .before .before .before .before .before .before .before .before .before .weigh in
-    let told = told-at-bound o _ (s .args .bound) (take (s .args .k) (s .args .dues)) (w .result) (toZ-ofZ w32 (s .args .bound) (s .fits .bound)) (w .ensures) in
+    let told = told-at-bound o _ (s .args .bound) (take (s .args .k) (s .args .dues)) (w .result)
+    (toZ-ofZ w32 (s .args .bound) (s .fits .bound)) (w .ensures) in
     let g = c .before .before .before .before .before .before .before .before .before .before .weighed .given in
-    let h = weighed-stands o (s .args .bound) (take (s .args .k) (s .args .dues)) (w .result) (g .0 .0) (g .0 .1 .0) (g .1) told in
+    let h = weighed-stands o (s .args .bound) (take (s .args .k) (s .args .dues)) (w .result) (g .0 .0) (g .0 .1 .0)
+    (g .1) told in
     let m = c .before .before .before .before .before .before .before .classes-of in
     let back = machine-low (g .0 .1 .0) (omega (arith, h .3, h .4)) in
     let p1 = c .before .before .before .before .before .before .put-classes .ensures in
     let p2 = c .before .before .put-sums .ensures in (
-      put-as (stairs-line o (s .args .bound) (m .result) (m .ensures) (take (s .args .k) (s .args .dues)) (g .0 .0) (g .0 .1 .0) h)
+      put-as (stairs-line o (s .args .bound) (m .result) (m .ensures) (take (s .args .k) (s .args .dues)) (g .0 .0)
+          (g .0 .1 .0) h)
           (put-both (p1 .0) (put-as (ap (sumsText (g .0 .0)) back) (p2 .0))),
       omega (arith, p1 .1, p2 .1),
     )

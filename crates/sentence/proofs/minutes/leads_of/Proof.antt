@@ -55,7 +55,8 @@ loop-again c =
     let s = c .before .before .before .before in
     let l = c .before .before .before .loop in
     let e : c .lead-of .result ≡ lead lastDue (getD (s .args .t1) (l .i) (pos 0))
-    = c .lead-of .ensures ∙ ap (lead lastDue) (machine-back (getD (s .args .t1) (l .i) (pos 0)) (c .before .lead-of-arg .given)) in (
+    = c .lead-of .ensures ∙ ap (lead lastDue) (machine-back (getD (s .args .t1) (l .i) (pos 0))
+    (c .before .lead-of-arg .given)) in (
       search needs,
       search needs,
       record {

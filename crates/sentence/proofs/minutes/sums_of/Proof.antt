@@ -42,7 +42,13 @@ mul-on-hand-2 : tie.Need-mul-on-hand-2 Inv-loop μ-loop
 mul-on-hand-2 c =
     let s = c .before .before .before in
     let l = c .before .before .loop in
-    record { fits = omega (arith, hand-small _ (s .args .reach - getD (s .args .t3) (l .i) 0) (s .pre .0 .procs (l .i) (omega arith)) (omega arith)) }
+    record {
+      fits = omega (
+        arith,
+        hand-small _ (s .args .reach - getD (s .args .t3) (l .i) 0)
+            (s .pre .0 .procs (l .i) (omega arith)) (omega arith),
+      );
+    }
 
 add-on-hand : tie.Need-add-on-hand Inv-loop μ-loop
 add-on-hand c =

@@ -31,7 +31,8 @@ returns : tie.Need-returns
 returns c =
     let s = c .before .before .before .before .before .before in
     let o = orderOf (s .args .order) in
-    let r = read-order o (s .args .bound) (s .args .line .now) _ _ (c .before .before .before .before .accept .ensures) (c .before .before .refusal .given .1) in
+    let r = read-order o (s .args .bound) (s .args .line .now) _ _ (c .before .before .before .before .accept .ensures)
+    (c .before .before .refusal .given .1) in
     (r .0, c .no-reason .ensures ∙ r .1)
 
 enum-told : tie.Need-enum-told
@@ -48,7 +49,8 @@ returns-2 c =
     let s = c .before .before .before .before .before .before .before in
     let o = orderOf (s .args .order) in
     let z = toZ-ofZ w32 (s .args .bound) (s .fits .bound) in
-    let a = sym (c .before .before .before .before .before .accept .ensures) ∙ ap acceptanceTold (c .before .before .before .enum-told .given .1) in
+    let a = sym (c .before .before .before .before .before .accept .ensures) ∙ ap acceptanceTold
+    (c .before .before .before .enum-told .given .1) in
     let r = read-bound o (s .args .bound) (s .args .line .now) a
     (ap boundInRange (sym z) ∙ sym (c .before .before .bound-in-range .ensures) ∙ not-true _ (c .before .if1 .taken)) in
     (r .0, c .no-reason2 .ensures ∙ r .1)
@@ -64,7 +66,8 @@ returns-3 c =
     let s = c .before .before .before .before .before .before .before in
     let o = orderOf (s .args .order) in
     let z = toZ-ofZ w32 (s .args .bound) (s .fits .bound) in
-    let a = sym (c .before .before .before .before .before .accept .ensures) ∙ ap acceptanceTold (c .before .before .before .enum-told .given .1) in
+    let a = sym (c .before .before .before .before .before .accept .ensures) ∙ ap acceptanceTold
+    (c .before .before .before .enum-told .given .1) in
     read-done o (s .args .bound) (s .args .line .now) a
     (ap boundInRange (sym z) ∙ sym (c .before .before .bound-in-range .ensures) ∙ not-false _ (c .before .if1 .left))
     (c .recovered .result) (c .recovered .ensures ∙ ap (λ (b : ℤ). whyOf o (readBack o b (s .args .line .now))) z)

@@ -26,9 +26,11 @@ returns : tie.Need-returns
 returns c =
     let s = c .before .before .before .before in
     let o = orderOf (s .args .order) in
-    let h = has-at o _ (s .args .bound) (c .before .before .candidate-of .result) _ _ (toZ-ofZ w32 (s .args .bound) (s .fits .bound))
+    let h = has-at o _ (s .args .bound) (c .before .before .candidate-of .result) _ _
+    (toZ-ofZ w32 (s .args .bound) (s .fits .bound))
     (c .before .has-line .ensures) in
-    read-is o (s .pre .0) (s .args .bound) _ (c .before .before .candidate-of .result) (c .before .before .candidate-of .ensures) (h .0 (c .if1 .taken))
+    read-is o (s .pre .0) (s .args .bound) _ (c .before .before .candidate-of .result) (c .before .before .candidate-of .ensures)
+    (h .0 (c .if1 .taken))
 
 no-reason-requires : tie.Need-no-reason-requires
 no-reason-requires c κs = search needs
@@ -37,10 +39,12 @@ returns-2 : tie.Need-returns-2
 returns-2 c =
     let s = c .before .before .before .before .before in
     let o = orderOf (s .args .order) in
-    let h = has-at o _ (s .args .bound) (c .before .before .before .candidate-of .result) _ _ (toZ-ofZ w32 (s .args .bound) (s .fits .bound))
+    let h = has-at o _ (s .args .bound) (c .before .before .before .candidate-of .result) _ _
+    (toZ-ofZ w32 (s .args .bound) (s .fits .bound))
     (c .before .before .has-line .ensures) in
     c .no-reason .ensures
-    ∙ read-not o (s .pre .0) (s .args .bound) _ (c .before .before .before .candidate-of .result) (c .before .before .before .candidate-of .ensures)
+    ∙ read-not o (s .pre .0) (s .args .bound) _ (c .before .before .before .candidate-of .result)
+    (c .before .before .before .candidate-of .ensures)
     (λ l. true≢false (sym (h .1 l) ∙ c .before .if1 .left))
 
 pub recovered-spec : {M : Type 1} → statement M

@@ -43,7 +43,8 @@ returns : tie.Need-returns Inv-loop μ-loop
 returns c =
     let s = c .before .before .before .before in
     let l = c .before .before .before .loop in
-    let e = same-machine (getD (s .args .t1 .dues) (l .j) (pos 0)) (s .args .due) (c .before .if12 .given) (s .fits .due .sfits) (c .if1 .taken) in
+    let e = same-machine (getD (s .args .t1 .dues) (l .j) (pos 0)) (s .args .due) (c .before .if12 .given) (s .fits .due .sfits)
+    (c .if1 .taken) in
     (λ _. subst (λ (d : ℤ). In d (dueTimes (orderOf (s .args .t1)))) e (due-listed (s .args .t1) (l .j) (omega arith)), λ _. refl)
 
 add-j : tie.Need-add-j Inv-loop μ-loop

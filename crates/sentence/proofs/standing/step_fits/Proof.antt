@@ -32,7 +32,8 @@ returns-2 c =
     let s = c .before .before .before .before in
     let a = c .before .before .is-due in
     first-due (orderOf (s .args .order)) (s .args .t2) (s .args .i) (a .result) _ (a .ensures)
-    (machine-back (getD (s .args .t2) (s .args .i) (pos 0)) (c .before .before .before .is-due-arg .given)) (c .before .if1 .left) (c .if2 .taken)
+    (machine-back (getD (s .args .t2) (s .args .i) (pos 0)) (c .before .before .before .is-due-arg .given)) (c .before .if1 .left)
+    (c .if2 .taken)
 
 mul-result : tie.Need-mul-result
 mul-result c = search needs
@@ -54,7 +55,8 @@ returns-3 c =
     let s = c .before .before .before .before .before .before in
     let a = c .before .before .before .before .is-due in
     later-due (orderOf (s .args .order)) (s .args .t2) (s .args .i) (a .result) _ (a .ensures)
-    (machine-back (getD (s .args .t2) (s .args .i) (pos 0)) (c .before .before .before .before .before .is-due-arg .given)) (c .before .before .before .if1 .left) _ _
+    (machine-back (getD (s .args .t2) (s .args .i) (pos 0)) (c .before .before .before .before .before .is-due-arg .given))
+    (c .before .before .before .if1 .left) _ _
     (machine-back (getD (s .args .t2) (s .args .i) (pos 0)) (c .before .result .given))
     (machine-back (getD (s .args .t2) (s .args .i - 1) (pos 0)) (c .result2 .given)) (c .before .before .if2 .left)
 

@@ -25,7 +25,8 @@ reach-of-requires : tie.Need-reach-of-requires
 reach-of-requires c κs = ap boundInRange (toZ-ofZ w32 (c .args .bound) (c .fits .bound)) ∙ c .pre .1
 
 first-late-requires : tie.Need-first-late-requires
-first-late-requires c κs = let s = c .before in fine-of (orderOf (s .args .order)) (s .args .t) (s .pre .2) (accepted-iff _ .0 (s .pre .0))
+first-late-requires c κs = let s = c .before in fine-of (orderOf (s .args .order)) (s .args .t) (s .pre .2)
+    (accepted-iff _ .0 (s .pre .0))
 
 returns : tie.Need-returns
 returns c =
@@ -33,7 +34,8 @@ returns c =
     let o = orderOf (s .args .order) in
     let a = accepted-iff o .0 (s .pre .0) in
     let e : c .before .before .reach-of .result ≡ reachAt lastDue (s .args .bound)
-    = c .before .before .reach-of .ensures .0 ∙ ap (λ (z : ℤ). reachAt lastDue z) (toZ-ofZ w32 (s .args .bound) (s .fits .bound)) in
+    = c .before .before .reach-of .ensures .0 ∙ ap (λ (z : ℤ). reachAt lastDue z)
+    (toZ-ofZ w32 (s .args .bound) (s .fits .bound)) in
     let late = c .before .first-late in
     one-late o a (s .args .t) (s .pre .2) (s .args .bound) _ e (late .result) (late .ensures .1) (omega (arith, c .if1 .taken)) _
 
@@ -56,7 +58,8 @@ returns-3 c =
     let s = c .before .before .before .before .before .before .before in
     let size = s .good in
     let q = c .before .steps-fit in
-    λ h. true≢false (sym (q .ensures .1 (stands-fits (orderOf (s .args .order)) (s .args .bound) (s .args .dues) (s .args .k) (omega arith) h .0))
+    λ h. true≢false (sym (q .ensures .1 (stands-fits (orderOf (s .args .order)) (s .args .bound) (s .args .dues) (s .args .k)
+    (omega arith) h .0))
     ∙ not-true (q .result) (c .if3 .taken))
 
 weigh-steps-requires : tie.Need-weigh-steps-requires
@@ -65,14 +68,16 @@ weigh-steps-requires c κs =
     let o = orderOf (s .args .order) in
     let a = accepted-iff o .0 (s .pre .0) in
     let e : c .before .before .before .before .before .before .reach-of .result ≡ reachAt lastDue (s .args .bound)
-    = c .before .before .before .before .before .before .reach-of .ensures .0 ∙ ap (λ (z : ℤ). reachAt lastDue z) (toZ-ofZ w32 (s .args .bound) (s .fits .bound)) in
+    = c .before .before .before .before .before .before .reach-of .ensures .0 ∙ ap (λ (z : ℤ). reachAt lastDue z)
+    (toZ-ofZ w32 (s .args .bound) (s .fits .bound)) in
     let late = c .before .before .before .before .before .first-late in
     let size = s .good in
     let q = c .before .steps-fit in (
       fine-of o (s .args .t) (s .pre .2) a,
       c .before .before .before .before .before .before .reach-of .ensures .1,
       s .pre .3,
-      reached o a (s .args .t) (s .pre .2) (s .args .bound) _ e (late .result) (late .ensures .1) (λ l. omega (arith, c .before .before .before .before .if1 .left))
+      reached o a (s .args .t) (s .pre .2) (s .args .bound) _ e (late .result) (late .ensures .1)
+          (λ l. omega (arith, c .before .before .before .before .if1 .left))
           (s .args .dues) (s .args .k) (omega arith) (s .pre .3) (q .ensures .0 (not-false (q .result) (c .if3 .left))),
     )
 
@@ -82,11 +87,13 @@ returns-4 c =
     let o = orderOf (s .args .order) in
     let a = accepted-iff o .0 (s .pre .0) in
     let e : c .before .before .before .before .before .before .before .reach-of .result ≡ reachAt lastDue (s .args .bound)
-    = c .before .before .before .before .before .before .before .reach-of .ensures .0 ∙ ap (λ (z : ℤ). reachAt lastDue z) (toZ-ofZ w32 (s .args .bound) (s .fits .bound)) in
+    = c .before .before .before .before .before .before .before .reach-of .ensures .0 ∙ ap (λ (z : ℤ). reachAt lastDue z)
+    (toZ-ofZ w32 (s .args .bound) (s .fits .bound)) in
     let late = c .before .before .before .before .before .before .first-late in
     let size = s .good in
     let q = c .before .before .steps-fit in
-    weighed o a (s .args .t) (s .pre .2) (s .args .bound) _ e (late .result) (late .ensures .1) (λ l. omega (arith, c .before .before .before .before .before .if1 .left))
+    weighed o a (s .args .t) (s .pre .2) (s .args .bound) _ e (late .result) (late .ensures .1)
+    (λ l. omega (arith, c .before .before .before .before .before .if1 .left))
     (s .args .dues) (s .args .k) (omega arith) (s .pre .3) (q .ensures .0 (not-false (q .result) (c .before .if3 .left)))
     (omega (arith, c .before .before .before .if2 .left)) (c .weigh-steps .result) (c .weigh-steps .ensures)
 
