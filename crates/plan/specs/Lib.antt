@@ -8,3 +8,7 @@ pub mod RuleLaws
 pub mod NumberLaws
 pub mod CheckLaws
 pub mod PartsLaws
+pub mod Join
+pub mod JoinLaws
+pub mod JoinRight
+pub mod JoinAgain

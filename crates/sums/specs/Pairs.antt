@@ -1,13 +1,13 @@
 -- Laws of what holds of each two members of a list.
 use Prim.Native.Nat.{ℕ, zero, suc, _+_, _<_}
-use mathlib.Core.Path.{refl}
+use mathlib.Core.Path.{_≡_, refl, sym, _∙_}
 use mathlib.Core.List.{List, [], _∷_, _++_, map}
-use mathlib.Core.Logic.{inl, inr}
+use mathlib.Core.Logic.{_⊎_, inl, inr}
 use native.Mathlib.Omega.{arith}
 use native.Mathlib.Nat.{le-of-suc-le-suc}
 use lib.ListN.{length, getD}
 use Rattle.sums.specs.Lists.{All, In, Pairwise}
-use Rattle.sums.specs.Members.{All-map, All-both, All-append, in-All, All-at, All-from, All-of-map}
+use Rattle.sums.specs.Members.{All-map, All-both, All-append, All-in, in-All, All-at, All-from, All-of-map}
 
 module _ {A : Type 0} where
   pub Pairwise-map : (R S : A → A → Type 0) (xs : List A) → ((x y : A) → R x y → S x y) → Pairwise R xs → Pairwise S xs
@@ -56,3 +56,11 @@ module _ {A : Type 0} where
     All-map _ (R x) xs (λ y w. f x y (h .0) (w .0) (w .1)) (All-both P (Q x) xs (h .1) (k .0)),
     Pairwise-with P Q R xs f (h .1) (k .1),
   )
+
+  -- two members are one, or one stands before the other
+  pub pairs-in : (R : A → A → Type 0) (xs : List A) → Pairwise R xs → (x y : A) → In x xs → In y xs → (x ≡ y) ⊎ (R x y ⊎ R y x)
+  pairs-in R [] h x y i k = absurd i
+  pairs-in R (z ∷ xs) h x y (inl e) (inl f) = inl (e ∙ sym f)
+  pairs-in R (z ∷ xs) h x y (inl e) (inr k) = inr (inl (rw e (All-in (R z) xs (h .0) y k)))
+  pairs-in R (z ∷ xs) h x y (inr i) (inl f) = inr (inr (rw f (All-in (R z) xs (h .0) x i)))
+  pairs-in R (z ∷ xs) h x y (inr i) (inr k) = pairs-in R xs (h .1) x y i k

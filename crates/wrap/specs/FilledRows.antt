@@ -97,6 +97,19 @@ module _ {start end : ℕ} where
         filled-jobs-apart t (omega arith) (omega arith) d (omega (arith, n .0), n .1),
       )
 
+  -- a job has one row on a processor, where each has one share and each processor is there once
+  pub filled-once : {ps : List ℕ} {at : ℕ} {xs : List Share} {rows : List Row} → Filled start end ps at xs rows →
+      Pairwise (λ p q. p ≢ q) ps → Pairwise (λ (x y : Share). x .job ≢ y .job) xs →
+      Pairwise (λ (r s : Row). r .job ≡ s .job → r .processor ≢ s .processor) rows
+  filled-once no-processor e d = tt
+  filled-once no-share e d = tt
+  filled-once (ends-before {x} {rows} l t) e d =
+      (others-clear (x .job) _ rows (filled-jobs (λ j. x .job ≢ j) t (d .0)), filled-once t e (d .1))
+  filled-once (ends-there {x} {rows} l t) e d =
+      (others-clear (x .job) _ rows (filled-jobs (λ j. x .job ≢ j) t (d .0)), filled-once t (e .1) (d .1))
+  filled-once (goes-on {p} {rows} l t) e d =
+      (All-map _ _ rows (λ (r : Row) ne _. ne) (filled-processors (λ q. p ≢ q) t (e .0)), filled-once t (e .1) d)
+
   -- the rows of a job add up to its shares, where all shares have room on the processors; y minutes of the first are taken
   pub filled-lengths : {ps : List ℕ} {at : ℕ} {xs : List Share} {rows : List Row} → Filled start end ps at xs rows →
       (y : ℕ) → at ≡ start + y → at ≤ end → y + total xs (λ (x : Share). x .minutes) ≤ length ps * (end - start) →

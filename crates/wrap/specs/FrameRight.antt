@@ -4,7 +4,7 @@ use Prim.Native.Nat.{ℕ, suc, _+_, _-_, _*_, _≤_, _<_}
 use mathlib.Core.Path.{_≡_, refl, ap, _∙_}
 use mathlib.Core.Bool.{Bool, true, false}
 use mathlib.Core.List.{List, [], _∷_}
-use mathlib.Core.Logic.{inl, inr}
+use mathlib.Core.Logic.{_≢_, inl, inr}
 use native.Mathlib.Omega.{arith}
 use native.Mathlib.Nat.{mul-le-mul-right}
 use native.Mathlib.Decide.{decLt}
@@ -33,6 +33,7 @@ use Rattle.wrap.specs.FilledRows.{
   filled-between,
   filled-forward,
   filled-jobs-apart,
+  filled-once,
   filled-lengths,
   filled-few,
 }
@@ -86,17 +87,21 @@ module _ (o : Order) (f : Frame) (up : Rising f) (a : ℕ → ℕ → ℕ) where
     unfolding stretchRowsIn
     filled = fill-filled _ _ (openOrder o f s) _ (sharesOf a s (jobOrder o))
 
-    stretch-in : s < f .stretches → All (InStretchOf f s) (stretchRowsIn o f a s)
+    pub stretch-in : s < f .stretches → All (InStretchOf f s) (stretchRowsIn o f a s)
     stretch-in l =
         All-map _ _ (stretchRowsIn o f a s)
         (λ (r : Row) h. record { a-stretch = l; begins = h .0; ends = h .1 })
         (filled-between filled (omega arith) (up s l))
 
-    stretch-ordered : Pairwise (StandsBefore o) (stretchRowsIn o f a s)
+    pub stretch-ordered : Pairwise (StandsBefore o) (stretchRowsIn o f a s)
     unfolding openOrder
     stretch-ordered =
         filled-stands-rising (placeIn (processorOrder o)) filled
         (keep-pairs (openIn f s) _ (processorOrder o) (places-rise (processorOrder o) (processors-ordered o .once)))
+
+    -- a job has one row on a processor
+    pub stretch-once : Pairwise (λ (r t : Row). r .job ≡ t .job → r .processor ≢ t .processor) (stretchRowsIn o f a s)
+    stretch-once = filled-once filled (open-once o f s) (shares-distinct a s (jobOrder o) (jobs-ordered o .once))
 
     stretch-few : length (stretchRowsIn o f a s) ≤ jobCount o + processorCount o - 1
     stretch-few =
@@ -142,7 +147,7 @@ module _ (o : Order) (f : Frame) (up : Rising f) (a : ℕ → ℕ → ℕ) where
       rows-none : ¬ (f .mark s < f .mark (suc s)) → All (λ (r : Row). ⊥) rows
       rows-none none = All-map _ _ rows (λ (r : Row) h. omega (arith, short (r .job) (h .0))) rows-jobs
 
-      rows-forward : All (λ (r : Row). r .from < r .to) rows
+      pub rows-forward : All (λ (r : Row). r .from < r .to) rows
       rows-forward =
           elim (decLt (f .mark s) (f .mark (suc s))) [
             | yes h ↦ filled-forward (filled s) h h
@@ -192,7 +197,7 @@ module _ (o : Order) (f : Frame) (up : Rising f) (a : ℕ → ℕ → ℕ) where
           fits-class o (jobOf o job .need) (memoryOf o p) (nth-in (o .memories) 0 p (b .0) (b .1)) .1
           (omega (arith, low, ap (λ (p : ℕ). processorClass o p) e))
 
-      rows-well-formed : All (WellFormed o) rows
+      pub rows-well-formed : All (WellFormed o) rows
       rows-well-formed =
           All-map _ _ rows
           (λ (r : Row) h.

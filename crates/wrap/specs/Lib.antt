@@ -17,3 +17,7 @@ pub mod FrameAt
 pub mod FrameBase
 pub mod LayoutOrdered
 pub mod LayoutRight
+pub mod Ending
+pub mod EndingLaws
+pub mod Joined
+pub mod JoinedWhere

@@ -1,0 +1,103 @@
+-- Laws of the job that a processor ends or begins with at a minute: where its rows rise, there is one row that does.
+use Prim.Native.Nat.{ℕ, _≤_}
+use mathlib.Core.Path.{_≡_, refl, sym, ap, _∙_}
+use mathlib.Core.Bool.{Bool, true, false, true≢false}
+use mathlib.Core.List.{List, [], _∷_}
+use mathlib.Core.Logic.{_⊎_, inl, inr}
+use native.Mathlib.Omega.{arith}
+use borrow.Author.Tests.{eqb-true, eq-eqb}
+use lib.Dec.{eqb}
+use Rattle.sums.specs.Lists.{All, In, Pairwise}
+use Rattle.sums.specs.Members.{All-in}
+use Rattle.sums.specs.Pairs.{pairs-in}
+use Rattle.order.specs.RefusalLaws.{both-true}
+use Rattle.plan.specs.Plan.{Row}
+use Rattle.plan.specs.JoinLaws.{Forward}
+use Rattle.plan.specs.JoinAgain.{Rises}
+use Rattle.wrap.specs.Ending.{jobWhere, endsAt, beginsAt, endsWith}
+
+module _ (test : Row → Bool) where
+  -- a job that is told is that of a row which passes the test
+  pub where-found : (rows : List Row) → 1 ≤ jobWhere test rows →
+      (r : Row) × In r rows × (test r ≡ true) × (r .job ≡ jobWhere test rows)
+  unfolding jobWhere
+  where-found [] h = absurd (omega arith)
+  where-found (x ∷ rows) h =
+      elim (told (test x) refl) [
+        | inl e ↦ (x, inl refl, e, rw e refl)
+        | inr e ↦ let k = where-found rows (rw e at h) in (k .0, inr (k .1), k .2, rw e (k .3))
+      ]
+    where
+      told : (b : Bool) → test x ≡ b → (test x ≡ true) ⊎ (test x ≡ false)
+      told true e = inl e
+      told false e = inr e
+
+  -- a row that passes the test tells its job, where all that pass it are of this job
+  pub where-is : (rows : List Row) (job : ℕ) (r : Row) → In r rows → test r ≡ true →
+      ((t : Row) → In t rows → test t ≡ true → t .job ≡ job) → jobWhere test rows ≡ job
+  unfolding jobWhere
+  where-is [] job r i e h = absurd i
+  where-is (x ∷ rows) job r i e h =
+      elim (told (test x) refl) [
+        | inl f ↦ rw f (h x (inl refl) f)
+        | inr f ↦ rw f (where-is rows job r (behind i f) e (λ t k g. h t (inr k) g))
+      ]
+    where
+      told : (b : Bool) → test x ≡ b → (test x ≡ true) ⊎ (test x ≡ false)
+      told true e = inl e
+      told false e = inr e
+
+      behind : In r (x ∷ rows) → test x ≡ false → In r rows
+      behind (inl g) f = absurd (true≢false (sym e ∙ ap test g ∙ f))
+      behind (inr k) f = k
+
+  pub where-none : (rows : List Row) → All (λ (r : Row). test r ≡ false) rows → jobWhere test rows ≡ 0
+  unfolding jobWhere
+  where-none [] h = refl
+  where-none (x ∷ rows) h = rw (h .0) (where-none rows (h .1))
+
+-- the tests
+pub ends-at-true : (minute processor : ℕ) (r : Row) → endsAt minute processor r ≡ true → (r .processor ≡ processor) × (r .to ≡ minute)
+ends-at-true minute processor r e =
+    let h = both-true (eqb (r .processor) processor) _ e in (eqb-true _ _ (h .0), eqb-true _ _ (h .1))
+
+pub ends-at : (r : Row) → endsAt (r .to) (r .processor) r ≡ true
+ends-at r = rw (eq-eqb (r .processor) (r .processor) refl, eq-eqb (r .to) (r .to) refl) refl
+
+pub begins-at-true : (minute processor : ℕ) (r : Row) → beginsAt minute processor r ≡ true →
+    (r .processor ≡ processor) × (r .from ≡ minute)
+begins-at-true minute processor r e =
+    let h = both-true (eqb (r .processor) processor) _ e in (eqb-true _ _ (h .0), eqb-true _ _ (h .1))
+
+begins-at : (r : Row) → beginsAt (r .from) (r .processor) r ≡ true
+begins-at r = rw (eq-eqb (r .processor) (r .processor) refl, eq-eqb (r .from) (r .from) refl) refl
+
+-- where the rows of a processor rise, one of them ends at a minute, and one begins there
+module _ (rows : List Row) (f : All Forward rows) (h : Pairwise Rises rows) (r : Row) (i : In r rows) where
+  same-end : (t : Row) → In t rows → t .processor ≡ r .processor → t .to ≡ r .to → t .job ≡ r .job
+  same-end t k p e =
+      let m = All-in Forward rows f r i in
+      let n = All-in Forward rows f t k in
+      elim (pairs-in Rises rows h r t i k) [
+        | inl g ↦ ap (λ (x : Row). x .job) (sym g)
+        | inr g ↦ elim g [ inl w ↦ absurd (omega (arith, w (sym p))) | inr w ↦ absurd (omega (arith, w p)) ]
+      ]
+
+  same-beginning : (t : Row) → In t rows → t .processor ≡ r .processor → t .from ≡ r .from → t .job ≡ r .job
+  same-beginning t k p e =
+      let m = All-in Forward rows f r i in
+      let n = All-in Forward rows f t k in
+      elim (pairs-in Rises rows h r t i k) [
+        | inl g ↦ ap (λ (x : Row). x .job) (sym g)
+        | inr g ↦ elim g [ inl w ↦ absurd (omega (arith, w (sym p))) | inr w ↦ absurd (omega (arith, w p)) ]
+      ]
+
+  pub ends-is : endsWith rows (r .to) (r .processor) ≡ r .job
+  ends-is =
+      where-is (endsAt (r .to) (r .processor)) rows (r .job) r i (ends-at r)
+      (λ t k e. let g = ends-at-true (r .to) (r .processor) t e in same-end t k (g .0) (g .1))
+
+  pub begins-is : jobWhere (beginsAt (r .from) (r .processor)) rows ≡ r .job
+  begins-is =
+      where-is (beginsAt (r .from) (r .processor)) rows (r .job) r i (begins-at r)
+      (λ t k e. let g = begins-at-true (r .from) (r .processor) t e in same-beginning t k (g .0) (g .1))
