@@ -1,20 +1,29 @@
 -- A plan laid stretch by stretch in a frame: what is written are the rows of the stretches up to the next mark.
 use Prim.Native.Nat.{ℕ, zero, suc, _+_, _*_, _≤_, _<_}
-use mathlib.Core.Path.{_≡_, refl, sym, ap}
+use mathlib.Core.Path.{_≡_, refl, sym, ap, _∙_}
 use mathlib.Core.List.{List, [], _++_}
 use native.Mathlib.Omega.{arith}
 use native.Mathlib.Numerals.{add-one}
-use native.Mathlib.Decide.{decLe}
-use lib.ListN.{length, getD, take, drop, length-append}
+use native.Mathlib.Decide.{decLe, decLt}
+use lib.ListN.{length, getD, take, drop, replicate, length-append, length-take, getD-replicate, List·getD-eq-default}
+use lib.Seq.{getD-take}
+use Rattle.sums.specs.Kept.{keep-all}
 use Rattle.sums.specs.Lists.{keep}
+use Rattle.sums.specs.Members.{All-from}
+use Rattle.order.specs.Order.{Numbers}
 use Rattle.plan.specs.Plan.{Row}
 use Rattle.plan.specs.Check.{numbersOf}
+use Rattle.plan.specs.Join.{joined}
+use Rattle.plan.specs.JoinLaws.{Forward, standing-none}
+use Rattle.plan.specs.JoinAgain.{Rises}
 use Rattle.wrap.specs.Flows.{amountIn}
 use Rattle.wrap.specs.Frame.{Frame, Rising, lies, inTurn}
 use Rattle.table.specs.declared.Table.{Table}
-use Rattle.layout.specs.Planned.{openAt, lentFrame, rowsIn, laidOut, planned}
-use Rattle.layout.specs.Laid.{Laid, Numbered, rowsBetween}
+use Rattle.layout.specs.Sheet.{Sheet, Good, sheet, addedAll}
+use Rattle.layout.specs.Planned.{openAt, lentFrame, rowsIn, laidOut, planned, Joinable}
+use Rattle.layout.specs.Laid.{Laid, Numbered, Numbering, rowsBetween}
 use Rattle.layout.proofs.Writing.{laid-none, laid-then, laid-room, laid-all, laid-frame}
+use Rattle.layout.proofs.Holding.{holds-none, all-hold}
 
 -- what the plan is laid out of
 pub record Given (t : Table) (marks : List ℕ) (q : ℕ) (opens closes w before : List ℕ) : Type 0 where
@@ -29,12 +38,13 @@ pub record Given (t : Table) (marks : List ℕ) (q : ℕ) (opens closes w before
   pub amounts-long : t .n * q ≤ length w
   pub rising : Rising (lentFrame q marks opens closes)
   pub room : 4 * length (planned t q marks opens closes w) ≤ length before
+  pub joinable : Joinable (planned t q marks opens closes w)
 
 pub given : (t : Table) (marks : List ℕ) (q : ℕ) (opens closes w before : List ℕ) →
     ((t .m ≤ 16) × (t .n ≤ 48) × Numbered (t .m) (t .«by_memory») × Numbered (t .n) (t .«by_need»)
     × (q ≤ 128) × (q ≤ length marks) × (t .m ≤ length opens) × (t .m ≤ length closes)
     × (t .n * q ≤ length w) × Rising (lentFrame q marks opens closes))
-    × (4 * length (planned t q marks opens closes w) ≤ length before) →
+    × ((4 * length (planned t q marks opens closes w) ≤ length before) × Joinable (planned t q marks opens closes w)) →
     Given t marks q opens closes w before
 given t marks q opens closes w before h =
     record {
@@ -48,12 +58,14 @@ given t marks q opens closes w before h =
       closes-long = h .0 .7;
       amounts-long = h .0 .8;
       rising = h .0 .9;
-      room = h .1;
+      room = h .1 .0;
+      joinable = h .1 .1;
     }
 
 -- a plan under way: the first s stretches are written, and the next one begins at `start`
-pub record Framing (rows : ℕ → List Row) (f : Frame) (before : List ℕ) (start s written : ℕ) (after : List ℕ) : Type 0 where
-  pub laid : Laid (inTurn rows s) [] 0 before written after
+pub record Framing (rows : ℕ → List Row) (f : Frame) (before : Sheet) (start s written : ℕ) (after : Sheet) : Type 0 where
+  pub laid : Laid (inTurn rows s) [] before after
+  pub count : written ≡ after .count
   pub at-mark : start ≡ f .mark s
   pub a-stretch : s ≤ f .stretches
   pub few : written ≤ 64 * s
@@ -78,27 +90,41 @@ module _ (rows : ℕ → List Row) where
       ]
 
 module _ (rows : ℕ → List Row) (f : Frame) where
-  pub framing-start : (b : List ℕ) → f .mark 0 ≡ 0 → Framing rows f b 0 0 0 b
-  framing-start b first =
+  pub framing-start : (b : Sheet) → Good b → b .count ≡ 0 → f .mark 0 ≡ 0 → Framing rows f b 0 0 0 b
+  framing-start b g none first =
       record {
-        laid = rw (turn-none rows) (laid-none [] 0 b);
+        laid = rw (turn-none rows) (laid-none [] b g);
+        count = sym none;
         at-mark = sym first;
         a-stretch = omega arith;
         few = omega arith;
       }
 
-  -- all stretches are written
-  pub framing-end : {b : List ℕ} {start s written : ℕ} {c : List ℕ} → Framing rows f b start s written c → f .stretches ≤ s →
-      (written ≡ length (inTurn rows (f .stretches)))
-      × (c ≡ numbersOf (inTurn rows (f .stretches)) ++ drop (4 * length (inTurn rows (f .stretches))) b)
-  framing-end {b} {start} {s} {written} {c} p h =
+  -- all stretches are written, joined
+  pub framing-end : (lent : List ℕ) → Joinable (inTurn rows (f .stretches)) → 4 * length (inTurn rows (f .stretches)) ≤ length lent →
+      {start s written : ℕ} {c : Sheet} → Framing rows f (sheet 0 (replicate 16 0) lent) start s written c → f .stretches ≤ s →
+      (written ≡ length (joined (inTurn rows (f .stretches))))
+      × (c .buffer ≡ numbersOf (joined (inTurn rows (f .stretches))) ++ drop (4 * length (joined (inTurn rows (f .stretches)))) lent)
+  framing-end lent join room {start} {s} {written} {c} p h =
       let e : s ≡ f .stretches = omega (arith, p .a-stretch) in
       let all = inTurn rows (f .stretches) in
-      let r = laid-all all 0 written b c (rw e at (p .laid)) in
-      let z : 4 * (0 + length all) ≡ 4 * length all = omega arith in
-      (omega (arith, r .0), rw z at (r .1))
+      let done = laid-all (rw e at (p .laid)) in
+      let holds = all-hold [] all (holds-none lent) (standing-none Forward Rises all (join .forward) (join .rises)) (join .named)
+      (omega arith) in
+      (p .count ∙ ap (λ (v : Sheet). v .count) done ∙ holds .count-is, ap (λ (v : Sheet). v .buffer) done ∙ holds .buffer-is)
 
-module _ {t : Table} {marks : List ℕ} {q : ℕ} {opens closes w b : List ℕ} (g : Given t marks q opens closes w b) where
+-- sixteen processors have no row yet
+pub good-none : (lent : List ℕ) → Good (sheet 0 (replicate 16 0) lent)
+good-none lent = record { sixteen = refl; stand = λ i. none i; room = omega arith }
+  where
+    none : (i : ℕ) → getD (replicate 16 0) i 0 ≤ 0
+    none i =
+        elim (decLt i 16) [
+          | yes l ↦ omega (arith, getD-replicate {A = ℕ} 16 i 0 0 l)
+          | no l ↦ omega (arith, List·getD-eq-default {A = ℕ} (replicate 16 0) 0 {n = i} (omega arith))
+        ]
+
+module _ {t : Table} {marks : List ℕ} {q : ℕ} {opens closes w lent : List ℕ} (g : Given t marks q opens closes w lent) where
   abbrev f : Frame
   f = lentFrame q marks opens closes
 
@@ -106,7 +132,7 @@ module _ {t : Table} {marks : List ℕ} {q : ℕ} {opens closes w b : List ℕ} 
   rows = rowsIn (take (t .m) (t .«by_memory»)) (take (t .n) (t .«by_need»)) f (amountIn q w)
 
   -- the next stretch, from the last mark to the next one, on the processors that are open in it
-  module _ {start s written : ℕ} {c : List ℕ} (p : Framing rows f b start s written c) (l : s < q) (count : ℕ)
+  module _ {table : List ℕ} {start s written : ℕ} {c : Sheet} (p : Framing rows f (sheet 0 table lent) start s written c) (l : s < q) (count : ℕ)
       (list : List ℕ) (kept : (count ≤ t .m)
       × (take count list ≡ keep (openAt opens closes start (getD marks s 0)) (take (t .m) (t .«by_memory»)))) where
     abbrev end : ℕ
@@ -122,12 +148,23 @@ module _ {t : Table} {marks : List ℕ} {q : ℕ} {opens closes w b : List ℕ} 
     pub frame-forward : start ≤ end
     frame-forward = omega (arith, p .at-mark, g .rising s l)
 
-    pub frame-room : 4 * (written + length stretch) ≤ length c
+    -- each open processor has a number from 1 to 16
+    pub frame-numbers : Numbering (take count list)
+    frame-numbers =
+        rw (kept .1)
+        (keep-all (openAt opens closes start end) (Numbers 16) (take (t .m) (t .«by_memory»))
+        (All-from _ (take (t .m) (t .«by_memory»)) 0 (λ i m _.
+        let k : i < t .m = omega (arith, length-take (t .m) (t .«by_memory»)) in
+        let h = g .processors-numbered .at i k in
+        rw (getD-take (t .m) (t .«by_memory») i 0 k) (h .0, omega (arith, h .1, g .few-processors)))))
+
+    pub frame-room : 4 * (written + length stretch) ≤ length (c .buffer)
     unfolding laidOut
     frame-room =
         omega (
           arith,
           g .room,
+          p .count,
           ap length stretch-is,
           p .laid .same-length,
           laid-room (p .laid),
@@ -136,14 +173,12 @@ module _ {t : Table} {marks : List ℕ} {q : ℕ} {opens closes w b : List ℕ} 
           turn-grow rows (s + 1) q (omega arith),
         )
 
-    pub framing-more : {r : ℕ} {d : List ℕ} → Laid stretch [] written c r d × (r ≤ written + t .n + count) →
-        Framing rows f b end (s + 1) r d
-    framing-more {r} {d} h =
+    pub framing-more : {r : ℕ} {d : Sheet} → r ≡ d .count → Laid stretch [] c d × (r ≤ written + t .n + count) →
+        Framing rows f (sheet 0 table lent) end (s + 1) r d
+    framing-more {r} {d} e h =
         record {
-          laid = rw (turn-more rows s)
-              (laid-then _ (rows s) [] 0 written r b c d (omega arith)
-              (laid-frame (inTurn rows s) [] (rows s) 0 written b c (p .laid))
-              (rw stretch-is at (h .0)));
+          laid = rw (turn-more rows s) (laid-then (laid-frame (rows s) (p .laid)) (rw stretch-is at (h .0)));
+          count = e;
           at-mark = rw add-one refl;
           a-stretch = omega arith;
           few = omega (arith, h .1, p .few, g .few-processors, g .few-jobs, kept .0);

@@ -3,4 +3,6 @@ mod Filling
 mod Sharing
 mod Stretching
 mod Opening
+mod Holding
+mod Telling
 mod Framing

@@ -1,14 +1,18 @@
--- Rows written one behind the other: one row, none, and some rows behind others.
-use Prim.Native.Nat.{ℕ, suc, _+_, _*_, _≤_}
+-- Rows as numbers, four to a row, and rows written one after the other: none, one, and some after others.
+use Prim.Native.Nat.{ℕ, suc, _+_, _-_, _*_, _≤_}
 use mathlib.Core.Path.{_≡_, refl, sym, ap, _∙_}
+use mathlib.Core.Bool.{Bool, true, false}
 use mathlib.Core.List.{List, [], _∷_, _++_, append-assoc, append-nil}
+use mathlib.Core.Logic.{_⊎_, _≢_, inl, inr}
 use native.Mathlib.Omega.{arith}
-use lib.ListN.{length, take, drop, set, length-append, length-drop, take-append-drop}
-use lib.Seq.{drop-append-add, drop-drop, length-take-le, take-at, sets-eq}
+use native.Mathlib.Decide.{ℕ-discrete, decLt}
+use borrow.Author.Tests.{eq-eqb, ne-eqb}
+use lib.ListN.{length, getD, take, drop, set, length-append, length-drop, length-set}
+use lib.Seq.{length-take-le, sets-eq, set-out, getD-set-same, getD-set-other}
 use Rattle.plan.specs.Plan.{Row}
 use Rattle.plan.specs.Check.{numbersOf}
-use Rattle.plan.specs.NumberLaws.{length-numbers}
-use Rattle.layout.specs.Laid.{withRows, Laid}
+use Rattle.layout.specs.Sheet.{Sheet, sheet, endingJob, lastFor, added, addedAll, Good}
+use Rattle.layout.specs.Laid.{Laid}
 
 -- four numbers to a row
 pub numbers-append : (xs ys : List Row) → numbersOf (xs ++ ys) ≡ numbersOf xs ++ numbersOf ys
@@ -16,6 +20,10 @@ unfolding numbersOf
 numbers-append [] ys = refl
 numbers-append (x ∷ xs) ys =
     ap (λ (l : List ℕ). x .job ∷ x .processor ∷ x .from ∷ x .to ∷ l) (numbers-append xs ys)
+
+pub numbers-one : (x : Row) → numbersOf (x ∷ []) ≡ x .job ∷ x .processor ∷ x .from ∷ x .to ∷ []
+unfolding numbersOf
+numbers-one x = refl
 
 -- four stores one after the other
 pub four-stores : (s : List ℕ) (a b₀ b₁ b₂ b₃ : ℕ) → a + 4 ≤ length s →
@@ -27,92 +35,140 @@ four-stores s a b₀ b₁ b₂ b₃ h =
     let bs : List ℕ = b₀ ∷ b₁ ∷ b₂ ∷ b₃ ∷ [] in
     rw (e₁, e₂, e₃) (sets-eq bs s a h ∙ append-assoc (take a s) bs (drop (a + 4) s))
 
--- a buffer whose first part p is as long as the first r rows
-take-behind : (p n d : List ℕ) (k : ℕ) → length p + length n ≡ k → take k (p ++ (n ++ d)) ≡ p ++ n
-take-behind p n d k e = rw (sym (append-assoc p n d)) (take-at (p ++ n) d k (length-append p n ∙ e))
+-- a processor that ends with a job has a row
+pub ending-some : (buffer : List ℕ) (number minute job : ℕ) → endingJob buffer number minute ≡ job → 1 ≤ job → 1 ≤ number
+ending-some buffer number minute job e some =
+    elim (ℕ-discrete number 0) [
+      | yes z ↦ absurd (omega (arith, none z))
+      | no ne ↦ omega arith
+    ]
+  where
+    none : number ≡ 0 → job ≡ 0
+    none z = sym e ∙ rw (eq-eqb number 0 z) refl
 
-drop-behind : (p n d : List ℕ) (k i : ℕ) → length p + length n ≡ k → drop (k + i) (p ++ (n ++ d)) ≡ drop i d
-drop-behind p n d k i e =
-    rw (sym (append-assoc p n d), sym e, sym (length-append p n)) (drop-append-add (p ++ n) d i)
+-- a sheet with a row that lengthens one, and with one behind all
+abbrev pub longer : Sheet → Row → Sheet
+longer s x = sheet (s .count) (s .last) (set (s .buffer) (4 * lastFor s x - 1) (x .to))
 
--- some rows, and then others behind them
-with-behind : (r : ℕ) (xs ys : List Row) (b : List ℕ) → 4 * r ≤ length b →
-    withRows (r + length xs) ys (withRows r xs b) ≡ withRows r (xs ++ ys) b
-with-behind r xs ys b h =
-    let n = length-numbers xs in
-    let p : length (take (4 * r) b) ≡ 4 * r = length-take-le (4 * r) b h in
-    let t : take (4 * (r + length xs)) (withRows r xs b) ≡ take (4 * r) b ++ numbersOf xs =
-    take-behind (take (4 * r) b) (numbersOf xs) (drop (4 * (r + length xs)) b) (4 * (r + length xs)) (omega arith) in
-    let e : 4 * (r + length xs + length ys) ≡ 4 * (r + length xs) + 4 * length ys = omega arith in
-    let f : 4 * (r + length (xs ++ ys)) ≡ 4 * (r + length xs) + 4 * length ys = omega (arith, length-append xs ys) in
-    let d : drop (4 * (r + length xs + length ys)) (withRows r xs b) ≡ drop (4 * (r + length (xs ++ ys))) b =
-    rw (e, f)
-    (drop-behind (take (4 * r) b) (numbersOf xs) (drop (4 * (r + length xs)) b) (4 * (r + length xs)) (4 * length ys)
-    (omega arith)
-    ∙ drop-drop (4 * length ys) (4 * (r + length xs)) b) in
-    rw (t, d, append-assoc (take (4 * r) b) (numbersOf xs), numbers-append xs ys, append-assoc (numbersOf xs) (numbersOf ys))
+abbrev pub behindAll : Sheet → Row → Sheet
+behindAll s x =
+    sheet (s .count + 1) (set (s .last) (x .processor - 1) (s .count + 1))
+    (take (4 * s .count) (s .buffer)
+    ++ (x .job ∷ x .processor ∷ x .from ∷ x .to ∷ drop (4 * s .count + 4) (s .buffer)))
 
-with-length : (r : ℕ) (xs : List Row) (b : List ℕ) → 4 * (r + length xs) ≤ length b → length (withRows r xs b) ≡ length b
-with-length r xs b h =
-    rw (length-append, length-append, length-take-le (4 * r) b (omega arith), length-drop, length-numbers xs) (omega arith)
+pub added-longer : (s : Sheet) (x : Row) → endingJob (s .buffer) (lastFor s x) (x .from) ≡ x .job → added s x ≡ longer s x
+unfolding added
+added-longer s x e = rw (eq-eqb (endingJob (s .buffer) (lastFor s x) (x .from)) (x .job) e) refl
 
-with-none : (r : ℕ) (b : List ℕ) → withRows r [] b ≡ b
-unfolding numbersOf
-with-none r b = let e : 4 * (r + 0) ≡ 4 * r = omega arith in rw e (take-append-drop (4 * r) b)
+pub added-behind : (s : Sheet) (x : Row) → endingJob (s .buffer) (lastFor s x) (x .from) ≢ x .job → added s x ≡ behindAll s x
+unfolding added
+added-behind s x ne = rw (ne-eqb (endingJob (s .buffer) (lastFor s x) (x .from)) (x .job) ne) refl
+
+pub added-case : (s : Sheet) (x : Row) →
+    ((endingJob (s .buffer) (lastFor s x) (x .from) ≡ x .job) × (added s x ≡ longer s x))
+    ⊎ ((endingJob (s .buffer) (lastFor s x) (x .from) ≢ x .job) × (added s x ≡ behindAll s x))
+added-case s x =
+    elim (ℕ-discrete (endingJob (s .buffer) (lastFor s x) (x .from)) (x .job)) [
+      | yes e ↦ inl (e, added-longer s x e)
+      | no ne ↦ inr (ne, added-behind s x ne)
+    ]
+
+-- one row in a buffer with room for it
+module _ (s : Sheet) (x : Row) (g : Good s) (room : 4 * s .count + 4 ≤ length (s .buffer)) where
+  behind-length : length (behindAll s x .buffer) ≡ length (s .buffer)
+  behind-length =
+      rw (length-append, length-take-le (4 * s .count) (s .buffer) (omega arith)) (omega (arith, length-drop (4 * s .count + 4) (s .buffer)))
+
+  behind-stands : (i : ℕ) → getD (behindAll s x .last) i 0 ≤ s .count + 1
+  behind-stands i =
+      elim (ℕ-discrete i (x .processor - 1)) [
+        | no ne ↦ rw (getD-set-other (s .last) (x .processor - 1) i (s .count + 1) 0 ne) (omega (arith, g .stand i))
+        | yes e ↦
+            elim (decLt i (length (s .last))) [
+              | yes l ↦ rw (← e) (rw (getD-set-same (s .last) i (s .count + 1) 0 l) (omega arith))
+              | no l ↦ rw (set-out (s .last) (x .processor - 1) (s .count + 1) (omega arith)) (omega (arith, g .stand i))
+            ]
+      ]
+
+  pub added-good : Good (added s x) × (length (added s x .buffer) ≡ length (s .buffer)) × (added s x .count ≤ s .count + 1)
+  added-good =
+      elim (added-case s x) [
+        | inl c ↦ rw (c .1) (
+          record {
+            sixteen = g .sixteen;
+            stand = g .stand;
+            room = rw (length-set (s .buffer) (4 * lastFor s x - 1) (x .to)) (g .room);
+          },
+          length-set (s .buffer) (4 * lastFor s x - 1) (x .to),
+          omega arith,
+        )
+        | inr c ↦ rw (c .1) (
+          record {
+            sixteen = length-set (s .last) (x .processor - 1) (s .count + 1) ∙ g .sixteen;
+            stand = behind-stands;
+            room = omega (arith, behind-length);
+          },
+          behind-length,
+          omega arith,
+        )
+      ]
+
+-- some rows, and then more
+pub added-append : (s : Sheet) (xs ys : List Row) → addedAll s (xs ++ ys) ≡ addedAll (addedAll s xs) ys
+unfolding addedAll
+added-append s [] ys = refl
+added-append s (x ∷ xs) ys = added-append (added s x) xs ys
 
 -- nothing yet
-pub laid-none : (whole : List Row) (r : ℕ) (b : List ℕ) → Laid whole whole r b r b
-laid-none whole r b =
-    record { laid = []; split = refl; count = omega arith; buffer = sym (with-none r b); same-length = refl }
+pub laid-none : (whole : List Row) (s : Sheet) → Good s → Laid whole whole s s
+unfolding addedAll
+laid-none whole s g =
+    record { laid = []; split = refl; sheet-is = refl; few = omega arith; good = g; same-length = refl }
 
 -- one row
-pub laid-row : (row : Row) (rest : List Row) (r : ℕ) (b c : List ℕ) → 4 * r + 4 ≤ length b →
-    c ≡ take (4 * r) b ++ (row .job ∷ row .processor ∷ row .from ∷ row .to ∷ drop (4 * r + 4) b) →
-    Laid (row ∷ rest) rest r b (r + 1) c
-unfolding numbersOf
-laid-row row rest r b c h e =
-    let k : 4 * (r + 1) ≡ 4 * r + 4 = omega arith in
-    let f : c ≡ withRows r (row ∷ []) b = rw k e in
+pub laid-row : (x : Row) (rest : List Row) (s t : Sheet) → Good s → 4 * s .count + 4 ≤ length (s .buffer) → t ≡ added s x →
+    Laid (x ∷ rest) rest s t
+unfolding addedAll
+laid-row x rest s t g room e =
+    let h = added-good s x g room in
     record {
-      laid = row ∷ [];
+      laid = x ∷ [];
       split = refl;
-      count = refl;
-      buffer = f;
-      same-length = ap length f ∙ with-length r (row ∷ []) b (omega arith);
+      sheet-is = e;
+      few = rw e (h .2);
+      good = rw e (h .0);
+      same-length = rw e (h .1);
     }
 
 -- some rows, and then more
-pub laid-then : (whole rest last : List Row) (r s t : ℕ) (b c d : List ℕ) → 4 * r ≤ length b →
-    Laid whole rest r b s c → Laid rest last s c t d → Laid whole last r b t d
-laid-then whole rest last r s t b c d h p q =
+pub laid-then : {whole rest last : List Row} {s t u : Sheet} → Laid whole rest s t → Laid rest last t u → Laid whole last s u
+laid-then {last = last} {s = s} p q =
     record {
       laid = p .laid ++ q .laid;
       split = p .split ∙ ap (λ (l : List Row). p .laid ++ l) (q .split) ∙ sym (append-assoc (p .laid) (q .laid) last);
-      count = omega (arith, p .count, q .count, length-append (p .laid) (q .laid));
-      buffer = q .buffer ∙ rw (p .buffer, p .count) (with-behind r (p .laid) (q .laid) b h);
+      sheet-is = q .sheet-is ∙ ap (λ (v : Sheet). addedAll v (q .laid)) (p .sheet-is) ∙ sym (added-append s (p .laid) (q .laid));
+      few = omega (arith, p .few, q .few, length-append (p .laid) (q .laid));
+      good = q .good;
       same-length = q .same-length ∙ p .same-length;
     }
 
 -- what is still to be written has the room that is left
-pub laid-room : {whole rest : List Row} {r s : ℕ} {b c : List ℕ} → Laid whole rest r b s c →
-    s + length rest ≡ r + length whole
-laid-room {rest = rest} p = omega (arith, p .count, ap length (p .split), length-append (p .laid) rest)
+pub laid-room : {whole rest : List Row} {s t : Sheet} → Laid whole rest s t → t .count + length rest ≤ s .count + length whole
+laid-room {rest = rest} p = omega (arith, p .few, ap length (p .split), length-append (p .laid) rest)
 
 -- all rows are written
-pub laid-all : (whole : List Row) (r s : ℕ) (b c : List ℕ) → Laid whole [] r b s c →
-    (s ≡ r + length whole) × (c ≡ withRows r whole b)
-laid-all whole r s b c p =
-    let e = sym (p .split ∙ append-nil (p .laid)) in
-    (p .count ∙ ap (λ (l : List Row). r + length l) e, p .buffer ∙ ap (λ (l : List Row). withRows r l b) e)
+pub laid-all : {whole : List Row} {s t : Sheet} → Laid whole [] s t → t ≡ addedAll s whole
+laid-all {s = s} p = p .sheet-is ∙ ap (addedAll s) (sym (p .split ∙ append-nil (p .laid)))
 
 -- the same, where more is to follow
-pub laid-frame : (whole rest later : List Row) (r s : ℕ) (b c : List ℕ) → Laid whole rest r b s c →
-    Laid (whole ++ later) (rest ++ later) r b s c
-laid-frame whole rest later r s b c p =
+pub laid-frame : {whole rest : List Row} (later : List Row) {s t : Sheet} → Laid whole rest s t →
+    Laid (whole ++ later) (rest ++ later) s t
+laid-frame {rest = rest} later p =
     record {
       laid = p .laid;
       split = ap (λ (l : List Row). l ++ later) (p .split) ∙ append-assoc (p .laid) rest later;
-      count = p .count;
-      buffer = p .buffer;
+      sheet-is = p .sheet-is;
+      few = p .few;
+      good = p .good;
       same-length = p .same-length;
     }

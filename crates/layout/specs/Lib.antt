@@ -1,3 +1,4 @@
+pub mod Sheet
 pub mod Laid
 pub mod Planned
 pub mod PlannedLaws

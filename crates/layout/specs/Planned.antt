@@ -1,12 +1,15 @@
 -- A plan as it is lent to the layout: the orders of processors and jobs, where each stretch ends, when each processor opens and closes,
 -- flat amounts. The jobs' intervals play no part in it.
-use Prim.Native.Nat.{ℕ, suc, pred}
+use Prim.Native.Nat.{ℕ, suc, pred, _≤_}
 use mathlib.Core.Bool.{Bool, _&&_}
 use mathlib.Core.List.{List}
 use lib.Dec.{leb}
 use lib.ListN.{getD, take}
-use Rattle.sums.specs.Lists.{nth, keep}
+use Rattle.sums.specs.Lists.{All, Pairwise, nth, keep}
+use Rattle.order.specs.Order.{Numbers}
 use Rattle.plan.specs.Plan.{Row}
+use Rattle.plan.specs.JoinLaws.{Forward}
+use Rattle.plan.specs.JoinAgain.{Rises}
 use Rattle.wrap.specs.Layout.{fill, sharesOf}
 use Rattle.wrap.specs.Flows.{amountIn}
 use Rattle.wrap.specs.Frame.{Frame, openIn, inTurn}
@@ -40,3 +43,10 @@ laidOut processors jobs f a = inTurn (rowsIn processors jobs f a) (f .stretches)
 abbrev pub planned : Table → ℕ → (marks opens closes w : List ℕ) → List Row
 planned t q marks opens closes w =
     laidOut (take (t .m) (t .«by_memory»)) (take (t .n) (t .«by_need»)) (lentFrame q marks opens closes) (amountIn q w)
+
+-- rows that can be joined while they are written: each names a job and one of 16 processors, none is empty, and those of one processor
+-- rise
+pub record Joinable (rows : List Row) : Type 0 where
+  pub named : All (λ (r : Row). (1 ≤ r .job) × Numbers 16 (r .processor)) rows
+  pub forward : All Forward rows
+  pub rises : Pairwise Rises rows

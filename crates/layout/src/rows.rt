@@ -1,11 +1,13 @@
-// One row into the lent buffer, one piece of a share onto a processor, and one share onto the processors. Each function
-// serves this crate alone and has a `requires`.
+// One row into the lent buffer, joined to the last of its processor where that goes on as it (document 02, §2); one piece of a share
+// onto a processor, and one share onto the processors. Each function serves this crate alone and has a `requires`.
 use super::Place;
 ghost use mathlib.Core.Path.{_≡_};
 ghost use Prim.Native.Nat.{_+_, _-_, _*_, _<_, _≤_, min};
 ghost use mathlib.Core.List.{[], _∷_, _++_};
 ghost use lib.ListN.{length, take, drop};
-ghost use Rattle.layout.specs.Laid.{Inside, Laid, ShareLaid, behind, piece, portion, rowsFrom};
+ghost use Rattle.wrap.specs.Filled.{row};
+ghost use Rattle.layout.specs.Sheet.{Good, added, endingJob, sheet};
+ghost use Rattle.layout.specs.Laid.{Inside, Laid, Numbering, ShareLaid, behind, piece, portion, rowsFrom};
 
 // The four numbers of a row.
 pub fn put_row(rows: &mut [u32], i: usize, job: u32, processor: u32, from: u32, to: u32)
@@ -18,6 +20,48 @@ pub fn put_row(rows: &mut [u32], i: usize, job: u32, processor: u32, from: u32, 
     rows[at + 1] = processor;
     rows[at + 2] = from;
     rows[at + 3] = to;
+}
+
+// The job that a processor ends with at a minute, where its last row is the one with this number; 0 where it ends with none.
+fn ends_with(rows: &[u32], row: usize, minute: u32) -> u32
+    requires { ⌜ (row < 100000) × (4 * row ≤ length (now rows)) ⌝ }
+    ensures { λ r. ⌜ r ≡ endingJob (now (rows .entry)) row minute ⌝ }
+{
+    if row == 0 {
+        return 0;
+    }
+    let behind = 4 * row;
+    if rows[behind - 1] == minute {
+        return rows[behind - 4];
+    }
+    0
+}
+
+// One row more: the last row of its processor is lengthened where the processor ends with the row's job where the row begins; else
+// the row stands behind all others. Answers how many rows then stand.
+fn add_row(
+    rows: &mut [u32],
+    last: &mut [usize],
+    written: usize,
+    job: u32,
+    processor: u32,
+    from: u32,
+    to: u32,
+) -> usize
+    requires { ⌜ Good (sheet written (now last) (now rows)) × (written < 100000) × (1 ≤ job) × (1 ≤ processor) × (processor ≤ 16)
+        × (4 * written + 4 ≤ length (now rows)) ⌝ }
+    ensures { λ r. ⌜ sheet r (now (last .exit)) (now (rows .exit))
+        ≡ added (sheet written (now (last .entry)) (now (rows .entry))) (row job processor from to) ⌝ }
+{
+    let i = (processor - 1) as usize;
+    let number = last[i];
+    if ends_with(rows, number, from) == job {
+        rows[4 * number - 1] = to;
+        return written;
+    }
+    put_row(rows, written, job, processor, from, to);
+    last[i] = written + 1;
+    written + 1
 }
 
 // What of a share fits between a minute and the stretch's end.
@@ -35,6 +79,7 @@ fn fitting(left: u32, at: u32, end: u32) -> u32
 // processor's beginning.
 fn lay_piece(
     rows: &mut [u32],
+    last: &mut [usize],
     number: u32,
     start: u32,
     end: u32,
@@ -42,14 +87,14 @@ fn lay_piece(
     job: u32,
     minutes: u32,
 ) -> Place
-    requires { ⌜ (place .processor < 16) × (place .rows < 100000) × (place .at + minutes ≤ end)
-        × (4 * place .rows + 4 ≤ length (now rows)) ⌝ }
-    ensures { λ r. ⌜ (r ≡ behind start end place minutes)
-        × Laid (piece number place job minutes ∷ []) [] (place .rows) (now (rows .entry)) (r .rows) (now (rows .exit)) ⌝ }
+    requires { ⌜ (place .processor < 16) × (place .rows < 100000) × (place .at + minutes ≤ end) × (1 ≤ job) × (1 ≤ number)
+        × (number ≤ 16) × (4 * place .rows + 4 ≤ length (now rows)) × Good (sheet (place .rows) (now last) (now rows)) ⌝ }
+    ensures { λ r. ⌜ (r ≡ behind start end place minutes (r .rows))
+        × Laid (piece number place job minutes ∷ []) [] (sheet (place .rows) (now (last .entry)) (now (rows .entry)))
+        (sheet (r .rows) (now (last .exit)) (now (rows .exit))) ⌝ }
 {
     let to = place.at + minutes;
-    let written = place.rows + 1;
-    put_row(rows, place.rows, job, number, place.at, to);
+    let written = add_row(rows, last, place.rows, job, number, place.at, to);
     if to < end {
         return Place {
             processor: place.processor,
@@ -68,6 +113,7 @@ fn lay_piece(
 // beginning. No minutes are no share.
 pub fn lay_share(
     rows: &mut [u32],
+    last: &mut [usize],
     processors: [u32; 16],
     n: usize,
     start: u32,
@@ -76,17 +122,27 @@ pub fn lay_share(
     job: u32,
     minutes: u32,
 ) -> Place
-    requires { ⌜ (n ≤ 16) × Inside start end n place × (place .rows < 90000)
-        × (4 * (place .rows + length (rowsFrom start end n processors place (portion job minutes))) ≤ length (now rows)) ⌝ }
+    requires { ⌜ (n ≤ 16) × Numbering (take n processors) × Inside start end n place × (place .rows < 90000) × (1 ≤ job)
+        × (4 * (place .rows + length (rowsFrom start end n processors place (portion job minutes))) ≤ length (now rows))
+        × Good (sheet (place .rows) (now last) (now rows)) ⌝ }
     ensures { λ r. ⌜ ShareLaid start end n processors place r (portion job minutes)
-        (now (rows .entry)) (now (rows .exit)) ⌝ }
+        (sheet (place .rows) (now (last .entry)) (now (rows .entry))) (sheet (r .rows) (now (last .exit)) (now (rows .exit))) ⌝ }
 {
     let mut next = place;
     let mut left = minutes;
     while next.processor < n && 0 < left {
         let processor = next.processor;
         let part = fitting(left, next.at, end);
-        next = lay_piece(rows, processors[processor], start, end, next, job, part);
+        next = lay_piece(
+            rows,
+            last,
+            processors[processor],
+            start,
+            end,
+            next,
+            job,
+            part,
+        );
         left -= part;
     }
     next

@@ -1,7 +1,7 @@
 -- Laws of joined rows, whatever rows: what holds of each and of each two, how many there are, and in which order.
 use Prim.Native.Nat.{ℕ, _+_, _≤_, _<_}
 use mathlib.Core.Path.{_≡_, refl, sym, ap, _∙_}
-use mathlib.Core.Bool.{Bool, true, false, true≢false}
+use mathlib.Core.Bool.{true, true≢false}
 use mathlib.Core.List.{List, [], _∷_, _++_, append-nil}
 use mathlib.Core.Logic.{_⊎_, inl, inr}
 use native.Mathlib.Omega.{arith}
@@ -10,7 +10,7 @@ use lib.Dec.{eqb}
 use lib.ListN.{length}
 use Rattle.sums.specs.Lists.{All, Pairwise}
 use Rattle.sums.specs.Members.{All-map, All-both}
-use Rattle.order.specs.RefusalLaws.{both-true}
+use Rattle.order.specs.RefusalLaws.{both-true, true-or-false}
 use Rattle.plan.specs.Plan.{Row}
 use Rattle.plan.specs.Join.{GoesOnAs, goesOnAs, lengthened, joinRow, joinRows, joined}
 
@@ -30,13 +30,11 @@ pub join-case : (r : Row) (rows : List Row) (x : Row) →
     (GoesOnAs r x × (joinRow (r ∷ rows) x ≡ lengthened r (x .to) ∷ rows))
     ⊎ ((¬ GoesOnAs r x) × (joinRow (r ∷ rows) x ≡ r ∷ joinRow rows x))
 unfolding joinRow
-join-case r rows x = go (goesOnAs r x) refl
-  where
-    go : (b : Bool) → goesOnAs r x ≡ b →
-        (GoesOnAs r x × (joinRow (r ∷ rows) x ≡ lengthened r (x .to) ∷ rows))
-        ⊎ ((¬ GoesOnAs r x) × (joinRow (r ∷ rows) x ≡ r ∷ joinRow rows x))
-    go true e = inl (goes-on-true r x e, rw e refl)
-    go false e = inr ((λ h. true≢false (sym (goes-on-is r x h) ∙ e)), rw e refl)
+join-case r rows x =
+    elim (true-or-false (goesOnAs r x)) [
+      | inl e ↦ inl (goes-on-true r x e, rw e refl)
+      | inr e ↦ inr ((λ h. true≢false (sym (goes-on-is r x h) ∙ e)), rw e refl)
+    ]
 
 -- What holds of each row ---------------------------------------------------------------------------------------------------
 
@@ -135,7 +133,7 @@ joined-pairs F R rows k h p =
 
 -- How many, and in which order -------------------------------------------------------------------------------------------------
 
-row-count : (rows : List Row) (x : Row) → length (joinRow rows x) ≤ length rows + 1
+pub row-count : (rows : List Row) (x : Row) → length (joinRow rows x) ≤ length rows + 1
 unfolding joinRow
 row-count [] x = omega arith
 row-count (r ∷ rows) x =

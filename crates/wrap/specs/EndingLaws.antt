@@ -3,14 +3,14 @@ use Prim.Native.Nat.{ℕ, _≤_}
 use mathlib.Core.Path.{_≡_, refl, sym, ap, _∙_}
 use mathlib.Core.Bool.{Bool, true, false, true≢false}
 use mathlib.Core.List.{List, [], _∷_}
-use mathlib.Core.Logic.{_⊎_, inl, inr}
+use mathlib.Core.Logic.{inl, inr}
 use native.Mathlib.Omega.{arith}
 use borrow.Author.Tests.{eqb-true, eq-eqb}
 use lib.Dec.{eqb}
 use Rattle.sums.specs.Lists.{All, In, Pairwise}
 use Rattle.sums.specs.Members.{All-in}
 use Rattle.sums.specs.Pairs.{pairs-in}
-use Rattle.order.specs.RefusalLaws.{both-true}
+use Rattle.order.specs.RefusalLaws.{both-true, true-or-false}
 use Rattle.plan.specs.Plan.{Row}
 use Rattle.plan.specs.JoinLaws.{Forward}
 use Rattle.plan.specs.JoinAgain.{Rises}
@@ -23,14 +23,10 @@ module _ (test : Row → Bool) where
   unfolding jobWhere
   where-found [] h = absurd (omega arith)
   where-found (x ∷ rows) h =
-      elim (told (test x) refl) [
+      elim (true-or-false (test x)) [
         | inl e ↦ (x, inl refl, e, rw e refl)
         | inr e ↦ let k = where-found rows (rw e at h) in (k .0, inr (k .1), k .2, rw e (k .3))
       ]
-    where
-      told : (b : Bool) → test x ≡ b → (test x ≡ true) ⊎ (test x ≡ false)
-      told true e = inl e
-      told false e = inr e
 
   -- a row that passes the test tells its job, where all that pass it are of this job
   pub where-is : (rows : List Row) (job : ℕ) (r : Row) → In r rows → test r ≡ true →
@@ -38,15 +34,11 @@ module _ (test : Row → Bool) where
   unfolding jobWhere
   where-is [] job r i e h = absurd i
   where-is (x ∷ rows) job r i e h =
-      elim (told (test x) refl) [
+      elim (true-or-false (test x)) [
         | inl f ↦ rw f (h x (inl refl) f)
         | inr f ↦ rw f (where-is rows job r (behind i f) e (λ t k g. h t (inr k) g))
       ]
     where
-      told : (b : Bool) → test x ≡ b → (test x ≡ true) ⊎ (test x ≡ false)
-      told true e = inl e
-      told false e = inr e
-
       behind : In r (x ∷ rows) → test x ≡ false → In r rows
       behind (inl g) f = absurd (true≢false (sym e ∙ ap test g ∙ f))
       behind (inr k) f = k

@@ -82,11 +82,11 @@ module _ (o : Order) (f : Frame) (up : Rising f) (a : ℕ → ℕ → ℕ) where
       one r t b e =
           elim (b .before) [
             | inl l ↦ omega (
-                arith,
-                b .lies-in .ends,
-                b .other-lies .begins,
-                marks-mono f up (suc (b .stretch)) (b .other) l (omega (arith, b .other-lies .a-stretch)),
-              )
+              arith,
+              b .lies-in .ends,
+              b .other-lies .begins,
+              marks-mono f up (suc (b .stretch)) (b .other) l (omega (arith, b .other-lies .a-stretch)),
+            )
             | inr w ↦ rises-one r t (w .1) e
           ]
 

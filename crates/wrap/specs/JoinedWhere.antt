@@ -86,27 +86,27 @@ module _ (o : Order) (f : Frame) (up : Rising f) (a : ℕ → ℕ → ℕ) (F : 
         | yes h ↦
             elim (decLt (suc i) k) [
               | yes w ↦ absurd (omega (
-                  arith,
-                  b .0 .ends,
-                  c .0 .begins,
-                  g .2,
-                  climb (suc i) (omega arith) (omega arith),
-                  marks-mono f up (suc (suc i)) k w (omega arith),
-                ))
+                arith,
+                b .0 .ends,
+                c .0 .begins,
+                g .2,
+                climb (suc i) (omega arith) (omega arith),
+                marks-mono f up (suc (suc i)) k w (omega arith),
+              ))
               | no w ↦ omega arith
             ]
         | no h ↦
             elim (ℕ-discrete i k) [
               | yes e ↦ absurd (one-stretch e)
               | no ne ↦ absurd (omega (
-                  arith,
-                  b .0 .begins,
-                  c .0 .ends,
-                  b .1,
-                  c .1,
-                  g .2,
-                  marks-mono f up (suc k) i (omega arith) (omega arith),
-                ))
+                arith,
+                b .0 .begins,
+                c .0 .ends,
+                b .1,
+                c .1,
+                g .2,
+                marks-mono f up (suc k) i (omega arith) (omega arith),
+              ))
             ]
       ]
     where

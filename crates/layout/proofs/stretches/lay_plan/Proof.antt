@@ -1,10 +1,11 @@
--- The loop's invariant: the rows of the first s stretches are written, and the next one begins at mark s.
+-- The loop's invariant: the rows of the first s stretches are written, joined, and the next one begins at mark s.
 use Prim.Native.Nat.{_-_}
 use mathlib.Core.Path.{refl}
 use native.Mathlib.Omega.{arith}
 use borrow.Author.Needs.{needs}
-use lib.ListN.{take}
+use lib.ListN.{replicate, take}
 use Rattle.wrap.specs.Flows.{amountIn}
+use Rattle.layout.specs.Sheet.{sheet}
 use Rattle.layout.specs.Planned.{lentFrame, rowsIn, laidOut}
 use Rattle.layout.proofs.Framing.{
   Given,
@@ -12,7 +13,9 @@ use Rattle.layout.proofs.Framing.{
   Framing,
   framing-start,
   framing-end,
+  good-none,
   frame-forward,
+  frame-numbers,
   frame-room,
   framing-more,
 }
@@ -20,19 +23,19 @@ use Rattle.layout.proofs.stretches.lay_plan.Statement.{statement}
 use Rattle.layout.proofs.stretches.lay_plan.Tie as tie
 
 abbrev Inv-loop : tie.InvT-loop
-Inv-loop t marks q opens closes w rows₀ written₀ start₀ s₀ rows written start s =
+Inv-loop t marks q opens closes w rows₀ last₀ written₀ start₀ s₀ rows last written start s =
     Given t marks q opens closes w rows₀
     × Framing
     (rowsIn (take (t .m) (t .«by_memory»)) (take (t .n) (t .«by_need»)) (lentFrame q marks opens closes) (amountIn q w))
-    (lentFrame q marks opens closes) rows₀ start s written rows
+    (lentFrame q marks opens closes) (sheet 0 (replicate 16 0) rows₀) start s written (sheet written last rows)
 
 abbrev μ-loop : tie.MeasureT-loop
-μ-loop t marks q opens closes w rows₀ written₀ start₀ s₀ rows written start s = q - s
+μ-loop t marks q opens closes w rows₀ last₀ written₀ start₀ s₀ rows last written start s = q - s
 
 loop-holds : tie.Need-loop-holds Inv-loop μ-loop
 loop-holds c =
     let s = c .before .before .before .before .before in
-    (given _ _ _ _ _ _ _ (s .pre), framing-start _ _ _ refl)
+    (given _ _ _ _ _ _ _ (s .pre), framing-start _ _ _ (good-none _) refl refl)
 
 mul-end : tie.Need-mul-end Inv-loop μ-loop
 mul-end c = omega (arith, c .before .loop .inv .0 .few-stretches)
@@ -45,13 +48,16 @@ open-processors-requires c κs =
     let g = c .before .before .before .before .loop .inv .0 in
     (g .few-processors, g .processors-numbered, g .opens-long, g .closes-long)
 
+slice-aggregate-lay-stretch : tie.Need-slice-aggregate-lay-stretch Inv-loop μ-loop
+slice-aggregate-lay-stretch c = search needs
+
 lay-stretch-requires : tie.Need-lay-stretch-requires Inv-loop μ-loop
 lay-stretch-requires c κs =
-    let l = c .before .before .before .before .before .before .before .loop in
+    let l = c .before .before .before .before .before .before .before .before .loop in
     let g = l .inv .0 in
     let p = l .inv .1 in
-    let t = c .before .before .before .before .before .before .loop-test .taken in
-    let e = c .before .before .open-processors .ensures in (
+    let t = c .before .before .before .before .before .before .before .loop-test .taken in
+    let e = c .before .before .before .open-processors .ensures in (
       omega (arith, g .few-processors, e .0),
       g .few-jobs,
       g .few-stretches,
@@ -61,6 +67,8 @@ lay-stretch-requires c κs =
       omega (arith, g .few-stretches, p .few),
       g .jobs-numbered,
       frame-room g p t _ _ e,
+      frame-numbers g p t _ _ e,
+      p .laid .good,
     )
 
 add-s : tie.Need-add-s Inv-loop μ-loop
@@ -71,11 +79,11 @@ loop-less c = search needs
 
 loop-again : tie.Need-loop-again Inv-loop μ-loop
 loop-again c =
-    let o = c .before .before .before .before .before in
+    let o = c .before .before .before .before .before .before .before in
     let l = o .before .before .before .before .before .loop in (
       l .inv .0,
-      framing-more (l .inv .0) (l .inv .1) (o .before .before .before .before .loop-test .taken) _ _
-          (o .open-processors .ensures) (c .before .before .lay-stretch .ensures),
+      framing-more (l .inv .0) (l .inv .1) (o .before .before .before .before .loop-test .taken) _ _ (o .open-processors .ensures) refl
+          (c .before .before .before .lay-stretch .ensures .0),
     )
 
 same-length : tie.Need-same-length Inv-loop μ-loop
@@ -83,7 +91,9 @@ same-length c = c .before .loop .inv .1 .laid .same-length
 
 returns : tie.Need-returns Inv-loop μ-loop
 unfolding laidOut
-returns c = framing-end _ _ (c .before .loop .inv .1) (c .loop-test .left)
+returns c =
+    let g = c .before .loop .inv .0 in
+    framing-end _ _ _ (g .joinable) (g .room) (c .before .loop .inv .1) (c .loop-test .left)
 
 pub lay-plan-spec : {M : Type 1} → statement M
 lay-plan-spec =
@@ -95,6 +105,7 @@ lay-plan-spec =
     mul-end
     shared-slice-read-end
     open-processors-requires
+    slice-aggregate-lay-stretch
     lay-stretch-requires
     add-s
     loop-less
