@@ -1,4 +1,5 @@
--- How a plan is made of a table where there is no reason: its amounts are the order's and feasible, their layout has room and is right.
+-- How a plan is made of a table where there is no reason: its amounts are the order's and feasible, their layout has room, and joined it is
+-- right.
 use Prim.Native.Nat.{ℕ, zero, suc, _+_, _-_, _*_, _≤_, _<_}
 use mathlib.Core.Path.{_≡_, refl, sym, ap, _∙_}
 use mathlib.Core.Bool.{Bool}
@@ -8,16 +9,20 @@ use native.Mathlib.Nat.{mul-le-mul-left, mul-le-mul-right}
 use lib.IntN.{ℤ}
 use lib.ListN.{length, getD, drop}
 use Rattle.sums.specs.Arrays.{RowOf}
+use Rattle.sums.specs.Members.{All-map}
 use Rattle.order.specs.Order.{Order, processorCount, Numbers}
 use Rattle.order.specs.Lead.{lastDue, reachAt}
 use Rattle.order.specs.LeadLaws.{workable}
 use Rattle.order.specs.RefusalLaws.{Acceptable, accepted-iff}
 use Rattle.plan.specs.Check.{numbersOf}
-use Rattle.wrap.specs.Stretches.{stretchCount, mark}
+use Rattle.plan.specs.Join.{joined}
+use Rattle.plan.specs.Plan.{Row}
+use Rattle.wrap.specs.Stretches.{stretchCount, mark, FeasibleFor}
 use Rattle.wrap.specs.Marks.{mark-mono}
 use Rattle.wrap.specs.Layout.{layout}
 use Rattle.wrap.specs.LayoutRight.{layout-right}
 use Rattle.wrap.specs.LayoutOrdered.{layout-count}
+use Rattle.wrap.specs.LayoutJoined.{joined-few, joined-plan, rows-rise, rows-forward}
 use Rattle.wrap.specs.Flows.{amountIn}
 use Rattle.wrap.specs.Frame.{Frame, openIn, Rising}
 use Rattle.wrap.specs.FrameLaws.{lies-is}
@@ -30,7 +35,7 @@ use Rattle.allot.specs.GridMarks.{tabled-at}
 use Rattle.allot.specs.OrderFlow.{stretches-are, mark-same}
 use Rattle.allot.specs.Feasible.{tabled-sized, tabled-feasible, tabled-chosen}
 use Rattle.layout.specs.Laid.{Numbered}
-use Rattle.layout.specs.Planned.{lentFrame, planned}
+use Rattle.layout.specs.Planned.{lentFrame, planned, Joinable}
 use Rattle.layout.specs.PlannedLaws.{first-processors, first-jobs, processors-numbered, jobs-numbered, laid-out-is}
 use Rattle.planner.specs.RowLaws.{asked-few}
 use Rattle.planner.specs.Written.{Written}
@@ -77,12 +82,33 @@ module _ {o : Order} {t : Table} {bound : ℤ} {lent : ℕ} (m : MadeOf o t boun
         (mark-same lastDue o bound t ds ms at) all-open
         ∙ layout-is o bound (amountIn (t .q) w))
 
-    pub plan-given : (w : List ℕ) → length ms ≡ 48 → length opens ≡ 16 → length closes ≡ 16 → length w ≡ 2352 →
+    -- the engine's amounts are feasible
+    plan-feasible : (w : List ℕ) (r : Bool) → Answer (flowOn t ds ms) (suc (t .s)) (grid (t .q) w) r →
+        FeasibleFor o bound (amountIn (t .q) w)
+    plan-feasible w r answer = tabled-feasible o (workable o a) bound (m .no-reason) t ds ms at w r answer
+
+    -- so their layout can be joined while it is written
+    plan-joinable : (w : List ℕ) (r : Bool) → Answer (flowOn t ds ms) (suc (t .s)) (grid (t .q) w) r →
+        Joinable (planned t (t .q) ms opens closes w)
+    plan-joinable w r answer =
+        let b : ℕ → ℕ → ℕ = amountIn (t .q) w in
+        let F = plan-feasible w r answer in
+        rw (plan-is w)
+        (record {
+          named = All-map _ _ (layout o bound b)
+              (λ (x : Row) h. (h .a-job .0, (h .a-processor .0, omega (arith, h .a-processor .1, m .tabled .processors, m .tabled .few-processors))))
+              (layout-right o bound b F .well-formed);
+          forward = rows-forward o bound b F;
+          rises = rows-rise o bound b;
+        })
+
+    pub plan-given : (w : List ℕ) (r : Bool) → Answer (flowOn t ds ms) (suc (t .s)) (grid (t .q) w) r →
+        length ms ≡ 48 → length opens ≡ 16 → length closes ≡ 16 → length w ≡ 2352 →
         ((t .m ≤ 16) × (t .n ≤ 48) × Numbered (t .m) (t .«by_memory») × Numbered (t .n) (t .«by_need»)
         × (t .q ≤ 128) × (t .q ≤ length ms) × (t .m ≤ length opens) × (t .m ≤ length closes)
         × (t .n * t .q ≤ length w) × Rising lentBy)
-        × (4 * length (planned t (t .q) ms opens closes w) ≤ lent)
-    plan-given w lm lo lc lw = (
+        × ((4 * length (planned t (t .q) ms opens closes w) ≤ lent) × Joinable (planned t (t .q) ms opens closes w))
+    plan-given w r answer lm lo lc lw = (
       (
         m .tabled .few-processors,
         m .tabled .few-jobs,
@@ -95,31 +121,33 @@ module _ {o : Order} {t : Table} {bound : ℤ} {lent : ℕ} (m : MadeOf o t boun
         omega (arith, amounts-fit .1),
         sized .marks-rise,
       ),
-      omega (arith, ap length (plan-is w), layout-count o bound (amountIn (t .q) w), m .room),
+      (omega (arith, ap length (plan-is w), layout-count o bound (amountIn (t .q) w), m .room), plan-joinable w r answer),
     )
 
     pub plan-made : (w : List ℕ) (r : Bool) → Answer (flowOn t ds ms) (suc (t .s)) (grid (t .q) w) r →
         RunOf (flowOn t ds ms) (suc (t .s)) (grid (t .q) w) r → (entry exit : List ℕ) (count : ℕ) →
-        count ≡ length (planned t (t .q) ms opens closes w) →
-        exit ≡ numbersOf (planned t (t .q) ms opens closes w)
-        ++ drop (4 * length (planned t (t .q) ms opens closes w)) entry → Written o bound entry exit count
+        count ≡ length (joined (planned t (t .q) ms opens closes w)) →
+        exit ≡ numbersOf (joined (planned t (t .q) ms opens closes w))
+        ++ drop (4 * length (joined (planned t (t .q) ms opens closes w))) entry → Written o bound entry exit count
     plan-made w r answer run entry exit count f g =
         let b : ℕ → ℕ → ℕ = amountIn (t .q) w in
-        let feasible = tabled-feasible o (workable o a) bound (m .no-reason) t ds ms at w r answer in
+        let feasible = plan-feasible w r answer in
         record {
-          plan = layout o bound b;
+          plan = joined (layout o bound b);
           plan-of =
               record {
                 amounts = b;
                 chosen = tabled-chosen o (workable o a) bound (m .no-reason) t ds ms at w r answer run;
                 feasible = feasible;
                 plan-is = refl;
-                right = layout-right o bound b feasible;
+                right = joined-plan o bound b feasible;
               };
           rows-are = rw (plan-is w) at g;
           count-is = rw (plan-is w) at f;
         }
 
-    pub plan-few : (w : List ℕ) (count : ℕ) → count ≡ length (planned t (t .q) ms opens closes w) → count ≤ 3024
+    pub plan-few : (w : List ℕ) (count : ℕ) → count ≡ length (joined (planned t (t .q) ms opens closes w)) → count ≤ 3024
     plan-few w count f =
-        omega (arith, f, ap length (plan-is w), layout-count o bound (amountIn (t .q) w), asked-few o (m .accepted))
+        let e : length (joined (planned t (t .q) ms opens closes w)) ≡ length (joined (layout o bound (amountIn (t .q) w))) =
+        ap (λ (l : List Row). length (joined l)) (plan-is w) in
+        omega (arith, f, e, joined-few o bound (amountIn (t .q) w), asked-few o (m .accepted))

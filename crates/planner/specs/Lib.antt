@@ -1,6 +1,7 @@
 pub mod Rows
 pub mod Written
 pub mod WrittenOne
+pub mod JoinedPlan
 pub mod Told
 pub mod Judged
 pub mod RowLaws

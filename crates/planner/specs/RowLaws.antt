@@ -10,7 +10,7 @@ use Rattle.order.specs.Order.{Order, processorCount, jobCount}
 use Rattle.order.specs.Refusals.{Accepted}
 use Rattle.order.specs.RefusalLaws.{accepted-iff}
 use Rattle.wrap.specs.Stretches.{stretchCount}
-use Rattle.wrap.specs.LayoutOrdered.{layout-count}
+use Rattle.wrap.specs.LayoutJoined.{joined-few}
 use Rattle.order.specs.SortedLaws.{dues-few}
 use Rattle.planner.specs.Rows.{rowsAsked}
 use Rattle.planner.specs.Written.{Written}
@@ -31,4 +31,4 @@ asked-few o accepted =
 pub written-few : {o : Order} {bound : ℤ} {entry exit : List ℕ} {count : ℕ} → Accepted o → Written o bound entry exit count →
     count ≤ 3024
 written-few {o} {bound} a w =
-    let p = w .plan-of in omega (arith, w .count-is, ap length (p .plan-is), layout-count o bound (p .amounts), asked-few o a)
+    let p = w .plan-of in omega (arith, w .count-is, ap length (p .plan-is), joined-few o bound (p .amounts), asked-few o a)

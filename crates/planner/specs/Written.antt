@@ -1,5 +1,5 @@
 -- What the planner leaves in the lent buffer: its plan and what stood beyond it; where it refuses, what it was lent. The plan is the
--- layout of the amounts that the order has at the bound, so it is determined (WrittenOne).
+-- layout of the amounts that the order has at the bound, joined (document 02, §2), so it is determined (WrittenOne).
 use Prim.Native.Nat.{ℕ, _*_}
 use mathlib.Core.Path.{_≡_}
 use mathlib.Core.List.{List, _++_}
@@ -9,6 +9,7 @@ use Rattle.order.specs.Order.{Order}
 use Rattle.order.specs.Refusals.{Verdict, accepted, refused}
 use Rattle.plan.specs.Plan.{Row, Right}
 use Rattle.plan.specs.Check.{numbersOf}
+use Rattle.plan.specs.Join.{joined}
 use Rattle.wrap.specs.Stretches.{FeasibleFor}
 use Rattle.wrap.specs.Layout.{layout}
 use Rattle.allot.specs.Chosen.{Chosen}
@@ -18,7 +19,7 @@ pub record PlanOf (o : Order) (bound : ℤ) (plan : List Row) : Type 0 where
   pub amounts : ℕ → ℕ → ℕ
   pub chosen : Chosen o bound amounts
   pub feasible : FeasibleFor o bound amounts
-  pub plan-is : plan ≡ layout o bound amounts
+  pub plan-is : plan ≡ joined (layout o bound amounts)
   pub right : Right o bound plan
 
 -- it was written: `count` rows

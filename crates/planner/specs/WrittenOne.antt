@@ -15,6 +15,7 @@ use Rattle.order.specs.OrderingLaws.{jobs-ordered}
 use Rattle.order.specs.Refusals.{Verdict, accepted, refused}
 use Rattle.plan.specs.Plan.{Row}
 use Rattle.plan.specs.Check.{numbersOf}
+use Rattle.plan.specs.Join.{joined}
 use Rattle.wrap.specs.Stretches.{stretchCount, mark}
 use Rattle.wrap.specs.Layout.{Share, fill, sharesOf, stretchRows, rowsUpTo, layout}
 use Rattle.allot.specs.Chosen.{chosen-one}
@@ -49,7 +50,8 @@ module _ (o : Order) (bound : ℤ) where
   pub plan-one : (plan plan′ : List Row) → PlanOf o bound plan → PlanOf o bound plan′ → plan ≡ plan′
   plan-one plan plan′ P Q =
       P .plan-is
-      ∙ layout-same o bound (P .amounts) (Q .amounts) (chosen-one o bound (P .amounts) (Q .amounts) (P .chosen) (Q .chosen))
+      ∙ ap joined
+      (layout-same o bound (P .amounts) (Q .amounts) (chosen-one o bound (P .amounts) (Q .amounts) (P .chosen) (Q .chosen)))
       ∙ sym (Q .plan-is)
 
   module _ (entry exit exit′ : List ℕ) (count count′ : ℕ) where

@@ -1,19 +1,21 @@
--- Document 01's cases with a ●, the lines of document 02, §1, and more: one table, and one theorem that every case holds of the
--- definitions.
-use Prim.Native.Nat.{ℕ}
+-- Document 01's cases with a ●, the lines of document 02, §1, joined rows of §2, and more: one table, and one theorem that every case holds
+-- of the definitions.
+use Prim.Native.Nat.{ℕ, suc}
 use Prim.Native.String.{String}
 use mathlib.Core.Path.{_≡_, refl, sym, ap, _∙_, subst}
 use mathlib.Core.Bool.{Bool, true, false, true≢false}
 use mathlib.Core.List.{List, [], _∷_, map}
 use lib.IntN.{ℤ, pos, negsuc}
 use Rattle.sums.specs.Sum.{sum}
-use Rattle.sums.specs.Lists.{All, keep}
+use lib.ListN.{getD}
+use Rattle.sums.specs.Lists.{All, keep, nth, tabulate}
 use Rattle.sums.specs.Same.{sameList}
-use Rattle.order.specs.Order.{Order, endAt, endOf}
-use Rattle.order.specs.Sorted.{insert, distinct, dueTimes}
+use Rattle.order.specs.Order.{Order, processorCount, endAt, endOf}
+use Rattle.order.specs.Sorted.{insert, distinct, dueTimes, placeByKey, byFalling, processorOrder, jobOrder}
 use Rattle.order.specs.Class.{classes, lastThatSuffices, classFor, classOf, processorsIn, processorsTo}
 use Rattle.order.specs.Refusals.{limits, Verdict, accepted, judge, firstAfter, fitsSome, orderRows, Accepted}
 use Rattle.plan.specs.Plan.{Row, Right}
+use Rattle.plan.specs.Join.{joinRow, joinRows, joined}
 use Rattle.plan.specs.IsLeast.{IsLeast}
 use Rattle.plan.specs.Check.{numbersOf, rowsOf, every, everyTwo, isRight}
 use Rattle.plan.specs.CheckLaws.{isRight-iff}
@@ -29,11 +31,24 @@ use Rattle.sentence.specs.Line.{classesFrom, lineOf, composed, readBack}
 use Rattle.sentence.specs.LineLaws.{reads-to}
 use Rattle.profile.specs.Least.{weightAt, weightFrom, heaviest, leastReach, leastLateness}
 use Rattle.sums.specs.Most.{largest, most}
+use Rattle.wrap.specs.Stretches.{ends, mark}
+use Rattle.wrap.specs.Layout.{fill, sharesOf, stretchRows, rowsUpTo, layout}
+use Rattle.wrap.specs.Ending.{jobWhere, endsWith}
 use Rattle.feasible.specs.Least.{is-least}
-use Rattle.worked.specs.Orders.{A, B, C, D, needZero, overdue, twoOverfull, twoLate}
+use Rattle.worked.specs.Orders.{A, B, C, D, needZero, overdue, twoOverfull, twoLate, onTop, chain, wraps}
+
+-- amounts by job, and for each job by stretch
+abbrev pub amountsOf : List (List ℕ) → ℕ → ℕ → ℕ
+amountsOf amounts j s = getD (nth amounts j []) s 0
+
+-- the job that each processor ends stretch s with
+abbrev pub endingJobs : Order → ℤ → (ℕ → ℕ → ℕ) → ℕ → List ℕ
+endingJobs o bound a s =
+    tabulate (processorCount o) (λ i. endsWith (stretchRows o bound a s) (mark o bound (suc s)) (suc i))
 
 -- a case: a least lateness; a reason at a bound with its minutes owed and on hand; a plan and whether it is right; the line of a reason,
--- and a reason that does not stand
+-- and a reason that does not stand; amounts with their layout and its joined rows; rows and the joined ones; amounts, a stretch and the
+-- job that each processor ends it with
 pub data Case : Type 0 where
   leastIs : Order → ℤ → Case
   reasonIs : Order → ℤ → Reason → ℕ → ℤ → Case
@@ -41,6 +56,9 @@ pub data Case : Type 0 where
   wrongIs : Order → ℤ → List Row → Case
   lineIs : Order → ℤ → Reason → String → Case
   noLine : Order → ℤ → Reason → Case
+  laidIs : Order → ℤ → List (List ℕ) → List Row → List Row → Case
+  joinedIs : List Row → List Row → Case
+  endsIs : Order → ℤ → List (List ℕ) → ℕ → List ℕ → Case
 
 -- what a case says, in the words of the definitions
 abbrev pub Holds : Case → Type 0
@@ -52,6 +70,10 @@ Holds (wrongIs o bound rows) = ¬ Right o bound rows
 Holds (lineIs o bound reason text) =
     Stands o bound reason × (composed o bound (found reason) ≡ ascii text) × (readBack o bound (ascii text) ≡ found reason)
 Holds (noLine o bound reason) = (¬ Stands o bound reason) × (composed o bound (found reason) ≡ [])
+Holds (laidIs o bound amounts rows plan) =
+    (layout o bound (amountsOf amounts) ≡ rows) × (joined rows ≡ plan) × Right o bound plan
+Holds (joinedIs rows plan) = (joined rows ≡ plan) × (joined plan ≡ plan)
+Holds (endsIs o bound amounts s jobs) = endingJobs o bound (amountsOf amounts) s ≡ jobs
 
 -- a row: job, processor, from, to; and a row of job 1 on processor 1
 abbrev row : ℕ → ℕ → ℕ → ℕ → Row
@@ -86,6 +108,26 @@ cases =
     ∷ lineIs twoLate (pos 0) (overEnd 3) "job 3: time 5, end 2: owed 5, on hand 2"
     ∷ noLine twoLate (pos 0) (overEnd 2)
     ∷ noLine twoLate (pos 0) (stairs (pos 2 ∷ []))
+    -- document 02, §2: a job joined over two stretches, and over three; at A's least there is nothing to join; of a job that wraps in the
+    -- next stretch the joined row stands first, and its other part where the wrap puts it
+    ∷ laidIs onTop (pos 0) ((2 ∷ 2 ∷ []) ∷ (2 ∷ []) ∷ []) (row 1 1 0 2 ∷ row 2 2 0 2 ∷ row 1 1 2 4 ∷ [])
+    (row 1 1 0 4 ∷ row 2 2 0 2 ∷ [])
+    ∷ laidIs chain (pos 0) ((2 ∷ 2 ∷ 2 ∷ []) ∷ (2 ∷ []) ∷ (0 ∷ 2 ∷ []) ∷ [])
+    (row 1 1 0 2 ∷ row 2 2 0 2 ∷ row 1 1 2 4 ∷ row 3 2 2 4 ∷ row 1 1 4 6 ∷ [])
+    (row 1 1 0 6 ∷ row 2 2 0 2 ∷ row 3 2 2 4 ∷ [])
+    ∷ laidIs A (pos 1) ((3 ∷ []) ∷ (3 ∷ []) ∷ (1 ∷ 1 ∷ []) ∷ [])
+    (row 1 1 0 3 ∷ row 2 1 3 4 ∷ row 2 2 0 2 ∷ row 3 2 2 3 ∷ row 3 1 4 5 ∷ [])
+    (row 1 1 0 3 ∷ row 2 1 3 4 ∷ row 2 2 0 2 ∷ row 3 2 2 3 ∷ row 3 1 4 5 ∷ [])
+    ∷ laidIs wraps (pos 0) ((2 ∷ 3 ∷ []) ∷ (2 ∷ 3 ∷ []) ∷ (1 ∷ []) ∷ [])
+    (row 1 1 0 2 ∷ row 2 2 0 2 ∷ row 3 3 0 1 ∷ row 1 1 2 5 ∷ row 2 1 5 6 ∷ row 2 2 2 4 ∷ [])
+    (row 1 1 0 5 ∷ row 2 2 0 4 ∷ row 3 3 0 1 ∷ row 2 1 5 6 ∷ [])
+    -- a processor that rests before the stretch's end ends it with no job
+    ∷ endsIs wraps (pos 0) ((2 ∷ 3 ∷ []) ∷ (2 ∷ 3 ∷ []) ∷ (1 ∷ []) ∷ []) 0 (1 ∷ 2 ∷ 0 ∷ [])
+    ∷ endsIs wraps (pos 0) ((2 ∷ 3 ∷ []) ∷ (2 ∷ 3 ∷ []) ∷ (1 ∷ []) ∷ []) 1 (2 ∷ 0 ∷ 0 ∷ [])
+    -- another processor, another job, and a pause are not joined
+    ∷ joinedIs (row 1 1 0 2 ∷ row 1 2 2 4 ∷ []) (row 1 1 0 2 ∷ row 1 2 2 4 ∷ [])
+    ∷ joinedIs (row 1 1 0 2 ∷ row 2 1 2 4 ∷ []) (row 1 1 0 2 ∷ row 2 1 2 4 ∷ [])
+    ∷ joinedIs (row 1 1 0 2 ∷ row 1 1 3 4 ∷ []) (row 1 1 0 2 ∷ row 1 1 3 4 ∷ [])
     -- beyond document 01's: of two overfull staircases, the one that ranks first
     ∷ reasonIs twoOverfull (pos 0) (stairs (pos 4 ∷ pos 2 ∷ [])) 8 (pos 6)
     -- an empty row, and one that goes backwards, beside a right plan
@@ -113,6 +155,9 @@ data Value : Type 0 where
   checked : Bool → Value
   linesAt : Verdict → List ℕ → Found Reason → Value
   standing : Bool → List ℕ → Value
+  laidOut : List Row → List Row → Bool → Value
+  twice : List Row → List Row → Value
+  endings : List ℕ → Value
 
 -- its value as computed, and as the case states it
 abbrev computed : Case → Value
@@ -124,6 +169,10 @@ computed (wrongIs o bound rows) = checked (isRight o bound (numbersOf rows))
 computed (lineIs o bound reason text) =
     linesAt (judge (orderRows limits o)) (composed o bound (found reason)) (readBack o bound (ascii text))
 computed (noLine o bound reason) = standing (isStanding o bound reason) (composed o bound (found reason))
+computed (laidIs o bound amounts rows plan) =
+    laidOut (layout o bound (amountsOf amounts)) (joined rows) (isRight o bound (numbersOf plan))
+computed (joinedIs rows plan) = twice (joined rows) (joined plan)
+computed (endsIs o bound amounts s jobs) = endings (endingJobs o bound (amountsOf amounts) s)
 
 abbrev stated : Case → Value
 stated (leastIs o least) = leastOf accepted least
@@ -132,6 +181,9 @@ stated (rightIs o bound rows) = checked true
 stated (wrongIs o bound rows) = checked false
 stated (lineIs o bound reason text) = linesAt accepted (ascii text) (found reason)
 stated (noLine o bound reason) = standing false []
+stated (laidIs o bound amounts rows plan) = laidOut rows plan true
+stated (joinedIs rows plan) = twice plan plan
+stated (endsIs o bound amounts s jobs) = endings jobs
 
 right-rows : (o : Order) (bound : ℤ) (rows : List Row) → isRight o bound (numbersOf rows) ≡ true → Right o bound rows
 right-rows o bound rows e =
@@ -163,6 +215,9 @@ case-holds (lineIs o bound reason text) e =
 case-holds (noLine o bound reason) e =
     let not-standing : isStanding o bound reason ≡ false = cc in
     (λ s. true≢false (sym (standing-is o bound reason .1 s) ∙ not-standing), cc)
+case-holds (laidIs o bound amounts rows plan) e = (cc, cc, right-rows o bound plan cc)
+case-holds (joinedIs rows plan) e = (cc, cc)
+case-holds (endsIs o bound amounts s jobs) e = cc
 
 all-hold : (cs : List Case) → map computed cs ≡ map stated cs → All Holds cs
 all-hold [] e = tt
@@ -175,7 +230,8 @@ all-computed : map computed cases ≡ map stated cases
 unfolding sum endAt endOf insert distinct dueTimes classes lastThatSuffices classFor classOf processorsIn processorsTo judge firstAfter
     fitsSome numbersOf every everyTwo isRight owed classOwes owedFrom onHandFrom choices ranked firstSuch firstOverfull reasonOf
     weightAt weightFrom largest heaviest most leastReach leastLateness keep jobsOverEnd overfullStairs reasonsAt isOneOf sameList
-    classesFrom lineOf composed readBack digitsWithin decimal signedDecimal
+    classesFrom lineOf composed readBack digitsWithin decimal signedDecimal placeByKey byFalling processorOrder jobOrder ends mark
+    fill sharesOf stretchRows rowsUpTo layout jobWhere joinRow joinRows
 all-computed = refl
 
 -- every case holds

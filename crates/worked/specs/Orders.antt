@@ -35,6 +35,17 @@ twoOverfull =
     order (8 ∷ 4 ∷ [])
     (job 2 (pos 4) 8 ∷ job 2 (pos 4) 8 ∷ job 2 (pos 2) 4 ∷ job 2 (pos 2) 4 ∷ job 1 (pos 4) 4 ∷ [])
 
+-- document 02, §2: a job that is always first on processor 1, beside a shorter one; beside two, so that it runs through three stretches; and
+-- two jobs on the largest memories, of which the second wraps in the next stretch
+abbrev pub onTop : Order
+onTop = order (8 ∷ 4 ∷ []) (job 4 (pos 4) 8 ∷ job 2 (pos 2) 4 ∷ [])
+
+abbrev pub chain : Order
+chain = order (8 ∷ 4 ∷ []) (job 6 (pos 6) 8 ∷ job 2 (pos 2) 4 ∷ job 2 (pos 4) 4 ∷ [])
+
+abbrev pub wraps : Order
+wraps = order (8 ∷ 8 ∷ 4 ∷ []) (job 5 (pos 6) 8 ∷ job 5 (pos 6) 8 ∷ job 1 (pos 2) 4 ∷ [])
+
 -- memory 4; jobs (3, 1, 0), (1, 9, 0), (5, 2, 0): at 0 the first and the last are over their ends
 abbrev pub twoLate : Order
 twoLate = order (4 ∷ []) (job 3 (pos 1) 0 ∷ job 1 (pos 9) 0 ∷ job 5 (pos 2) 0 ∷ [])

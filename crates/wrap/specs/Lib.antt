@@ -21,3 +21,4 @@ pub mod Ending
 pub mod EndingLaws
 pub mod Joined
 pub mod JoinedWhere
+pub mod LayoutJoined

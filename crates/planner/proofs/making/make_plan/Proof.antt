@@ -49,7 +49,8 @@ lay-plan-requires c κs =
     let marked : length (w .before .before .minutes-at2 .result) ≡ 48 = search needs in
     plan-given (s .pre .1) e (w .before .before .before .minutes-at .ensures) (w .before .before .minutes-at2 .ensures)
     (replicate 16 0) (replicate 16 (r .reach-of .result)) (λ i l. getD-replicate 16 i 0 0 l)
-    (λ i l. getD-replicate 16 i (r .reach-of .result) 0 l) (w .fill-amounts .last .1 .1 .1 .0) marked refl refl long
+    (λ i l. getD-replicate 16 i (r .reach-of .result) 0 l) (w .fill-amounts .last .1 .1 .1 .0) (w .fill-amounts .result)
+    (w .fill-amounts .ensures .0) marked refl refl long
 
 same-length : tie.Need-same-length
 same-length c = search needs
