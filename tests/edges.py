@@ -4,7 +4,7 @@ orders of full size whose plans have very many rows."""
 import order_file
 import orders
 
-ROWS_OF_A_LONG_PLAN = 700
+ROWS_OF_A_LONG_PLAN = 500
 BOUNDS = (orders.BOUND_LEAST - 1, orders.BOUND_LEAST, orders.BOUND_MOST, orders.BOUND_MOST + 1)
 
 

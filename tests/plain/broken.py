@@ -1,7 +1,8 @@
 """Shows that the tests can fail: each part is broken, and a named test catches it.
 
 Document 01, "Errors that a planner of this kind invites", names many of these;
-document 02's sentences of the reason give those of its lines.
+document 02's sentences of the reason give those of its lines, those of fewer
+hand-overs those of joined rows.
 Each variant replaces one name of one module while one test runs.
 
     broken.py          runs all variants; exits 1 if one of them is not caught
@@ -16,6 +17,7 @@ from collections import namedtuple
 
 import answers
 import flow
+import join
 import judge
 import least
 import order_file
@@ -331,11 +333,8 @@ LAYOUTS = [
     Variant("jobs by rising need", wrap, "job_order",
             lambda order: right_job_order(order)[::-1],
             "test_judge.Wrap.test_by_hand"),
-    Variant("a judge without the wrap", judge, "wrapped",
+    Variant("a judge without the layout", judge, "laid_and_joined",
             lambda order, bound, rows: None,
-            "test_judge.Judge.test_wrong_layout_of_right_plans"),
-    Variant("a judge without the cuts", judge, "stretch_of",
-            lambda row, stretches: sum(end <= row[2] for _, end in stretches),
             "test_judge.Judge.test_wrong_layout_of_right_plans"),
     Variant("a judge without the row order", judge, "row_order",
             lambda order, bound, rows: None, "test_judge.Judge.test_wrong"),
@@ -350,6 +349,220 @@ LAYOUTS = [
 
 right_job_order = wrap.job_order
 right_judge = judge.broken
+right_row_order = judge.row_order
+
+
+def joined_if(goes_on):
+    """A joining in which a part lengthens the first row of the stretches before
+    with which it goes on; `goes_on` is asked with the row, the part and the
+    stretch that the part lies in."""
+    def joined(stretches, parts):
+        rows = []
+        for stretch, of_stretch in zip(stretches, parts):
+            before = len(rows)
+            for part in of_stretch:
+                place = next((place for place, row in enumerate(rows[:before])
+                              if goes_on(row, part, stretch)), None)
+                if place is None:
+                    rows.append(part)
+                else:
+                    rows[place] = rows[place][:3] + part[3:]
+        return rows
+    return joined
+
+
+def same_job(row, part):
+    return row[0] == part[0]
+
+
+def same_processor(row, part):
+    return row[1] == part[1]
+
+
+def touch(row, part):
+    return row[3] == part[2]
+
+
+def across(row, part, stretch):
+    """The job goes on at the end of a stretch, on any processor."""
+    return same_job(row, part) and touch(row, part)
+
+
+def handed_over(row, part, stretch):
+    """The processor goes on, with any job."""
+    return same_processor(row, part) and touch(row, part)
+
+
+def after_a_rest(row, part, stretch):
+    """The job opens a stretch on its processor, at any time after its row."""
+    return same_job(row, part) and same_processor(row, part) and part[2] == stretch[0]
+
+
+def later_in_the_stretch(row, part, stretch):
+    """The job ended the stretch before on the processor and comes back to it."""
+    return same_job(row, part) and same_processor(row, part) and row[3] == stretch[0]
+
+
+def goes_on(row, part, stretch):
+    """As document 02 says it."""
+    return (same_job(row, part) and same_processor(row, part) and touch(row, part)
+            and part[2] == stretch[0])
+
+
+def two_parts_at_most(stretches, parts):
+    """A row that is joined already is lengthened no more."""
+    laid = {part for of_stretch in parts for part in of_stretch}
+    return joined_if(lambda row, part, stretch: row in laid and goes_on(
+        row, part, stretch))(stretches, parts)
+
+
+def first_end_only(stretches, parts):
+    """Joined over the first end, over no later one."""
+    return joined_if(lambda row, part, stretch: stretch == stretches[1] and goes_on(
+        row, part, stretch))(stretches, parts)
+
+
+def stands_where_its_last_part_stood(rows, part):
+    right_lengthen(rows, part)
+    row = next(row for row in rows if row[:2] + row[3:] == part[:2] + part[3:])
+    rows.remove(row)
+    rows.append(row)
+
+
+def stands_first_of_all(rows, part):
+    right_lengthen(rows, part)
+    row = next(row for row in rows if row[:2] + row[3:] == part[:2] + part[3:])
+    rows.remove(row)
+    rows.insert(0, row)
+
+
+def shifted(rows, part):
+    """The later part's `from` for the row's own."""
+    rows[:] = [part if row[:2] == part[:2] and touch(row, part) else row
+               for row in rows]
+
+
+def lengthened_and_kept(rows, part):
+    right_lengthen(rows, part)
+    rows.append(part)
+
+
+def ends_or_rests(rows, end):
+    """The job that a processor ran last, be it up to the end or not."""
+    return {processor: job for job, processor, _, _ in rows}
+
+
+def first_processor_only(stretches, parts):
+    return joined_if(lambda row, part, stretch: part[1] == 1 and goes_on(
+        row, part, stretch))(stretches, parts)
+
+
+def joins_before_it_judges(order, bound, rows, count):
+    """A judge that joins a right plan's rows before it judges them."""
+    if plan_rules.broken_rule(order, bound, rows) is None:
+        rows = join.plan(order, bound, judge.own_amounts(order, bound, rows))
+        count = len(rows)
+    return right_judge(order, bound, rows, count)
+
+
+def cut_at_the_ends(order, bound, rows):
+    """A judge of rows that lie in one stretch each."""
+    for row in rows:
+        if len(judge.parts(row, wrap.stretches(order, bound))) > 1:
+            return "reaches over an end"
+    return right_row_order(order, bound, rows)
+
+
+def rows_in_any_order(order, bound, rows, count):
+    """A judge that puts the rows into their order before it judges."""
+    rank = wrap.processor_order(order).index
+    stretches = wrap.stretches(order, bound)
+    return right_judge(order, bound, sorted(rows, key=lambda row: (
+        judge.begins_in(row, stretches), rank(row[1]), row[2])), count)
+
+
+def whole_in_its_first_stretch(row, stretches):
+    """A row that is not cut at the ends."""
+    return [(judge.begins_in(row, stretches), row[2], row[3])]
+
+
+def ends_in(row, stretches):
+    return [begin < row[3] <= end for begin, end in stretches].index(True)
+
+
+def room_for_the_joined_rows(order, room, bound=None):
+    """9 only where the buffer is too short for the rows that are written."""
+    refused = right_planner_refusal(order, room, bound)
+    if refused and refused.number == 9:
+        at = least.least(order) if bound is None else bound
+        if flow.meets(order, at) and room // 4 >= len(
+                join.plan(order, at, flow.amounts(order, at))):
+            return None
+    return refused
+
+
+right_lengthen = join.lengthen
+JOINED = "test_join.Known.test_joined"
+DRAWN_JOINED = "test_join.Drawn.test_joined_plans"
+WHERE = "test_join.Drawn.test_where_joined_rows_stand"
+NOT_JOINED = "test_judge.Judge.test_not_joined"
+
+JOININGS = [
+    Variant("nothing is joined", join, "opens", lambda part, begin, ended: False,
+            JOINED),
+    Variant("joined on another processor", join, "joined", joined_if(across), JOINED),
+    Variant("joined with another job", join, "joined", joined_if(handed_over), JOINED),
+    Variant("joined though the job stopped before the stretch's end", join, "joined",
+            joined_if(after_a_rest), JOINED),
+    Variant("joined though the processor rested up to the stretch's end", join,
+            "joined", joined_if(after_a_rest),
+            "test_join.Known.test_rest_before_the_end"),
+    Variant("joined over a stretch without the job", join, "joined",
+            joined_if(after_a_rest), "test_join.Known.test_a_stretch_between"),
+    Variant("joined though the job does not open the stretch", join, "joined",
+            joined_if(later_in_the_stretch), JOINED),
+    Variant("two parts joined, the third not", join, "joined", two_parts_at_most,
+            JOINED),
+    Variant("joined over the first end only", join, "joined", first_end_only, JOINED),
+    Variant("joined on processor 1 only", join, "joined", first_processor_only, JOINED),
+    Variant("the joined row stands where its last part stood", join, "lengthen",
+            stands_where_its_last_part_stood, JOINED),
+    Variant("the joined row stands where its last part stood, drawn", join,
+            "lengthen", stands_where_its_last_part_stood, WHERE),
+    Variant("the joined row stands before all", join, "lengthen", stands_first_of_all,
+            JOINED),
+    Variant("the first part's `to` kept", join, "lengthen", lambda rows, part: None,
+            JOINED),
+    Variant("the last part's `from` taken", join, "lengthen", shifted, JOINED),
+    Variant("the part written once more", join, "lengthen", lengthened_and_kept,
+            JOINED),
+    Variant("the part written once more, drawn", join, "lengthen",
+            lengthened_and_kept, DRAWN_JOINED),
+    Variant("a processor that rests ends with its last job", join, "ends_with",
+            ends_or_rests, "test_join.EndsWith.test_by_hand"),
+    Variant("a second joining that finds nothing ever", join, "left_to_join",
+            lambda rows: None, "test_join.Known.test_left_to_join"),
+    Variant("a second joining that finds something, by two parts", join, "joined",
+            two_parts_at_most, "test_join.Drawn.test_a_second_joining"),
+    Variant("a judge that does not join", join, "plan", right_plan,
+            "test_judge.Judge.test_joined"),
+    Variant("a judge that takes an unjoined plan", judge, "broken",
+            joins_before_it_judges, NOT_JOINED),
+    Variant("a judge that does not say what is left to join", judge,
+            "nothing_to_join", lambda order, bound, rows: None, NOT_JOINED),
+    Variant("a judge that wants rows cut at the ends", judge, "row_order",
+            cut_at_the_ends, "test_judge.Judge.test_joined"),
+    Variant("a judge that takes a row's minutes for its first stretch", judge, "parts",
+            whole_in_its_first_stretch, "test_judge.Judge.test_joined"),
+    Variant("rows by the stretch in which they end", judge, "begins_in", ends_in,
+            "test_judge.Judge.test_joined"),
+    Variant("rows by `from` before their processors", judge, "begins_in",
+            lambda row, stretches: row[2], "test_judge.Judge.test_right"),
+    Variant("joined rows in any place", judge, "broken", rows_in_any_order,
+            "test_judge.Judge.test_where_a_joined_row_stands"),
+    Variant("room asked for the joined rows only", answers, "planner_refusal",
+            room_for_the_joined_rows, "test_answers.Answers.test_room_of_joined_rows"),
+]
 
 
 def no_larger_memory(network, start, to, room):
@@ -601,8 +814,8 @@ SENTENCES = [
             the_last_reason, "test_answers.Answers.test_try_bound"),
 ]
 
-VARIANTS = (LATENESS + REASONS + REFUSALS + PLANS + LAYOUTS + SEARCHES + FILES
-            + SENTENCES)
+VARIANTS = (LATENESS + REASONS + REFUSALS + PLANS + LAYOUTS + JOININGS + SEARCHES
+            + FILES + SENTENCES)
 
 
 def caught(variant):

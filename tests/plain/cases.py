@@ -13,6 +13,7 @@ import sys
 
 import answers
 import cases_check
+import cases_join
 import cases_planner
 import cases_read
 import cases_sentence
@@ -22,7 +23,8 @@ import stream_form
 
 HERE = pathlib.Path(__file__).resolve().parent
 PROGRAM = HERE.parent.parent / "crates" / "cases"
-PARTS = (cases_read, cases_check, cases_write, cases_planner, cases_sentence)
+PARTS = (cases_read, cases_check, cases_write, cases_planner, cases_sentence,
+         cases_join)
 # What the program reads, what it has to print, and what each case shows.
 STORED = {"stdin": PROGRAM / "stdin", "stdout": PROGRAM / "stdout",
           "list": HERE / "streams" / "cases.list"}

@@ -1,46 +1,36 @@
-"""The judge of written plans, by document 01 alone.
+"""The judge of written plans, by documents 01 and 02 alone.
 
 Document 01: "The row count answered is the number of rows written; the lent
 buffer beyond them is unchanged. One freedom is granted: which amounts a job
 gets in which stretch. Of them it holds that the rows written are their layout
-and a right plan." So a plan is judged, never compared with one fixed plan: its
-own amounts are taken from its rows and laid out anew.
+and a right plan." Document 02, §2: "Where a job ends a stretch on a processor
+and opens the next stretch on that processor, makers want one row". So a plan is
+judged, never compared with one fixed plan: its own amounts are taken from its
+rows, laid out anew and joined.
 
-Each function gives None where all is well, else words that name what is broken.
+Each judge gives None where all is well, else words that name what is broken.
+All but `broken` and `broken_buffer` are asked of right plans only.
 """
 
+import join
 import orders
 import plan_rules
 import wrap
 
 
-def stretch_of(row, stretches):
-    """The place of the stretch in which a row lies whole, else None."""
+def begins_in(row, stretches):
+    """The place of the stretch in which a row begins."""
     for place, (begin, end) in enumerate(stretches):
-        if begin <= row[2] and row[3] <= end:
+        if begin <= row[2] < end:
             return place
     return None
 
 
-def cut_at_ends(order, bound, rows):
-    """No row reaches over a cut: "The planner cuts time at the distinct ends
-    into stretches"."""
-    for number, row in enumerate(rows, 1):
-        if stretch_of(row, wrap.stretches(order, bound)) is None:
-            return f"row {number}: {row[2]}-{row[3]} is not cut at the ends"
-    return None
-
-
-def row_order(order, bound, rows):
-    # "Rows stand by stretch, then by that processor order, then by `from`."
-    stretches = wrap.stretches(order, bound)
-    rank = {number: place
-            for place, number in enumerate(wrap.processor_order(order))}
-    keys = [(stretch_of(row, stretches), rank[row[1]], row[2]) for row in rows]
-    for number, (one, next_one) in enumerate(zip(keys, keys[1:]), 1):
-        if one >= next_one:
-            return f"row {number + 1} stands in a wrong place"
-    return None
+def parts(row, stretches):
+    """A row cut at the ends, as (place of the stretch, from, to)."""
+    cut = [(place, max(begin, row[2]), min(end, row[3]))
+           for place, (begin, end) in enumerate(stretches)]
+    return [part for part in cut if part[1] < part[2]]
 
 
 def own_amounts(order, bound, rows):
@@ -48,20 +38,42 @@ def own_amounts(order, bound, rows):
     stretches = wrap.stretches(order, bound)
     amounts = {}
     for row in rows:
-        key = row[0] - 1, stretch_of(row, stretches)
-        amounts[key] = amounts.get(key, 0) + row[3] - row[2]
+        for place, begin, to in parts(row, stretches):
+            key = row[0] - 1, place
+            amounts[key] = amounts.get(key, 0) + to - begin
     return amounts
 
 
-def wrapped(order, bound, rows):
-    """Row by row, "the rows written are their layout"."""
-    laid = wrap.plan(order, bound, own_amounts(order, bound, rows))
-    for number, (row, wanted) in enumerate(zip(rows, laid), 1):
-        if tuple(row) != wanted:
+def row_order(order, bound, rows):
+    # "Rows stand by stretch, then by that processor order, then by `from`." "A
+    # joined row stands where its earliest part stood."
+    stretches = wrap.stretches(order, bound)
+    rank = {number: place
+            for place, number in enumerate(wrap.processor_order(order))}
+    keys = [(begins_in(row, stretches), rank[row[1]], row[2]) for row in rows]
+    for number, (one, next_one) in enumerate(zip(keys, keys[1:]), 1):
+        if one >= next_one:
+            return f"row {number + 1} stands in a wrong place"
+    return None
+
+
+def nothing_to_join(order, bound, rows):
+    # "a second joining finds nothing to join"
+    two = join.left_to_join(rows)
+    if two:
+        return f"rows {two[0]} and {two[1]} are not joined"
+    return None
+
+
+def laid_and_joined(order, bound, rows):
+    """Row by row, "the rows written are their layout", joined."""
+    wanted = join.plan(order, bound, own_amounts(order, bound, rows))
+    for number, (row, other) in enumerate(zip(rows, wanted), 1):
+        if tuple(row) != other:
             return (f"row {number}: {' '.join(map(str, row))} is not the wrap's "
-                    f"{' '.join(map(str, wanted))}")
-    if len(rows) != len(laid):
-        return f"{len(rows)} rows, but the wrap has {len(laid)}"
+                    f"{' '.join(map(str, other))}")
+    if len(rows) != len(wanted):
+        return f"{len(rows)} rows, but the wrap, joined, has {len(wanted)}"
     return None
 
 
@@ -74,7 +86,7 @@ def broken(order, bound, rows, count):
         return rule
     if len(rows) > orders.rows_needed(order):
         return f"over {orders.rows_needed(order)} rows"
-    for judge in (cut_at_ends, row_order, wrapped):
+    for judge in (row_order, nothing_to_join, laid_and_joined):
         said = judge(order, bound, rows)
         if said:
             return said

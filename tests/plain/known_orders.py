@@ -1,5 +1,5 @@
 """The orders that document 01 names, small orders for each refusal, and orders for
-the lines of document 02, §1.
+the lines of document 02, §1, and for its joined rows, §2.
 
 Document 01, "Orders to try": "Jobs are (time, due, need)." And the refusal
 table's column "Small example".
@@ -44,6 +44,43 @@ LONGEST_STAIRS = order([4294967295 - i for i in range(16)],
                        [(100000, -1000000, 0)] * 48)
 LONGEST_JOB_AT = -10000000
 LONGEST_JOB = order([4], [(100000, -1000000, 4)] * 48)
+
+# Job 1 runs on processor 1 from the first minute to the last.
+OVER_TWO = order([8, 4], [(4, 4, 8), (2, 2, 4)])
+OVER_THREE = order([8, 4], [(6, 6, 8), (2, 2, 4), (2, 4, 4)])
+# Orders whose amounts at 0 are forced: what each shows, the order, the rows of
+# its stretches, and these joined.
+JOINED = [
+    ("one row over two stretches", OVER_TWO,
+     [[(1, 1, 0, 2), (2, 2, 0, 2)], [(1, 1, 2, 4)]],
+     [(1, 1, 0, 4), (2, 2, 0, 2)]),
+    ("one row over three stretches", OVER_THREE,
+     [[(1, 1, 0, 2), (2, 2, 0, 2)], [(1, 1, 2, 4), (3, 2, 2, 4)], [(1, 1, 4, 6)]],
+     [(1, 1, 0, 6), (2, 2, 0, 2), (3, 2, 2, 4)]),
+    ("a job that wraps in the next stretch",
+     order([8, 4], [(2, 2, 8), (6, 6, 4), (2, 6, 8)]),
+     [[(1, 1, 0, 2), (2, 2, 0, 2)], [(3, 1, 2, 4), (2, 1, 4, 6), (2, 2, 2, 4)]],
+     [(1, 1, 0, 2), (2, 2, 0, 4), (3, 1, 2, 4), (2, 1, 4, 6)]),
+    ("a joined row from inside a stretch", order([4], [(1, 2, 4), (3, 4, 4)]),
+     [[(1, 1, 0, 1), (2, 1, 1, 2)], [(2, 1, 2, 4)]],
+     [(1, 1, 0, 1), (2, 1, 1, 4)]),
+    ("a job that stopped before the stretch's end",
+     order([4], [(3, 4, 4), (1, 2, 4)]),
+     [[(1, 1, 0, 1), (2, 1, 1, 2)], [(1, 1, 2, 4)]],
+     [(1, 1, 0, 1), (2, 1, 1, 2), (1, 1, 2, 4)]),
+    ("a job that goes on at another processor",
+     order([8, 4], [(4, 4, 4), (2, 2, 0), (2, 4, 8)]),
+     [[(1, 1, 0, 2), (2, 2, 0, 2)], [(3, 1, 2, 4), (1, 2, 2, 4)]],
+     [(1, 1, 0, 2), (2, 2, 0, 2), (3, 1, 2, 4), (1, 2, 2, 4)]),
+    ("a job that comes back to its processor later",
+     order([8, 4], [(6, 6, 4), (2, 2, 0), (2, 6, 8)]),
+     [[(1, 1, 0, 2), (2, 2, 0, 2)], [(3, 1, 2, 4), (1, 1, 4, 6), (1, 2, 2, 4)]],
+     [(1, 1, 0, 2), (2, 2, 0, 2), (3, 1, 2, 4), (1, 1, 4, 6), (1, 2, 2, 4)]),
+    ("a joined row on each of two processors",
+     order([4, 8], [(4, 4, 8), (1, 2, 4), (3, 4, 4)]),
+     [[(1, 2, 0, 2), (2, 1, 0, 1), (3, 1, 1, 2)], [(1, 2, 2, 4), (3, 1, 2, 4)]],
+     [(1, 2, 0, 4), (2, 1, 0, 1), (3, 1, 1, 4)]),
+]
 
 NAMED = {"A": A, "B": B, "C": C, "D": D, "full": FULL}
 

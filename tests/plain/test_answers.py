@@ -33,6 +33,16 @@ class Answers(unittest.TestCase):
         for room in (32, 35):
             self.assertEqual(answers.plan(A, 1, room), ["meets"])
 
+    def test_room_of_joined_rows(self):
+        # Document 02, §2: "the buffer asked for stays q × (n + m - 1) rows", here
+        # 2 × 3; the joined rows are two.
+        order = known_orders.OVER_TWO
+        for room in (8, 12, 23):
+            self.assertEqual(answers.plan(order, 0, room), ["refused 9 0"])
+            self.assertEqual(answers.least_lateness(order, room), ["refused 9 0"])
+        self.assertEqual(answers.plan(order, 0, 24), ["meets"])
+        self.assertEqual(answers.least_lateness(order, 24), ["least 0"])
+
     def test_precedence(self):
         self.assertEqual(answers.plan(BAD, 10000001, 0), ["refused 7 1"])
         self.assertEqual(answers.plan(A, 10000001, 0), ["refused 8 0"])

@@ -1,5 +1,6 @@
 """McNaughton's wrap and the judge of written plans."""
 
+import itertools
 import os
 import pathlib
 import subprocess
@@ -8,6 +9,7 @@ import unittest
 
 import draw
 import flow
+import join
 import judge
 import known_orders
 import least
@@ -19,7 +21,7 @@ PROGRAM = pathlib.Path(__file__).resolve().parent / "judge"
 
 
 def written(order, bound):
-    return wrap.plan(order, bound, flow.amounts(order, bound))
+    return join.plan(order, bound, flow.amounts(order, bound))
 
 
 def run(order, text, *arguments):
@@ -85,8 +87,8 @@ class Judge(unittest.TestCase):
 
     def test_wrong_layout_of_right_plans(self):
         a = known_orders
-        self.names("not cut at the ends", [
-            (1, 1, 0, 3), (2, 2, 0, 3), (3, 1, 3, 5)])
+        self.names("is not the wrap's", [
+            (1, 1, 0, 3), (3, 1, 3, 5), (2, 2, 0, 3)])
         self.names("is not the wrap's", [
             (1, 1, 0, 3), (2, 2, 0, 3), (3, 1, 4, 5), (3, 2, 4, 5)][:2]
             + [(3, 2, 3, 4), (3, 1, 4, 5)])
@@ -98,8 +100,42 @@ class Judge(unittest.TestCase):
     def test_split_row(self):
         order = orders.order([4], [(3, 3, 4), (1, 9, 4)])
         self.names("None", [(1, 1, 0, 3), (2, 1, 3, 4)], order, 0)
-        self.names("is not the wrap's",
+        self.names("rows 1 and 2 are not joined",
                    [(1, 1, 0, 2), (1, 1, 2, 3), (2, 1, 3, 4)], order, 0)
+
+    def test_joined(self):
+        for _, order, _, rows in known_orders.JOINED:
+            self.names("None", rows, order, 0)
+
+    def test_not_joined(self):
+        for _, order, parts, rows in known_orders.JOINED:
+            laid = sum(parts, [])
+            if laid != rows:
+                self.names("are not joined", laid, order, 0)
+
+    def test_joined_once_of_two_times(self):
+        order = known_orders.OVER_THREE
+        self.names("rows 1 and 4 are not joined", [
+            (1, 1, 0, 4), (2, 2, 0, 2), (3, 2, 2, 4), (1, 1, 4, 6)], order, 0)
+        self.names("rows 1 and 3 are not joined", [
+            (1, 1, 0, 2), (2, 2, 0, 2), (1, 1, 2, 6), (3, 2, 2, 4)], order, 0)
+
+    def test_where_a_joined_row_stands(self):
+        # Every other order of the rows is wrong, that by `from` alone and that by
+        # the stretch in which a row ends too.
+        for _, order, _, rows in known_orders.JOINED:
+            for other in itertools.permutations(rows):
+                if list(other) != rows:
+                    self.names("stands in a wrong place", list(other), order, 0)
+
+    def test_rows_over_an_end_that_are_no_joined_rows(self):
+        # By the wrap job 2 is on processor 2 in the first stretch and on processor
+        # 1 in the second: a row of processor 2 over the end is right, but no layout.
+        order = orders.order([8, 4], [(2, 2, 8), (3, 4, 4)])
+        self.names("None", [(1, 1, 0, 2), (2, 2, 0, 1), (2, 1, 2, 4)], order, 0)
+        self.names("None", [(1, 1, 0, 2), (2, 2, 0, 2), (2, 1, 2, 3)], order, 0)
+        self.names("is not the wrap's", [(1, 1, 0, 2), (2, 2, 0, 3)], order, 0)
+        self.names("is not the wrap's", [(1, 1, 0, 2), (2, 2, 1, 4)], order, 0)
 
     def test_buffer(self):
         before = [7] * 22
@@ -147,6 +183,8 @@ class Program(unittest.TestCase):
         self.assertEqual(run(known_orders.C, text, "-7"), (0, "right\n"))
         text = "piece 1 1 0 3\nend 1\n"
         self.assertEqual(run(known_orders.C, text, "0"), (0, "right\n"))
+        text = "least 0\npiece 1 1 0 4\npiece 2 2 0 2\nend 2\n"
+        self.assertEqual(run(known_orders.OVER_TWO, text), (0, "right\n"))
         bad = orders.order([8], [known_orders.BAD_NEED])
         self.assertEqual(run(bad, "refused 7 1\n"), (0, "right\n"))
 
@@ -156,6 +194,8 @@ class Program(unittest.TestCase):
                  "the least lateness is -7, not -6\n"),
                 (known_orders.C, "piece 1 1 0 3\nend 2\n", ("0",),
                  "the count is 2, but 1 rows are written\n"),
+                (known_orders.OVER_TWO, "least 0\npiece 1 1 0 2\npiece 2 2 0 2\n"
+                 "piece 1 1 2 4\nend 3\n", (), "rows 1 and 3 are not joined\n"),
                 (known_orders.C, "refused 9 0\n", (),
                  "'refused 9 0', but the order is accepted\n"),
                 (known_orders.C, "piece 1 1 0 3\n", ("0",), ""),

@@ -46,11 +46,16 @@ def layout(order, begin, end, given):
     return rows
 
 
-def plan(order, bound, amounts):
-    """The rows of all stretches; `amounts` as the flow gives them."""
+def by_stretch(order, bound, amounts):
+    """The rows of each stretch; `amounts` as the flow gives them."""
     rows = []
     for stretch, (begin, end) in enumerate(stretches(order, bound)):
         given = {job + 1: amount for (job, at), amount in amounts.items()
                  if at == stretch}
-        rows += layout(order, begin, end, given)
+        rows.append(layout(order, begin, end, given))
     return rows
+
+
+def plan(order, bound, amounts):
+    """The rows of all stretches, each of them cut at the ends."""
+    return [row for rows in by_stretch(order, bound, amounts) for row in rows]
