@@ -1,17 +1,46 @@
 //! McNaughton's wrap: the rows of a plan from amounts. Processors by falling memory, jobs by
 //! falling need, ties in input order; a processor is filled to the stretch's end, then the next one
-//! from its beginning.
+//! from its beginning. Where a job ends a stretch on a processor and opens the next stretch on that
+//! processor, it has one row.
 
 use super::amounts::Amounts;
-use super::order::Order;
+use super::order::{Order, MOST_PROCESSORS};
 use super::setting::Setting;
 
-/// Where the next share goes on: the place in the processor order, the minute, the rows written so
-/// far.
+/// Where the next share goes on: the place in the processor order, the minute.
 struct Place {
     processor: usize,
     minute: u32,
-    written: usize,
+}
+
+/// The rows written so far, and of each processor the number of its last row, from 1; 0 for none.
+struct Written<'a> {
+    rows: &'a mut [u32],
+    count: usize,
+    last: [usize; MOST_PROCESSORS],
+}
+
+impl Written<'_> {
+    /// A piece that begins where the last row of its processor ends lengthens that row if it has the
+    /// same job; any other is a row behind all rows.
+    fn put(&mut self, j: usize, processor: usize, from: u32, to: u32) {
+        let job = j as u32 + 1;
+        let last = self.last[processor];
+        if 0 < last {
+            let row = &mut self.rows[4 * (last - 1)..][..4];
+            if row[3] == from && row[0] == job {
+                row[3] = to;
+                return;
+            }
+        }
+        let row = &mut self.rows[4 * self.count..][..4];
+        row[0] = job;
+        row[1] = processor as u32 + 1;
+        row[2] = from;
+        row[3] = to;
+        self.count += 1;
+        self.last[processor] = self.count;
+    }
 }
 
 /// The rows of all stretches, from row 0 on; answers how many there are.
@@ -23,34 +52,29 @@ pub fn lay(
     rows: &mut [u32],
 ) -> usize {
     let processors = &setting.by_memory[..order.processor_count];
-    let mut written = 0;
+    let mut written = Written {
+        rows,
+        count: 0,
+        last: [0; MOST_PROCESSORS],
+    };
     let mut start = 0;
     for (s, &end) in ends.iter().enumerate() {
         let mut place = Place {
             processor: 0,
             minute: start,
-            written,
         };
         for &j in &setting.by_need[..order.job_count] {
-            lay_share(
-                rows,
-                processors,
-                start,
-                end,
-                &mut place,
-                j,
-                amounts.of(j, s),
-            );
+            let minutes = amounts.of(j, s);
+            lay_share(&mut written, processors, start, end, &mut place, j, minutes);
         }
-        written = place.written;
         start = end;
     }
-    written
+    written.count
 }
 
 /// The minutes of job j in a stretch, from a place on.
 fn lay_share(
-    rows: &mut [u32],
+    written: &mut Written,
     processors: &[usize],
     start: u32,
     end: u32,
@@ -62,12 +86,7 @@ fn lay_share(
     while 0 < left && place.processor < processors.len() {
         let length = left.min(end - place.minute);
         let to = place.minute + length;
-        let row = &mut rows[4 * place.written..][..4];
-        row[0] = j as u32 + 1;
-        row[1] = processors[place.processor] as u32 + 1;
-        row[2] = place.minute;
-        row[3] = to;
-        place.written += 1;
+        written.put(j, processors[place.processor], place.minute, to);
         place.minute = to;
         left -= length;
         if to == end {

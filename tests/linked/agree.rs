@@ -1,7 +1,9 @@
 //! Holds the independent implementation against itself before anything else is held against it: the
 //! flow against the staircases, the table of completions against trying each, tiny orders against a
-//! search minute by minute, its plans against the four rules, its files against their reader, its
-//! two readers of lines against each other.
+//! search minute by minute, its plans against the four rules, its joined rows against its rows as
+//! laid out, its files against their reader, its two readers of lines against each other.
+
+mod joins;
 
 use crate::draw::lines::changed;
 use crate::draw::orders::{tiny, LARGE_FAMILIES, SMALL_FAMILIES};
@@ -49,6 +51,9 @@ fn agrees(order: &Order) -> Result<(), String> {
     hold(order, "late one below", late)?;
     for away in [-100, -2, -1, 0, 1, 100] {
         bounded(order, least + away, away >= 0)?;
+    }
+    for away in [0, 1, 100] {
+        joins::agree(order, i64::from(least + away))?;
     }
     Ok(())
 }

@@ -1,10 +1,10 @@
 //! Compares what a call did with what it had to do, over whole buffers. Which amounts a job gets in
 //! which stretch is free; "Of them it holds that the rows written are their layout and a right
-//! plan."
+//! plan", where a job that goes on over the end of a stretch on its processor has one row.
 
 use crate::expect::Expected;
-use crate::independent::{layout, right, rows_asked, stretches, Order};
-use crate::lent::Call;
+use crate::independent::{clipped, joined, left_to_join, right, rows_asked, Order};
+use crate::lent::{rows_of, Call};
 
 /// What is wrong with a call's result and with what it left in its buffers, or none.
 pub fn wrong(
@@ -63,29 +63,20 @@ fn planned<'a>(
     }
 }
 
-/// What is wrong with rows as a plan of the planner at this bound.
-fn wrong_rows(order: &Order, bound: i64, rows: &[u32]) -> Option<String> {
-    if !right(order, bound, rows) {
+/// What is wrong with rows as a plan of the planner at this bound: clipped to the stretches they
+/// give amounts, and they must be the layout of these, joined.
+fn wrong_rows(order: &Order, bound: i64, numbers: &[u32]) -> Option<String> {
+    if !right(order, bound, numbers) {
         return Some(format!("no right plan at {bound}"));
     }
-    let Some(amounts) = amounts(order, bound, rows) else {
-        return Some(format!("a row goes beyond its stretch at {bound}"));
-    };
-    let laid_out = layout(order, bound, &amounts).concat();
-    (laid_out != rows).then(|| format!("not the layout of its amounts at {bound}: {laid_out:?}"))
-}
-
-/// The amounts that rows give, by stretch and then by job; none if a row lies in no one stretch.
-fn amounts(order: &Order, bound: i64, rows: &[u32]) -> Option<Vec<Vec<i64>>> {
-    let stretches = stretches(order, bound);
-    let mut amounts = vec![vec![0; order.jobs.len()]; stretches.len()];
-    for row in rows.chunks_exact(4) {
-        let (from, to) = (i64::from(row[2]), i64::from(row[3]));
-        let holds = |stretch: &(i64, i64)| stretch.0 <= from && to <= stretch.1;
-        let stretch = stretches.iter().position(holds)?;
-        amounts[stretch][row[0] as usize - 1] += to - from;
+    let rows = rows_of(numbers);
+    if let Some((place, next)) = left_to_join(&rows) {
+        let (row, next) = (rows[place], rows[next]);
+        return Some(format!("row {next:?} continues row {row:?}"));
     }
-    Some(amounts)
+    let should = joined(order, bound, &clipped(order, bound, &rows));
+    let told = || format!("not the joined layout of its amounts at {bound}: {should:?}");
+    (should != rows).then(told)
 }
 
 /// The first place at which a buffer, guards included, is not as it should be.

@@ -1,6 +1,7 @@
 //! Document 01's "Orders to try", the small examples of its refusal table and its order file of C,
-//! with the values that stand there; the lines of document 02 in `fixed/`.
+//! with the values that stand there; the lines and the joined rows of document 02 in `fixed/`.
 
+mod joins;
 mod lines;
 mod others;
 
@@ -52,6 +53,7 @@ pub fn run(trial: &mut Trial) {
     trial.begin("document 02", 0);
     lines::run(trial);
     others::run(trial);
+    joins::run(trial);
 }
 
 /// A call on the order's file, all of whose buffers are long enough.

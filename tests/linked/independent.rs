@@ -1,7 +1,7 @@
 //! Documents 01 and 02 in plain Rust, made apart from the proved code and from their text alone:
-//! orders, order files, right plans, the least lateness, reasons and their lines. Whether a bound
-//! is met is decided by a maximum flow, never by the staircase sums, so that each of the two can be
-//! held against the other.
+//! orders, order files, right plans and their joining, the least lateness, reasons and their lines.
+//! Whether a bound is met is decided by a maximum flow, never by the staircase sums, so that each of
+//! the two can be held against the other.
 
 // a program that takes this module in may use only a part of it
 #![allow(dead_code, unused_imports)]
@@ -12,10 +12,16 @@ mod accept;
 mod amounts;
 #[path = "independent/classes.rs"]
 mod classes;
+#[path = "independent/clip.rs"]
+mod clip;
 #[path = "independent/flow.rs"]
 mod flow;
+#[path = "independent/join.rs"]
+mod join;
 #[path = "independent/order_file.rs"]
 mod order_file;
+#[path = "independent/pairs.rs"]
+mod pairs;
 #[path = "independent/reading.rs"]
 mod reading;
 #[path = "independent/reasons.rs"]
@@ -28,8 +34,11 @@ mod sentence;
 mod wrap;
 
 pub use accept::judge;
-pub use amounts::{least, least_between, meets, plan};
+pub use amounts::{amounts, least, least_between, meets, plan};
+pub use clip::{clipped, joins};
+pub use join::{join, joined};
 pub use order_file::{read, write};
+pub use pairs::{join_pairs, left_to_join};
 pub use reading::{read_back, read_by_form, read_by_trying, taken_apart, true_of, Said, Sentence};
 pub use reasons::{overfull, reason, reason_by_table, reason_by_trying, staircases};
 pub use rules::right;

@@ -2,7 +2,7 @@
 //! included, are kept and compared after the call: "the lent buffer beyond them is unchanged".
 
 use crate::draw::Random;
-use crate::independent::Job;
+use crate::independent::{Job, Row};
 
 const GUARD: usize = 16;
 
@@ -161,6 +161,12 @@ impl Call {
 pub fn job_numbers(jobs: &[Job]) -> Vec<u32> {
     let three = |job: &Job| [job.time, job.due as u32, job.need];
     jobs.iter().flat_map(three).collect()
+}
+
+/// Rows as they are lent, four numbers to a row; numbers left over are none.
+pub fn rows_of(numbers: &[u32]) -> Vec<Row> {
+    let row = |four: &[u32]| [four[0], four[1], four[2], four[3]];
+    numbers.chunks_exact(4).map(row).collect()
 }
 
 fn byte(drawn: u64) -> u8 {

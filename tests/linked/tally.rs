@@ -1,5 +1,5 @@
 //! Counts the calls by function and by what they had to do, so that a reader sees that every
-//! refusal and every kind of answer was met.
+//! refusal and every kind of answer was met; and the joins of the plans that were written.
 
 use crate::expect::Expected;
 use crate::library::{Function, FUNCTIONS};
@@ -19,6 +19,14 @@ fn kinds(function: Function) -> &'static [&'static str] {
 pub struct Tally {
     pub calls: u64,
     counts: BTreeMap<(&'static str, String), u64>,
+    joined: BTreeMap<&'static str, Joined>,
+}
+
+/// How many plans had a join, and how many joins there were in all.
+#[derive(Clone, Copy, Default)]
+struct Joined {
+    plans: u64,
+    joins: u64,
 }
 
 impl Tally {
@@ -31,6 +39,18 @@ impl Tally {
             _ => "answered".to_string(),
         };
         *self.counts.entry((function.name(), outcome)).or_insert(0) += 1;
+    }
+
+    /// Counts a plan that was written with so many joins.
+    pub fn count_joins(&mut self, function: Function, joins: usize) {
+        let joined = self.joined.entry(function.name()).or_default();
+        joined.plans += u64::from(joins > 0);
+        joined.joins += joins as u64;
+    }
+
+    fn joined(&self, function: Function) -> Joined {
+        let joined = self.joined.get(function.name());
+        joined.copied().unwrap_or_default()
     }
 
     fn times(&self, function: Function, outcome: &str) -> u64 {
@@ -53,7 +73,11 @@ impl Tally {
             format!("{number}: {times}")
         });
         let refused: Vec<String> = refused.collect();
-        let answered: Vec<String> = answered.collect();
+        let mut answered: Vec<String> = answered.collect();
+        if function.plans() {
+            let Joined { plans, joins } = self.joined(function);
+            answered.push(format!("{plans} of these with {joins} joins"));
+        }
         let (answered, refused) = (answered.join(", "), refused.join(", "));
         let all: u64 = self.of(function);
         format!(
@@ -80,6 +104,9 @@ impl Tally {
                 .chain(kinds)
                 .filter(|what| self.times(function, what) == 0);
             never.extend(unmet.map(|what| format!("{}: {what}", function.name())));
+            if function.plans() && self.joined(function).plans == 0 {
+                never.push(format!("{}: a join", function.name()));
+            }
         }
         never
     }

@@ -3,8 +3,9 @@
 
 use crate::compare::wrong;
 use crate::draw::Random;
-use crate::expect::{expected, Known};
-use crate::lent::Call;
+use crate::expect::{expected, Expected, Known};
+use crate::independent::joins;
+use crate::lent::{rows_of, Call};
 use crate::library::{Function, Library};
 use crate::tally::Tally;
 use std::fmt::Debug;
@@ -70,7 +71,18 @@ impl Trial {
             self.difference = Some(lines.join("\n"));
             return None;
         }
+        self.count_joins(function, &expected, &after);
         Some((result, after))
+    }
+
+    /// Counts the joins of a plan that was written.
+    fn count_joins(&mut self, function: Function, expected: &Expected, after: &Call) {
+        if let Expected::Plan { bound, lateness } = *expected {
+            let count = after.answer.content()[usize::from(lateness.is_some())] as usize;
+            let rows = rows_of(&after.rows.content()[..4 * count]);
+            let joins = joins(self.known.order(), bound.into(), &rows);
+            self.tally.count_joins(function, joins);
+        }
     }
 
     /// Notes a difference from a value that the documents themselves give.

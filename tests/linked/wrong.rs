@@ -4,7 +4,9 @@
 mod buffers;
 mod checks;
 mod files;
+mod joins;
 mod lines;
+mod meeting;
 mod plans;
 mod readings;
 mod reasons;
@@ -14,8 +16,8 @@ mod words;
 
 use crate::expect::Known;
 use crate::fixed;
-use crate::independent::{read, Job, Order};
-use crate::lent::Call;
+use crate::independent::{read, Job, Order, Row};
+use crate::lent::{rows_of, Call};
 use crate::library::{Entry, Function, Library};
 use crate::model::MODEL;
 use crate::rounds::{self, Rounds};
@@ -46,6 +48,7 @@ pub fn run() -> Result<String, String> {
         refusals::WRONG,
         files::WRONG,
         plans::WRONG,
+        joins::WRONG,
         reasons::WRONG,
         sentences::WRONG,
         words::WRONG,
@@ -93,6 +96,45 @@ fn refused(entry: Entry, call: &mut Call, change: impl FnOnce(&mut Call)) -> u32
         change(call);
     }
     result
+}
+
+/// A plan that was written: its order, its bound, its rows.
+struct Plan {
+    order: Order,
+    bound: i32,
+    rows: Vec<Row>,
+}
+
+/// The plan that an answered call of the planner wrote.
+fn plan_of(function: Function, call: &Call) -> Plan {
+    let count = call.answer.content()[count_at(function)] as usize;
+    Plan {
+        order: accepted(call).expect("the call was answered"),
+        bound: match function {
+            Function::Least => call.answer.content()[0],
+            _ => call.bound,
+        },
+        rows: rows_of(&call.rows.content()[..4 * count]),
+    }
+}
+
+/// Where the answer of a planner has the row count.
+fn count_at(function: Function) -> usize {
+    usize::from(function == Function::Least)
+}
+
+/// The unbroken call of a planner, but with other rows where it succeeded and there is room for
+/// them. The buffer beyond them is as it was.
+fn replanned(function: Function, call: &mut Call, make: impl FnOnce(&Plan) -> Vec<Row>) -> u32 {
+    let before = call.rows.clone();
+    answered(MODEL.entry(function), call, |call| {
+        let rows = make(&plan_of(function, call));
+        if 4 * rows.len() <= call.rows.len() {
+            call.rows = before;
+            call.rows.put(&rows.concat());
+            call.answer.content_mut()[count_at(function)] = rows.len() as i32;
+        }
+    })
 }
 
 /// The order of a call's file, where it is accepted.

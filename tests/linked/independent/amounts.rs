@@ -6,7 +6,8 @@
 
 use super::classes::Classes;
 use super::flow::Network;
-use super::wrap::{layout, stretches};
+use super::join::joined;
+use super::wrap::stretches;
 use super::{Order, Row};
 
 const SOURCE: usize = 0;
@@ -18,10 +19,10 @@ pub fn meets(order: &Order, bound: i64) -> bool {
     amounts(order, bound).is_some()
 }
 
-/// A right plan at a bound, laid out by the wrap.
+/// A right plan at a bound, laid out by the wrap and joined.
 pub fn plan(order: &Order, bound: i32) -> Option<Vec<Row>> {
     let amounts = amounts(order, bound.into())?;
-    Some(layout(order, bound.into(), &amounts))
+    Some(joined(order, bound.into(), &amounts))
 }
 
 /// The least lateness: the smallest whole number that is met.
@@ -52,7 +53,7 @@ pub fn least_between(order: &Order) -> (i64, i64) {
 }
 
 /// Amounts by stretch, then by job, that give each job its whole time; or none if there are none.
-fn amounts(order: &Order, bound: i64) -> Option<Vec<Vec<i64>>> {
+pub fn amounts(order: &Order, bound: i64) -> Option<Vec<Vec<i64>>> {
     let stretches = stretches(order, bound);
     let classes = Classes::of(order);
     let class_node = |stretch: usize, class: usize| {

@@ -23,29 +23,35 @@ pub fn stretches(order: &Order, bound: i64) -> Vec<(i64, i64)> {
     stretches
 }
 
-/// The rows of amounts, given by stretch and then by job: "processors by falling memory, jobs with
-/// an amount by falling need, ties in input order; fill a processor to the stretch's end, then go
-/// on at the next one's beginning".
-pub fn layout(order: &Order, bound: i64, amounts: &[Vec<i64>]) -> Vec<Row> {
+/// The rows of amounts, given by stretch and then by job, stretch by stretch.
+pub fn layout(order: &Order, bound: i64, amounts: &[Vec<i64>]) -> Vec<Vec<Row>> {
+    let stretches = stretches(order, bound);
+    let both = stretches.into_iter().zip(amounts);
+    both.map(|(stretch, amounts)| wrap(order, stretch, amounts))
+        .collect()
+}
+
+/// The rows of one stretch: "processors by falling memory, jobs with an amount by falling need,
+/// ties in input order; fill a processor to the stretch's end, then go on at the next one's
+/// beginning".
+fn wrap(order: &Order, (begin, end): (i64, i64), amounts: &[i64]) -> Vec<Row> {
     let mut processors: Vec<usize> = (0..order.memories.len()).collect();
     processors.sort_by_key(|&processor| Reverse(order.memories[processor]));
     let mut jobs: Vec<usize> = (0..order.jobs.len()).collect();
     jobs.sort_by_key(|&job| Reverse(order.jobs[job].need));
+    let length = end - begin;
     let mut rows = Vec::new();
-    for ((begin, end), amounts) in stretches(order, bound).into_iter().zip(amounts) {
-        let length = end - begin;
-        let mut laid_out = 0;
-        for &job in &jobs {
-            let mut left = amounts[job];
-            while left > 0 {
-                let processor = processors[(laid_out / length) as usize];
-                let from = laid_out % length;
-                let piece = left.min(length - from);
-                let (from, to) = (begin + from, begin + from + piece);
-                rows.push([job as u32 + 1, processor as u32 + 1, from as u32, to as u32]);
-                laid_out += piece;
-                left -= piece;
-            }
+    let mut laid_out = 0;
+    for job in jobs {
+        let mut left = amounts[job];
+        while left > 0 {
+            let processor = processors[(laid_out / length) as usize];
+            let from = laid_out % length;
+            let piece = left.min(length - from);
+            let (from, to) = (begin + from, begin + from + piece);
+            rows.push([job as u32 + 1, processor as u32 + 1, from as u32, to as u32]);
+            laid_out += piece;
+            left -= piece;
         }
     }
     rows

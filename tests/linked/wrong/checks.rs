@@ -1,8 +1,8 @@
 //! Wrong in the plan check: one of the four rules left out or too strict, rows miscounted.
 
 use super::{accepted, answered, Wrong};
-use crate::independent::{right, Job, Order, Row};
-use crate::lent::Call;
+use crate::independent::{joins, left_to_join, right, Job, Order, Row};
+use crate::lent::{rows_of, Call};
 use crate::library::Function;
 use crate::model::MODEL;
 
@@ -50,7 +50,21 @@ pub const WRONG: &[Wrong] = &[
     ),
     (Function::Check, "takes touching for overlap", |call| {
         judged(call, |order, bound, rows| {
-            right(order, bound, rows) && !touching(&list(rows))
+            right(order, bound, rows) && !touching(&rows_of(rows))
+        })
+    }),
+    (
+        Function::Check,
+        "takes no row that reaches over the end of a stretch",
+        |call| {
+            judged(call, |order, bound, rows| {
+                right(order, bound, rows) && joins(order, bound, &rows_of(rows)) == 0
+            })
+        },
+    ),
+    (Function::Check, "takes no rows left to join", |call| {
+        judged(call, |order, bound, rows| {
+            right(order, bound, rows) && left_to_join(&rows_of(rows)).is_none()
         })
     }),
     (Function::Check, "ignores empty rows", |call| {
@@ -111,12 +125,6 @@ fn no(call: &mut Call) -> u32 {
     0
 }
 
-fn list(rows: &[u32]) -> Vec<Row> {
-    rows.chunks_exact(4)
-        .map(|four| [four[0], four[1], four[2], four[3]])
-        .collect()
-}
-
 /// The order with its jobs changed; they are numbered from 1.
 fn with_jobs(order: &Order, change: impl Fn(u32, &mut Job)) -> Order {
     let mut order = order.clone();
@@ -128,13 +136,13 @@ fn with_jobs(order: &Order, change: impl Fn(u32, &mut Job)) -> Order {
 
 /// The minutes that rows give a job.
 fn minutes(number: u32, rows: &[u32]) -> u32 {
-    let own = list(rows).into_iter().filter(|row| row[0] == number);
+    let own = rows_of(rows).into_iter().filter(|row| row[0] == number);
     own.fold(0, |sum, row| sum.wrapping_add(row[3].wrapping_sub(row[2])))
 }
 
 /// The four rules with a processor of the same memory for each row: rows of one never overlap.
 fn processors_overlap(order: &Order, bound: i64, rows: &[u32]) -> bool {
-    let mut named = list(rows);
+    let mut named = rows_of(rows);
     let mut order = order.clone();
     let memories = order.memories.clone();
     let memory = |row: &Row| memories.get((row[1] as usize).wrapping_sub(1)).copied();
@@ -150,7 +158,7 @@ fn processors_overlap(order: &Order, bound: i64, rows: &[u32]) -> bool {
 
 /// The four rules with a job for each row, as long as the row, and the sums apart.
 fn jobs_overlap(order: &Order, bound: i64, rows: &[u32]) -> bool {
-    let mut named = list(rows);
+    let mut named = rows_of(rows);
     let job = |row: &Row| {
         let mut job = *order.jobs.get((row[0] as usize).wrapping_sub(1))?;
         job.time = row[3].wrapping_sub(row[2]);

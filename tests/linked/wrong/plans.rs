@@ -1,7 +1,7 @@
 //! Wrong in the least lateness and in plans: the wrap, the order of the rows, their count, and
 //! where a bound is too tight.
 
-use super::{accepted, answered, class_memory, least, Wrong};
+use super::{accepted, answered, class_memory, least, replanned, Wrong};
 use crate::independent::{plan, rows_asked, Order, Row};
 use crate::lent::Call;
 use crate::library::Function;
@@ -15,11 +15,13 @@ pub const WRONG: &[Wrong] = &[
         answered(MODEL.least, call, |call| call.answer.content_mut()[0] -= 1)
     }),
     (Function::Least, "and its plan are one too late", |call| {
-        answered(MODEL.least, call, |call| {
-            let later = least(call) + 1;
-            replace(call, 1, |order| plan(order, later));
-            call.answer.content_mut()[0] = later;
-        })
+        let result = replanned(Function::Least, call, |made| {
+            met(&made.order, made.bound + 1)
+        });
+        if result == 0 {
+            call.answer.content_mut()[0] += 1;
+        }
+        result
     }),
     (Function::Least, "counts a row too many", |call| {
         answered(MODEL.least, call, |call| call.answer.content_mut()[1] += 1)
@@ -31,42 +33,30 @@ pub const WRONG: &[Wrong] = &[
         answered(MODEL.plan, call, |call| call.answer.content_mut()[0] = 0)
     }),
     (Function::Plan, "writes its rows backwards", |call| {
-        answered(MODEL.plan, call, |call| {
-            changed(call, |rows| rows.reverse())
-        })
+        changed(call, |rows| rows.reverse())
     }),
     (Function::Plan, "sorts its rows by `from`", |call| {
-        answered(MODEL.plan, call, |call| {
-            changed(call, |rows| rows.sort_by_key(|row| row[2]))
-        })
+        changed(call, |rows| rows.sort_by_key(|row| row[2]))
     }),
-    (
-        Function::Plan,
-        "joins rows of neighbouring stretches",
-        |call| answered(MODEL.plan, call, |call| changed(call, join)),
-    ),
     (Function::Plan, "cuts a row in two", |call| {
-        answered(MODEL.plan, call, |call| changed(call, cut))
+        changed(call, cut)
     }),
     (Function::Plan, "wraps by class, not by need", |call| {
-        answered(MODEL.plan, call, |call| {
-            let bound = call.bound;
-            replace(call, 0, |order| plan(&needs_of_classes(order), bound));
+        replanned(Function::Plan, call, |made| {
+            met(&needs_of_classes(&made.order), made.bound)
         })
     }),
     (Function::Plan, "wraps equal needs from the last", |call| {
-        answered(MODEL.plan, call, |call| {
-            let bound = call.bound;
-            replace(call, 0, |order| turned(order, bound, JOB));
+        replanned(Function::Plan, call, |made| {
+            turned(&made.order, made.bound, JOB)
         })
     }),
     (
         Function::Plan,
         "wraps equal memories from the last",
         |call| {
-            answered(MODEL.plan, call, |call| {
-                let bound = call.bound;
-                replace(call, 0, |order| turned(order, bound, PROCESSOR));
+            replanned(Function::Plan, call, |made| {
+                turned(&made.order, made.bound, PROCESSOR)
             })
         },
     ),
@@ -125,37 +115,18 @@ pub const WRONG: &[Wrong] = &[
 const JOB: usize = 0;
 const PROCESSOR: usize = 1;
 
-/// Puts other rows in place of those of a plan; the answer has their count at this place.
-fn replace(call: &mut Call, count_at: usize, make: impl Fn(&Order) -> Option<Vec<Row>>) {
-    let rows = accepted(call)
-        .and_then(|order| make(&order))
-        .expect("the bound is met");
-    call.rows.put(&rows.concat());
-    call.answer.content_mut()[count_at] = rows.len() as i32;
+/// The independent plan at a bound that is met.
+fn met(order: &Order, bound: i32) -> Vec<Row> {
+    plan(order, bound).expect("the bound is met")
 }
 
-/// Changes the rows of a plan, where there is room for them.
-fn changed(call: &mut Call, change: fn(&mut Vec<Row>)) {
-    let written = 4 * call.answer.content()[0] as usize;
-    let numbers = call.rows.content()[..written].chunks_exact(4);
-    let mut rows: Vec<Row> = numbers
-        .map(|four| [four[0], four[1], four[2], four[3]])
-        .collect();
-    change(&mut rows);
-    if 4 * rows.len() <= call.rows.len() {
-        call.rows.put(&rows.concat());
-        call.answer.content_mut()[0] = rows.len() as i32;
-    }
-}
-
-fn join(rows: &mut Vec<Row>) {
-    rows.dedup_by(|next, row| {
-        let touching = next[0] == row[0] && next[1] == row[1] && next[2] == row[3];
-        if touching {
-            row[3] = next[3];
-        }
-        touching
-    });
+/// The planner with its rows changed.
+fn changed(call: &mut Call, change: fn(&mut Vec<Row>)) -> u32 {
+    replanned(Function::Plan, call, |made| {
+        let mut rows = made.rows.clone();
+        change(&mut rows);
+        rows
+    })
 }
 
 fn cut(rows: &mut Vec<Row>) {
@@ -168,7 +139,7 @@ fn cut(rows: &mut Vec<Row>) {
 }
 
 /// The plan of the order with its jobs or its processors listed backwards, named as before.
-fn turned(order: &Order, bound: i32, what: usize) -> Option<Vec<Row>> {
+fn turned(order: &Order, bound: i32, what: usize) -> Vec<Row> {
     let mut order = order.clone();
     let count = match what {
         JOB => {
@@ -180,10 +151,10 @@ fn turned(order: &Order, bound: i32, what: usize) -> Option<Vec<Row>> {
             order.memories.len()
         }
     };
-    let mut rows = plan(&order, bound)?;
+    let mut rows = met(&order, bound);
     rows.iter_mut()
         .for_each(|row| row[what] = count as u32 + 1 - row[what]);
-    Some(rows)
+    rows
 }
 
 /// The order, each job with the memory of its class for its need.
