@@ -19,7 +19,7 @@ use Rattle.plan.specs.JoinAgain.{Rises}
 use Rattle.wrap.specs.Flows.{amountIn}
 use Rattle.wrap.specs.Frame.{Frame, Rising, lies, inTurn}
 use Rattle.table.specs.declared.Table.{Table}
-use Rattle.layout.specs.Sheet.{Sheet, Good, sheet, addedAll}
+use Rattle.layout.specs.Sheet.{Sheet, Good, sheet}
 use Rattle.layout.specs.Planned.{openAt, lentFrame, rowsIn, laidOut, planned, Joinable}
 use Rattle.layout.specs.Laid.{Laid, Numbered, Numbering, rowsBetween}
 use Rattle.layout.proofs.Writing.{laid-none, laid-then, laid-room, laid-all, laid-frame}
@@ -132,8 +132,8 @@ module _ {t : Table} {marks : List ℕ} {q : ℕ} {opens closes w lent : List �
   rows = rowsIn (take (t .m) (t .«by_memory»)) (take (t .n) (t .«by_need»)) f (amountIn q w)
 
   -- the next stretch, from the last mark to the next one, on the processors that are open in it
-  module _ {table : List ℕ} {start s written : ℕ} {c : Sheet} (p : Framing rows f (sheet 0 table lent) start s written c) (l : s < q) (count : ℕ)
-      (list : List ℕ) (kept : (count ≤ t .m)
+  module _ {table : List ℕ} {start s written : ℕ} {c : Sheet} (p : Framing rows f (sheet 0 table lent) start s written c) (l : s < q)
+      (count : ℕ) (list : List ℕ) (kept : (count ≤ t .m)
       × (take count list ≡ keep (openAt opens closes start (getD marks s 0)) (take (t .m) (t .«by_memory»)))) where
     abbrev end : ℕ
     end = getD marks s 0

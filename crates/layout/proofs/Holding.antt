@@ -1,18 +1,18 @@
 -- The rows that stand in a buffer after one row more are the joined ones: where the rows of each processor rise, the only row that can
 -- go on as the next one is the last of its processor.
 use Prim.Native.Nat.{ℕ, zero, suc, _+_, _-_, _*_, _≤_, _<_}
-use mathlib.Core.Path.{_≡_, refl, sym, ap, _∙_, subst}
+use mathlib.Core.Path.{_≡_, refl, sym, ap, _∙_}
 use mathlib.Core.Bool.{Bool, true, false, cond, _&&_}
 use mathlib.Core.List.{List, [], _∷_, _++_, append-assoc}
 use mathlib.Core.Logic.{_⊎_, _≢_, inl, inr}
 use native.Mathlib.Omega.{arith}
 use native.Mathlib.Decide.{ℕ-discrete, decLt}
 use borrow.Author.Tests.{eq-eqb, ne-eqb, lt-ltb, le-ltb}
-use lib.Dec.{ltb, eqb}
+use lib.Dec.{eqb}
 use lib.ListN.{length, getD, take, drop, set, replicate, length-append, length-drop}
 use lib.Seq.{take-at, drop-append-add, drop-drop, set-append-left}
-use Rattle.sums.specs.Lists.{All, In, Pairwise, tabulate, only}
-use Rattle.sums.specs.Members.{All-map, All-both, All-in, in-All}
+use Rattle.sums.specs.Lists.{All, In, Pairwise, only}
+use Rattle.sums.specs.Members.{All-map, All-in, in-All}
 use Rattle.sums.specs.Places.{getD-tabulate, tabulate-cong, set-tabulate, replicate-tabulate}
 use Rattle.order.specs.Order.{Numbers}
 use Rattle.plan.specs.Plan.{Row}

@@ -8,7 +8,7 @@ use mathlib.Core.Logic.{inl, inr}
 use native.Mathlib.Omega.{arith}
 use native.Mathlib.Decide.{ℕ-discrete}
 use borrow.Author.Tests.{eq-eqb}
-use lib.ListN.{length, getD}
+use lib.ListN.{length}
 use Rattle.sums.specs.Lists.{All}
 use Rattle.sums.specs.Members.{All-map, All-both}
 use Rattle.order.specs.RefusalLaws.{true-or-false}
@@ -18,7 +18,7 @@ use Rattle.plan.specs.JoinLaws.{join-case, all-rows, Forward, Standing, standin
 use Rattle.plan.specs.JoinAgain.{Rises, rises-kept}
 use Rattle.wrap.specs.Ending.{endsAt, endsWith, jobWhere}
 use Rattle.wrap.specs.EndingLaws.{where-none, ends-at-true}
-use Rattle.layout.specs.Sheet.{Sheet, Holds, addedAll}
+use Rattle.layout.specs.Sheet.{Sheet, addedAll}
 use Rattle.layout.specs.Laid.{EndsTold}
 use Rattle.layout.proofs.Holding.{Named, not-ending, held-length, holds-tell, all-hold}
 

@@ -1,7 +1,6 @@
 -- Rows as numbers, four to a row, and rows written one after the other: none, one, and some after others.
 use Prim.Native.Nat.{ℕ, suc, _+_, _-_, _*_, _≤_}
 use mathlib.Core.Path.{_≡_, refl, sym, ap, _∙_}
-use mathlib.Core.Bool.{Bool, true, false}
 use mathlib.Core.List.{List, [], _∷_, _++_, append-assoc, append-nil}
 use mathlib.Core.Logic.{_⊎_, _≢_, inl, inr}
 use native.Mathlib.Omega.{arith}
@@ -77,7 +76,8 @@ added-case s x =
 module _ (s : Sheet) (x : Row) (g : Good s) (room : 4 * s .count + 4 ≤ length (s .buffer)) where
   behind-length : length (behindAll s x .buffer) ≡ length (s .buffer)
   behind-length =
-      rw (length-append, length-take-le (4 * s .count) (s .buffer) (omega arith)) (omega (arith, length-drop (4 * s .count + 4) (s .buffer)))
+      rw (length-append, length-take-le (4 * s .count) (s .buffer) (omega arith))
+      (omega (arith, length-drop (4 * s .count + 4) (s .buffer)))
 
   behind-stands : (i : ℕ) → getD (behindAll s x .last) i 0 ≤ s .count + 1
   behind-stands i =

@@ -96,7 +96,10 @@ module _ {o : Order} {t : Table} {bound : ℤ} {lent : ℕ} (m : MadeOf o t boun
         rw (plan-is w)
         (record {
           named = All-map _ _ (layout o bound b)
-              (λ (x : Row) h. (h .a-job .0, (h .a-processor .0, omega (arith, h .a-processor .1, m .tabled .processors, m .tabled .few-processors))))
+              (λ (x : Row) h. (
+                h .a-job .0,
+                (h .a-processor .0, omega (arith, h .a-processor .1, m .tabled .processors, m .tabled .few-processors)),
+              ))
               (layout-right o bound b F .well-formed);
           forward = rows-forward o bound b F;
           rises = rows-rise o bound b;

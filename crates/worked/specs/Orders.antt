@@ -35,8 +35,8 @@ twoOverfull =
     order (8 ∷ 4 ∷ [])
     (job 2 (pos 4) 8 ∷ job 2 (pos 4) 8 ∷ job 2 (pos 2) 4 ∷ job 2 (pos 2) 4 ∷ job 1 (pos 4) 4 ∷ [])
 
--- document 02, §2: a job that is always first on processor 1, beside a shorter one; beside two, so that it runs through three stretches; and
--- two jobs on the largest memories, of which the second wraps in the next stretch
+-- document 02, §2: a job that is always first on processor 1, beside a shorter one; beside two, so that it runs through three
+-- stretches; and two jobs on the largest memories, of which the second wraps in the next stretch
 abbrev pub onTop : Order
 onTop = order (8 ∷ 4 ∷ []) (job 4 (pos 4) 8 ∷ job 2 (pos 2) 4 ∷ [])
 

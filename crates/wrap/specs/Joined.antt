@@ -1,22 +1,21 @@
--- Document 02, §2, of the layout in a frame: joined, it is right in the frame, a second joining finds nothing, and rows stand by the stretch in
--- which they begin.
+-- Document 02, §2, of the layout in a frame: joined, it is right in the frame, a second joining finds nothing, and rows stand by the
+-- stretch in which they begin.
 use Prim.Native.Nat.{ℕ, suc, _+_, _-_, _*_, _≤_, _<_}
-use mathlib.Core.Path.{_≡_, refl, sym, ap, _∙_}
+use mathlib.Core.Path.{_≡_, refl, ap, _∙_}
 use mathlib.Core.List.{List}
-use mathlib.Core.Logic.{_⊎_, _↔_, inl, inr}
+use mathlib.Core.Logic.{_⊎_, inl, inr}
 use native.Mathlib.Omega.{arith}
 use lib.ListN.{length}
-use Rattle.sums.specs.Lists.{All, In, Pairwise}
-use Rattle.sums.specs.Members.{All-map, All-both, All-in}
+use Rattle.sums.specs.Lists.{All, Pairwise}
 use Rattle.sums.specs.Pairs.{Pairwise-map, Pairwise-with}
 use Rattle.order.specs.Order.{Order, jobCount, processorCount}
 use Rattle.plan.specs.Plan.{Row}
-use Rattle.plan.specs.Join.{GoesOnAs, lengthened, joined}
+use Rattle.plan.specs.Join.{lengthened, joined}
 use Rattle.plan.specs.JoinLaws.{Forward, joined-all, joined-count, Blind, joined-order}
 use Rattle.plan.specs.JoinRight.{forwards, joined-well-formed, joined-apart, joined-lengths}
 use Rattle.plan.specs.JoinAgain.{Rises, Ends, joined-ends, joined-again}
 use Rattle.wrap.specs.RowOrder.{placeOf, StandsBefore}
-use Rattle.wrap.specs.Frame.{Frame, RightIn, FeasibleIn, stretchRowsIn, layoutIn, InStretchOf, RowBeforeIn, Rising}
+use Rattle.wrap.specs.Frame.{Frame, RightIn, FeasibleIn, layoutIn, InStretchOf, RowBeforeIn, Rising}
 use Rattle.wrap.specs.FrameLaws.{marks-mono}
 use Rattle.wrap.specs.FrameRight.{layout-right-in, layout-ordered-in, layout-count-in}
 
@@ -48,6 +47,10 @@ joined-right-in p o f rows h =
       whole = λ j n. joined-lengths j rows g ∙ h .whole j n;
     }
 
+-- where a row ends plays no part in that
+begins-longer : (f : Frame) (s : ℕ) (r : Row) (to : ℕ) → BeginsIn f s r → BeginsIn f s (lengthened r to)
+begins-longer f s r to b = record { a-stretch = b .a-stretch; begins = b .begins; before-its-end = b .before-its-end }
+
 begins-blind : (o : Order) (f : Frame) → Blind (BeginsBefore o f)
 begins-blind o f =
     record {
@@ -55,7 +58,7 @@ begins-blind o f =
           record {
             stretch = b .stretch;
             other = b .other;
-            begins-in = record { a-stretch = b .begins-in .a-stretch; begins = b .begins-in .begins; before-its-end = b .begins-in .before-its-end };
+            begins-in = begins-longer f (b .stretch) r to (b .begins-in);
             other-begins = b .other-begins;
             before = b .before;
           };
@@ -64,7 +67,7 @@ begins-blind o f =
             stretch = b .stretch;
             other = b .other;
             begins-in = b .begins-in;
-            other-begins = record { a-stretch = b .other-begins .a-stretch; begins = b .other-begins .begins; before-its-end = b .other-begins .before-its-end };
+            other-begins = begins-longer f (b .other) s to (b .other-begins);
             before = b .before;
           };
     }

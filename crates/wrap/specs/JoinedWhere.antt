@@ -6,7 +6,7 @@ use mathlib.Core.List.{List}
 use mathlib.Core.Logic.{_↔_, inl, inr}
 use native.Mathlib.Omega.{arith}
 use native.Mathlib.Decide.{decLt, ℕ-discrete}
-use Rattle.sums.specs.Lists.{All, In, Pairwise}
+use Rattle.sums.specs.Lists.{In, Pairwise}
 use Rattle.sums.specs.Members.{All-in}
 use Rattle.sums.specs.Pairs.{Pairwise-map, pairs-in}
 use Rattle.order.specs.Order.{Order}
@@ -45,7 +45,8 @@ module _ (o : Order) (f : Frame) (up : Rising f) (a : ℕ → ℕ → ℕ) (F : 
       m : s < f .stretches
       m = omega arith
 
-      at-mark : (r t : Row) → In r (rows s) → In t (rows (suc s)) → r .to ≡ t .from → (r .to ≡ f .mark (suc s)) × (t .from ≡ f .mark (suc s))
+      at-mark : (r t : Row) → In r (rows s) → In t (rows (suc s)) → r .to ≡ t .from →
+          (r .to ≡ f .mark (suc s)) × (t .from ≡ f .mark (suc s))
       at-mark r t i k e =
           let b = lies s m r i .0 .ends in
           let c = lies (suc s) l t k .0 .begins in

@@ -1,13 +1,13 @@
--- Document 02, §2, of document 01's planner: the layout of feasible amounts, joined, is a right plan; a second joining finds nothing to join;
--- its rows stand by the stretch in which they begin, then by processor order, then by `from`; and there are never more.
+-- Document 02, §2, of document 01's planner: the layout of feasible amounts, joined, is a right plan; a second joining finds nothing
+-- to join; its rows stand by the stretch in which they begin, then by processor order, then by `from`; and there are never more.
 use Prim.Native.Nat.{ℕ, zero, suc, _+_, _-_, _*_, _≤_, _<_}
-use mathlib.Core.Path.{_≡_, ap, subst, sym}
+use mathlib.Core.Path.{_≡_, subst}
 use mathlib.Core.List.{List}
 use native.Mathlib.Decide.{decLt}
 use native.Mathlib.Omega.{arith}
 use lib.IntN.{ℤ}
 use lib.ListN.{length}
-use Rattle.sums.specs.Sum.{sum, sum-cong, sum-const}
+use Rattle.sums.specs.Sum.{sum-cong, sum-const}
 use Rattle.sums.specs.Lists.{All, Pairwise}
 use Rattle.order.specs.Order.{Order, processorCount, jobCount, Numbers, jobOf}
 use Rattle.order.specs.Deadline.{deadlineOf}

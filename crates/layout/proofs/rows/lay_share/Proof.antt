@@ -65,14 +65,16 @@ loop-less c =
     let e = c .before .before .before .before .lay-piece .ensures in
     let d = c .before .before .before .before .before .before .before .before in
     let g = d .before .before .before .loop .inv in
-    going-more g (d .before .if1 .taken) (d .if2 .taken) (c .before .before .before .before .before .before .before .fitting .ensures) refl (e .1) (e .0) .1
+    let f = c .before .before .before .before .before .before .before .fitting .ensures in
+    going-more g (d .before .if1 .taken) (d .if2 .taken) f refl (e .1) (e .0) .1
 
 loop-again : tie.Need-loop-again Inv-loop μ-loop
 loop-again c =
     let e = c .before .before .before .before .lay-piece .ensures in
     let d = c .before .before .before .before .before .before .before .before in
     let g = d .before .before .before .loop .inv in
-    going-more g (d .before .if1 .taken) (d .if2 .taken) (c .before .before .before .before .before .before .before .fitting .ensures) refl (e .1) (e .0) .0
+    let f = c .before .before .before .before .before .before .before .fitting .ensures in
+    going-more g (d .before .if1 .taken) (d .if2 .taken) f refl (e .1) (e .0) .0
 
 same-length : tie.Need-same-length Inv-loop μ-loop
 same-length c = c .before .before .before .loop .inv .goes-on [] .same-length

@@ -3,8 +3,7 @@ use Prim.Native.Nat.{ℕ, _-_, _≤_}
 use mathlib.Core.Path.{_≡_, refl, sym, _∙_}
 use native.Mathlib.Omega.{arith}
 use borrow.Author.Needs.{needs}
-use lib.ListN.{length, take}
-use Rattle.wrap.specs.Flows.{amountIn}
+use lib.ListN.{length}
 use Rattle.layout.specs.Sheet.{sheet}
 use Rattle.layout.proofs.Sharing.{share-none}
 use Rattle.layout.proofs.Stretching.{
@@ -96,8 +95,8 @@ loop-again c =
     let s = c .before .before .before .before .before .before .before .before .before .before .before .before .before .before in
     let l = c .before .before .before .before .before .before .before .before .before .before .loop in
     let z : length (s .args .t3) ≡ 48 = search needs in
-    stretching-more (l .inv) (omega arith) (s .pre .7) (c .before .before .before .before .before .before .before .before .before .loop-test .taken) (s .pre .8) refl
-    (c .before .before .before .before .lay-share .ensures)
+    let t = c .before .before .before .before .before .before .before .before .before .loop-test .taken in
+    stretching-more (l .inv) (omega arith) (s .pre .7) t (s .pre .8) refl (c .before .before .before .before .lay-share .ensures)
 
 none : {m : ℕ} → m ≤ 0 → m ≡ 0
 none h = omega arith
