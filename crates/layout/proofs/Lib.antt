@@ -3,6 +3,7 @@ mod Filling
 mod Sharing
 mod Stretching
 mod Opening
+mod LastRows
 mod Holding
 mod Telling
 mod Framing

@@ -19,8 +19,9 @@ use Rattle.plan.specs.JoinAgain.{Rises, rises-kept}
 use Rattle.wrap.specs.Ending.{endsAt, endsWith, jobWhere}
 use Rattle.wrap.specs.EndingLaws.{where-none, ends-at-true}
 use Rattle.layout.specs.Sheet.{Sheet, addedAll}
+use Rattle.layout.specs.Planned.{Named}
 use Rattle.layout.specs.Laid.{EndsTold}
-use Rattle.layout.proofs.Holding.{Named, not-ending, held-length, holds-tell, all-hold}
+use Rattle.layout.proofs.Holding.{not-ending, held-length, holds-tell, all-hold}
 
 module _ (minute i : ℕ) where
   -- one row more that ends with the minute on the processor

@@ -44,9 +44,12 @@ abbrev pub planned : Table → ℕ → (marks opens closes w : List ℕ) → Lis
 planned t q marks opens closes w =
     laidOut (take (t .m) (t .«by_memory»)) (take (t .n) (t .«by_need»)) (lentFrame q marks opens closes) (amountIn q w)
 
--- rows that can be joined while they are written: each names a job and one of 16 processors, none is empty, and those of one processor
--- rise
+-- a row that names a job and one of 16 processors
+abbrev pub Named : Row → Type 0
+Named r = (1 ≤ r .job) × Numbers 16 (r .processor)
+
+-- rows that can be joined while they are written: each is named, none is empty, and those of one processor rise
 pub record Joinable (rows : List Row) : Type 0 where
-  pub named : All (λ (r : Row). (1 ≤ r .job) × Numbers 16 (r .processor)) rows
+  pub named : All Named rows
   pub forward : All Forward rows
   pub rises : Pairwise Rises rows
