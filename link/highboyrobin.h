@@ -7,7 +7,8 @@
  * hbr_write answers it.
  *
  * Rows of a plan are lent as numbers, four to a row: job, processor, from, to. A row takes the minutes from `from` up to but not
- * including `to`.
+ * including `to`. In a plan of hbr_least or hbr_plan no row begins where another of its job on its processor ends: the two would be
+ * one row.
  *
  * Results. Each function returns 0 where it succeeds, else a refusal: its number is hbr_number(result), and the job that it is
  * about, 0 where it is about none, hbr_job(result). Of several refusals that apply the first is told: HBR_SHORT_ANSWER,

@@ -231,7 +231,8 @@ pub fn judge(file: &[u8]) -> Result<Sizes, Refused> {
     })
 }
 
-/// The least lateness, with a plan that meets it from `rows[0]` on. Refusals: 12, 1 to 7, 9.
+/// The least lateness, with a plan that meets it from `rows[0]` on, in which no row begins where another of its job on its
+/// processor ends. Refusals: 12, 1 to 7, 9.
 pub fn least(file: &[u8], rows: &mut [Row]) -> Result<Least, Refused> {
     let mut answer = [0; 2];
     let (at, length) = (rows.as_mut_ptr().cast(), rows.len() * 4);
@@ -251,7 +252,8 @@ pub fn least(file: &[u8], rows: &mut [Row]) -> Result<Least, Refused> {
     })
 }
 
-/// A plan in which every job is done by its due time plus the bound, from `rows[0]` on; its number of rows. Refusals: 12, 1 to 10.
+/// A plan in which every job is done by its due time plus the bound, from `rows[0]` on, joined as that of `least`; its number of rows.
+/// Refusals: 12, 1 to 10.
 pub fn plan(file: &[u8], bound: i32, rows: &mut [Row]) -> Result<usize, Refused> {
     let mut answer = [0; 1];
     let (at, length) = (rows.as_mut_ptr().cast(), rows.len() * 4);
