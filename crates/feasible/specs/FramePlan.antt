@@ -27,7 +27,8 @@ use Rattle.sums.specs.Members.{All-map, nth-in}
 use Rattle.order.specs.Order.{Order, processorCount, jobCount, jobOf, memoryOf}
 use Rattle.order.specs.Class.{classOf}
 use Rattle.order.specs.ClassLaws.{fits-class}
-use Rattle.plan.specs.Plan.{Row, WellFormed, Apart}
+use Rattle.plan.specs.Plan.{Row, Forward, WellFormed, Apart}
+use Rattle.plan.specs.RuleLaws.{forwards}
 use Rattle.amounts.specs.Flow.{Feasible, Cut, cut-not-feasible}
 use Rattle.wrap.specs.HeldInOrder.{classBy}
 use Rattle.wrap.specs.Frame.{
@@ -47,7 +48,7 @@ use Rattle.wrap.specs.Frame.{
 use Rattle.wrap.specs.FrameLaws.{lies-is, marks-mono, processorClass, openTo-is}
 use Rattle.wrap.specs.FrameRight.{layout-right-in}
 use Rattle.wrap.specs.FrameFlow.{flowIn, Classed, frame-outcome}
-use Rattle.feasible.specs.Packing.{clip, Forward, packing-key, telescope}
+use Rattle.feasible.specs.Packing.{clip, packing-key, telescope}
 
 -- a gate lets more through where more comes, and where the rank is lower
 gate-more : (a b k v w : ℕ) → b ≤ a → v ≤ w → gate a k v ≤ gate b k w
@@ -155,7 +156,7 @@ only-swap p l c false = omega arith
 
 module _ (o : Order) (f : Frame) (framed : Framed o f) {p : ℕ} {rows : List Row} (right : RightIn p o f rows) where
   all-forward : All Forward rows
-  all-forward = All-map _ _ rows (λ (r : Row) (w : WellFormed o r). w .forward) (right .well-formed)
+  all-forward = forwards o rows (right .well-formed)
 
   -- the rows of a job lie in its interval, those of a processor in its window
   job-inside : (i : ℕ) → All (λ (r : Row). r .job ≡ i → Between p (f .ready i) (f .until i) r) rows

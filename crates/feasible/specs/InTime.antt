@@ -14,14 +14,15 @@ use Rattle.sums.specs.Members.{All-map, All-both, All-nth}
 use Rattle.order.specs.Order.{Job, Order, jobCount, Numbers, jobOf, endOf, noJob}
 use Rattle.order.specs.Deadline.{deadlineOf}
 use Rattle.order.specs.Lead.{Workable}
-use Rattle.plan.specs.Plan.{Row, lengthsOf, RightInParts}
+use Rattle.plan.specs.Plan.{Row, Forward, lengthsOf, RightInParts}
+use Rattle.plan.specs.RuleLaws.{forwards}
 use Rattle.profile.specs.Reason.{InTime}
 use Rattle.order.specs.Ends.{≤-of-cut, ≤-mul-cut}
-use Rattle.feasible.specs.Packing.{clip, Forward, packing-key}
+use Rattle.feasible.specs.Packing.{clip, packing-key}
 
 module _ {p : ℕ} {o : Order} {bound : ℤ} {rows : List Row} (right : RightInParts p o bound rows) where
   pub all-forward : All Forward rows
-  all-forward = All-map _ _ rows (λ r w. w .forward) (right .well-formed)
+  all-forward = forwards o rows (right .well-formed)
 
   -- a row goes forward and ends by its job's deadline
   pub by-deadline : All (λ (r : Row). (r .from < r .to) × (r .to ≤ p * deadlineOf bound (jobOf o (r .job)))) rows

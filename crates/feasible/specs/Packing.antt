@@ -14,15 +14,11 @@ use Rattle.sums.specs.Lists.{All, Pairwise, total, only, keep}
 use Rattle.sums.specs.Members.{All-map}
 use Rattle.sums.specs.Kept.{keep-all, keep-passing, keep-total}
 use Rattle.sums.specs.Pairs.{Pairwise-map}
-use Rattle.plan.specs.Plan.{Row, Apart}
+use Rattle.plan.specs.Plan.{Row, Forward, Apart}
 
 -- how much of the row lies in the stretch from a to b
 abbrev pub clip : ℕ → ℕ → Row → ℕ
 clip a b r = min (r .to) b - max (r .from) a
-
--- a row takes some time
-abbrev pub Forward : Row → Type 0
-Forward r = r .from < r .to
 
 -- the three parts into which [f, t) splits [a, b): v is at most min f b, and u at least max t a
 three-of : (a b f t u v : ℕ) → f ≤ t → v ≤ f → v ≤ b → t ≤ u → a ≤ u → (min t b - max f a) + ((v - a) + (b - u)) ≤ b - a

@@ -11,10 +11,10 @@ use Rattle.sums.specs.Kept.{keep-all}
 use Rattle.sums.specs.Lists.{keep}
 use Rattle.sums.specs.Members.{All-from}
 use Rattle.order.specs.Order.{Numbers}
-use Rattle.plan.specs.Plan.{Row}
+use Rattle.plan.specs.Plan.{Row, Forward}
 use Rattle.plan.specs.Check.{numbersOf}
 use Rattle.plan.specs.Join.{joined}
-use Rattle.plan.specs.JoinLaws.{Forward, standing-none}
+use Rattle.plan.specs.JoinLaws.{standing-none}
 use Rattle.plan.specs.JoinAgain.{Rises}
 use Rattle.wrap.specs.Flows.{amountIn}
 use Rattle.wrap.specs.Frame.{Frame, Rising, lies, inTurn}

@@ -15,12 +15,12 @@ use Rattle.sums.specs.Lists.{All, Pairwise, only}
 use Rattle.sums.specs.Members.{All-map, All-in, in-All}
 use Rattle.sums.specs.Places.{getD-tabulate, tabulate-cong, set-tabulate, replicate-tabulate}
 use Rattle.order.specs.Order.{Numbers}
-use Rattle.plan.specs.Plan.{Row}
+use Rattle.plan.specs.Plan.{Row, Forward}
 use Rattle.plan.specs.Check.{numbersOf}
 use Rattle.plan.specs.NumberLaws.{length-numbers}
 use Rattle.plan.specs.Join.{GoesOnAs, joinRow, joinRows}
-use Rattle.plan.specs.JoinLaws.{join-case, Forward, Standing, standing-more, row-count}
-use Rattle.plan.specs.JoinAgain.{Rises, Ends, rises-kept, row-behind}
+use Rattle.plan.specs.JoinLaws.{join-case, Standing, standing-more, row-count}
+use Rattle.plan.specs.JoinAgain.{Rises, Separate, rises-kept, row-behind}
 use Rattle.wrap.specs.Ending.{endsAt, endsWith, jobWhere}
 use Rattle.wrap.specs.EndingLaws.{where-none, ends-is}
 use Rattle.layout.specs.Sheet.{Sheet, sheet, endingJob, lastFor, lastOf, added, addedAll, Holds}
@@ -39,7 +39,7 @@ use Rattle.layout.proofs.Writing.{numbers-append, numbers-one, longer, 
 
 -- The job that a processor ends with -------------------------------------------------------------------------------------------------
 
--- the numbers of a row more before others, at its end: those of the others
+-- behind one row more, the numbers of a row stand four places further on
 ending-later : (r : Row) (rows : List Row) (rest : List ℕ) (k minute : ℕ) →
     endingJob (numbersOf (r ∷ rows) ++ rest) (suc (suc k)) minute ≡ endingJob (numbersOf rows ++ rest) (suc k) minute
 unfolding numbersOf
@@ -48,7 +48,7 @@ ending-later r rows rest k minute =
     let f : 4 * suc (suc k) - 4 ≡ suc (suc (suc (suc (4 * suc k - 4)))) = omega arith in
     rw (ne-eqb (suc (suc k)) 0 (λ e. omega arith), ne-eqb (suc k) 0 (λ e. omega arith), e, f) refl
 
--- a row of another processor, and one that ends before others of its processor, do not end with it
+-- a row of another processor, and one that ends at another minute
 pub not-ending : (minute i : ℕ) (r : Row) → (r .processor ≢ i) ⊎ (r .to ≢ minute) → endsAt minute i r ≡ false
 not-ending minute i r (inl ne) = rw (ne-eqb (r .processor) i ne) refl
 not-ending minute i r (inr ne) = rw (ne-eqb (r .to) minute ne) (and-false (eqb (r .processor) i))
@@ -151,7 +151,7 @@ module _ (x : Row) (some : 1 ≤ x .job) where
       joinRow rows x ≡ rows ++ (x ∷ [])
   join-none rows f h ne =
       row-behind rows x
-      (in-All (λ (r : Row). Ends r x) rows (λ (r : Row) i g.
+      (in-All (λ (r : Row). Separate r x) rows (λ (r : Row) i g.
       ne (rw (sym (g .1), sym (g .2)) (ends-is rows f h r i) ∙ g .0)))
 
 module _ {lent : List ℕ} {rows : List Row} {s : Sheet} (holds : Holds lent rows s) where

@@ -12,9 +12,9 @@ use lib.ListN.{length}
 use Rattle.sums.specs.Lists.{All}
 use Rattle.sums.specs.Members.{All-map, All-both}
 use Rattle.order.specs.RefusalLaws.{true-or-false}
-use Rattle.plan.specs.Plan.{Row}
+use Rattle.plan.specs.Plan.{Row, Forward}
 use Rattle.plan.specs.Join.{joinRow, joinRows}
-use Rattle.plan.specs.JoinLaws.{join-case, all-rows, Forward, Standing, standing-more, standing-all}
+use Rattle.plan.specs.JoinLaws.{join-case, all-rows, Standing, standing-more, standing-all}
 use Rattle.plan.specs.JoinAgain.{Rises, rises-kept}
 use Rattle.wrap.specs.Ending.{endsAt, endsWith, jobWhere}
 use Rattle.wrap.specs.EndingLaws.{where-none, ends-at-true}

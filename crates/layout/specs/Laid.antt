@@ -7,8 +7,8 @@ use lib.Dec.{ltb}
 use lib.ListN.{length, getD, take, drop}
 use Rattle.sums.specs.Lists.{All}
 use Rattle.order.specs.Order.{Numbers}
-use Rattle.plan.specs.Plan.{Row}
-use Rattle.plan.specs.JoinLaws.{Forward, Standing}
+use Rattle.plan.specs.Plan.{Row, Forward}
+use Rattle.plan.specs.JoinLaws.{Standing}
 use Rattle.plan.specs.JoinAgain.{Rises}
 use Rattle.wrap.specs.Ending.{endsWith}
 use Rattle.wrap.specs.Layout.{Share, fill, sharesOf}

@@ -7,8 +7,7 @@ use lib.Dec.{leb}
 use lib.ListN.{getD, take}
 use Rattle.sums.specs.Lists.{All, Pairwise, nth, keep}
 use Rattle.order.specs.Order.{Numbers}
-use Rattle.plan.specs.Plan.{Row}
-use Rattle.plan.specs.JoinLaws.{Forward}
+use Rattle.plan.specs.Plan.{Row, Forward}
 use Rattle.plan.specs.JoinAgain.{Rises}
 use Rattle.wrap.specs.Layout.{fill, sharesOf}
 use Rattle.wrap.specs.Flows.{amountIn}

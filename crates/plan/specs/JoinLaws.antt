@@ -1,5 +1,5 @@
 -- Laws of joined rows, whatever rows: what holds of each and of each two, how many there are, and in which order.
-use Prim.Native.Nat.{ℕ, _+_, _≤_, _<_}
+use Prim.Native.Nat.{ℕ, _+_, _≤_}
 use mathlib.Core.Path.{_≡_, refl, sym, ap, _∙_}
 use mathlib.Core.Bool.{true, true≢false}
 use mathlib.Core.List.{List, [], _∷_, _++_, append-nil}
@@ -11,7 +11,7 @@ use lib.ListN.{length}
 use Rattle.sums.specs.Lists.{All, Pairwise}
 use Rattle.sums.specs.Members.{All-map, All-both}
 use Rattle.order.specs.RefusalLaws.{both-true, true-or-false}
-use Rattle.plan.specs.Plan.{Row}
+use Rattle.plan.specs.Plan.{Row, Forward}
 use Rattle.plan.specs.Join.{GoesOnAs, goesOnAs, lengthened, joinRow, joinRows, joined}
 
 -- the test
@@ -53,15 +53,8 @@ module _ (P : Row → Type 0) (one : (r x : Row) → GoesOnAs r x → P r → P 
   all-rows rows [] h k = h
   all-rows rows (x ∷ xs) h k = all-rows (joinRow rows x) xs (all-row rows x h (k .0)) (k .1)
 
--- no row is empty
-abbrev pub Forward : Row → Type 0
-Forward r = r .from < r .to
-
 pub forward-one : (r x : Row) → GoesOnAs r x → Forward r → Forward x → Forward (lengthened r (x .to))
 forward-one r x g h k = omega (arith, g .2)
-
-pub all-forward : (rows xs : List Row) → All Forward rows → All Forward xs → All Forward (joinRows rows xs)
-all-forward rows xs h k = all-rows Forward forward-one rows xs h k
 
 -- What holds of each two ---------------------------------------------------------------------------------------------------
 
@@ -170,9 +163,3 @@ joined-order R b rows h =
     anything : (xs : List Row) → All (λ (r : Row). Unit {0}) xs
     anything [] = tt
     anything (x ∷ xs) = (tt, anything xs)
-
--- joining goes on where it stopped
-pub join-append : (rows xs ys : List Row) → joinRows rows (xs ++ ys) ≡ joinRows (joinRows rows xs) ys
-unfolding joinRows
-join-append rows [] ys = refl
-join-append rows (x ∷ xs) ys = join-append (joinRow rows x) xs ys

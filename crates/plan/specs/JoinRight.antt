@@ -8,11 +8,11 @@ use native.Mathlib.Omega.{arith}
 use lib.Dec.{eqb}
 use lib.IntN.{ℤ}
 use Rattle.sums.specs.Lists.{All, Pairwise, total, only}
-use Rattle.sums.specs.Members.{All-map}
 use Rattle.order.specs.Order.{Order}
-use Rattle.plan.specs.Plan.{Row, WellFormed, Apart, lengthsOf, RightInParts}
+use Rattle.plan.specs.Plan.{Row, Forward, WellFormed, Apart, lengthsOf, RightInParts}
+use Rattle.plan.specs.RuleLaws.{forwards}
 use Rattle.plan.specs.Join.{GoesOnAs, lengthened, joinRow, joinRows, joined}
-use Rattle.plan.specs.JoinLaws.{join-case, all-row, Forward, forward-one, Kept, joined-all, joined-pairs}
+use Rattle.plan.specs.JoinLaws.{join-case, all-row, forward-one, Kept, joined-all, joined-pairs}
 
 -- rows of one job, or of one processor, stay apart
 module _ (key : Row → ℕ) (blind : (r : Row) (to : ℕ) → key (lengthened r to) ≡ key r)
@@ -92,9 +92,6 @@ joined-well-formed o rows h =
     (λ r x g p q.
     record { a-job = p .a-job; a-processor = p .a-processor; fits = p .fits; forward = omega (arith, g .2, p .forward, q .forward) })
     h
-
-pub forwards : (o : Order) (rows : List Row) → All (WellFormed o) rows → All Forward rows
-forwards o rows h = All-map _ _ rows (λ (r : Row) w. w .forward) h
 
 -- "Joined plans are still right plans", in any parts of a minute
 pub joined-right : (p : ℕ) (o : Order) (bound : ℤ) (rows : List Row) → RightInParts p o bound rows →

@@ -16,6 +16,10 @@ pub record Row : Type 0 where
   pub from : ℕ
   pub to : ℕ
 
+-- a row takes some time
+abbrev pub Forward : Row → Type 0
+Forward r = r .from < r .to
+
 -- "every row names an existing job and processor that fit, and `from` is below `to`"
 pub record WellFormed (o : Order) (r : Row) : Type 0 where
   pub a-job : Numbers (jobCount o) (r .job)

@@ -9,12 +9,12 @@ use borrow.Author.Tests.{leb-true, le-leb, ltb-true, lt-ltb, eqb-true, eq-eqb}
 use lib.Dec.{leb, ltb, eqb}
 use lib.IntN.{ℤ, pos, negsuc, negℤ, _*ℤ_}
 use lib.Signed.{_≤ℤ_}
-use Rattle.sums.specs.Lists.{tabulate}
+use Rattle.sums.specs.Lists.{All, tabulate}
 use Rattle.sums.specs.Members.{All-map, All-both}
 use Rattle.sums.specs.Pairs.{Pairwise-map, Pairwise-both}
 use Rattle.order.specs.Order.{Order, processorCount, jobCount, Numbers, jobOf, memoryOf, endOf}
 use Rattle.order.specs.RefusalLaws.{both-true, either-true, leZ-true, true-leZ}
-use Rattle.plan.specs.Plan.{Row, WellFormed, Apart, lengthsOf, Right}
+use Rattle.plan.specs.Plan.{Row, Forward, WellFormed, Apart, lengthsOf, Right}
 use Rattle.plan.specs.Check.{every, everyTwo, wellFormed, byEnd, noOverlap, wholeJob}
 use Rattle.plan.specs.EveryLaws.{every-true, true-every, every-places, every-at, everyTwo-true, true-everyTwo}
 
@@ -48,6 +48,10 @@ pub well-formed-iff : (o : Order) (r : Row) → (wellFormed o r ≡ true) ↔ We
 well-formed-iff o r = (well-formed-of o r, of-well-formed o r)
 
 -- whole minutes are one part to the minute
+-- well-formed rows take some time
+pub forwards : (o : Order) (rows : List Row) → All (WellFormed o) rows → All Forward rows
+forwards o rows h = All-map _ _ rows (λ (r : Row) w. w .forward) h
+
 pub one-part : (z : ℤ) → (pos 1 *ℤ z) ≡ z
 one-part (pos n) = ap pos (omega arith)
 one-part (negsuc n) = let e : 1 * suc n ≡ suc n = omega arith in ap (λ (k : ℕ). negℤ (pos k)) e

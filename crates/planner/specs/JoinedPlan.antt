@@ -9,11 +9,11 @@ use Rattle.order.specs.Order.{Order}
 use Rattle.plan.specs.Plan.{Row}
 use Rattle.plan.specs.Join.{joined}
 use Rattle.plan.specs.JoinLaws.{joined-count}
-use Rattle.plan.specs.JoinAgain.{Ends}
+use Rattle.plan.specs.JoinAgain.{Separate}
 use Rattle.wrap.specs.Layout.{layout}
 use Rattle.wrap.specs.FrameBase.{baseFrame}
 use Rattle.wrap.specs.Joined.{BeginsBefore}
-use Rattle.wrap.specs.LayoutJoined.{joined-few, plan-ends, plan-again, plan-ordered}
+use Rattle.wrap.specs.LayoutJoined.{joined-few, plan-separate, plan-again, plan-ordered}
 use Rattle.planner.specs.Rows.{rowsAsked}
 use Rattle.planner.specs.Written.{PlanOf}
 
@@ -27,7 +27,7 @@ pub record JoinedPlan (o : Order) (bound : ℤ) (amounts : ℕ → ℕ → ℕ) 
   pub few : length plan ≤ rowsAsked o
   -- "a second joining finds nothing to join"
   pub again : joined plan ≡ plan
-  pub ends : Pairwise (λ (r s : Row). Ends r s × Ends s r) plan
+  pub separate : Pairwise (λ (r s : Row). Separate r s × Separate s r) plan
 
 -- the planner's plan is such a plan of its amounts; that it is right stands in PlanOf
 pub plan-joined : (o : Order) (bound : ℤ) (plan : List Row) (P : PlanOf o bound plan) → JoinedPlan o bound (P .amounts) plan
@@ -38,5 +38,5 @@ plan-joined o bound plan P =
       never-more = joined-count (layout o bound (P .amounts));
       few = joined-few o bound (P .amounts);
       again = plan-again o bound (P .amounts) (P .feasible);
-      ends = plan-ends o bound (P .amounts) (P .feasible);
+      separate = plan-separate o bound (P .amounts) (P .feasible);
     })

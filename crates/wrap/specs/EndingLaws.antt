@@ -11,8 +11,7 @@ use Rattle.sums.specs.Lists.{All, In, Pairwise}
 use Rattle.sums.specs.Members.{All-in}
 use Rattle.sums.specs.Pairs.{pairs-in}
 use Rattle.order.specs.RefusalLaws.{both-true, true-or-false}
-use Rattle.plan.specs.Plan.{Row}
-use Rattle.plan.specs.JoinLaws.{Forward}
+use Rattle.plan.specs.Plan.{Row, Forward}
 use Rattle.plan.specs.JoinAgain.{Rises}
 use Rattle.wrap.specs.Ending.{jobWhere, endsAt, beginsAt, endsWith}
 

@@ -107,6 +107,15 @@ module _ (o : Order) (f : Frame) (up : Rising f) (a : ℕ → ℕ → ℕ) where
     stretch-few =
         omega (arith, filled-few filled, shares-few a s (jobOrder o), open-few o f s, jobs-ordered o .count)
 
+  -- a row of an earlier stretch ends before one of a later stretch begins, and so does one of the same processor that stands before
+  pub stretches-apart : (i k : ℕ) (r t : Row) → i < k → InStretchOf f i r → InStretchOf f k t → r .to ≤ t .from
+  stretches-apart i k r t l h m =
+      omega (arith, marks-mono f up (suc i) k l (omega (arith, m .a-stretch)), h .ends, m .begins)
+
+  pub stands-rise : (r t : Row) → StandsBefore o r t → r .processor ≡ t .processor → r .to ≤ t .from
+  stands-rise r t (inl w) e = absurd (omega (arith, ap (placeOf o) e))
+  stands-rise r t (inr w) e = w .1
+
   -- rows stand by stretch, then by processor order, then by `from`
   pub layout-ordered-in : Pairwise (RowBeforeIn o f) (layoutIn o f a)
   unfolding layoutIn
@@ -261,15 +270,6 @@ module _ (o : Order) (f : Frame) (up : Rising f) (a : ℕ → ℕ → ℕ) where
                 mul-le-mul-right (lengthIn f s) (openTo-at-most o f s K),
               )
 
-    -- rows of different stretches are apart
-    stretches-apart : (i k : ℕ) (r t : Row) → i < k → InStretchOf f i r → InStretchOf f k t → r .to ≤ t .from
-    stretches-apart i k r t l h m =
-        omega (arith, marks-mono f up (suc i) k l (omega (arith, m .a-stretch)), h .ends, m .begins)
-
-    processors-apart-in : (r t : Row) → StandsBefore o r t → r .processor ≡ t .processor → Apart r t
-    processors-apart-in r t (inl w) e = absurd (omega (arith, ap (placeOf o) e))
-    processors-apart-in r t (inr w) e = inl (w .1)
-
     pub layout-right-in : RightIn 1 o f (layoutIn o f a)
     unfolding layoutIn
     layout-right-in =
@@ -281,7 +281,7 @@ module _ (o : Order) (f : Frame) (up : Rising f) (a : ℕ → ℕ → ℕ) where
           jobs-apart = turn-pairs R (InStretchOf f) _ (f .stretches) stretch-in rows-jobs-apart
               (λ i k (r t : Row) l h m e. inl (stretches-apart i k r t l h m));
           processors-apart = turn-pairs R (InStretchOf f) _ (f .stretches) stretch-in
-              (λ s l. Pairwise-map _ _ (stretchRowsIn o f a s) processors-apart-in (stretch-ordered s))
+              (λ s l. Pairwise-map _ _ (stretchRowsIn o f a s) (λ (r t : Row) b e. inl (stands-rise r t b e)) (stretch-ordered s))
               (λ i k (r t : Row) l h m e. inl (stretches-apart i k r t l h m));
           whole = λ j b.
               turn-total R _ (f .stretches)

@@ -1,7 +1,7 @@
 -- Document 02, §2, of the layout in a frame: joined, it is right in the frame, a second joining finds nothing, and rows stand by the
 -- stretch in which they begin.
 use Prim.Native.Nat.{ℕ, suc, _+_, _-_, _*_, _≤_, _<_}
-use mathlib.Core.Path.{_≡_, refl, ap, _∙_}
+use mathlib.Core.Path.{_≡_, refl, _∙_}
 use mathlib.Core.List.{List}
 use mathlib.Core.Logic.{_⊎_, inl, inr}
 use native.Mathlib.Omega.{arith}
@@ -9,15 +9,15 @@ use lib.ListN.{length}
 use Rattle.sums.specs.Lists.{All, Pairwise}
 use Rattle.sums.specs.Pairs.{Pairwise-map, Pairwise-with}
 use Rattle.order.specs.Order.{Order, jobCount, processorCount}
-use Rattle.plan.specs.Plan.{Row}
+use Rattle.plan.specs.Plan.{Row, Forward}
+use Rattle.plan.specs.RuleLaws.{forwards}
 use Rattle.plan.specs.Join.{lengthened, joined}
-use Rattle.plan.specs.JoinLaws.{Forward, joined-all, joined-count, Blind, joined-order}
-use Rattle.plan.specs.JoinRight.{forwards, joined-well-formed, joined-apart, joined-lengths}
-use Rattle.plan.specs.JoinAgain.{Rises, Ends, joined-ends, joined-again}
+use Rattle.plan.specs.JoinLaws.{joined-all, joined-count, Blind, joined-order}
+use Rattle.plan.specs.JoinRight.{joined-well-formed, joined-apart, joined-lengths}
+use Rattle.plan.specs.JoinAgain.{Rises, Separate, joined-separate, joined-again}
 use Rattle.wrap.specs.RowOrder.{placeOf, StandsBefore}
 use Rattle.wrap.specs.Frame.{Frame, RightIn, FeasibleIn, layoutIn, InStretchOf, RowBeforeIn, Rising}
-use Rattle.wrap.specs.FrameLaws.{marks-mono}
-use Rattle.wrap.specs.FrameRight.{layout-right-in, layout-ordered-in, layout-count-in}
+use Rattle.wrap.specs.FrameRight.{stretches-apart, stands-rise, layout-right-in, layout-ordered-in, layout-count-in}
 
 -- the row begins in stretch s
 pub record BeginsIn (f : Frame) (s : ℕ) (r : Row) : Type 0 where
@@ -73,10 +73,6 @@ begins-blind o f =
     }
 
 module _ (o : Order) (f : Frame) (up : Rising f) (a : ℕ → ℕ → ℕ) where
-  pub rises-one : (r t : Row) → StandsBefore o r t → Rises r t
-  rises-one r t (inl w) e = absurd (omega (arith, ap (placeOf o) e))
-  rises-one r t (inr w) e = w .1
-
   -- rows of one processor rise, whatever the amounts
   pub layout-rises : Pairwise Rises (layoutIn o f a)
   layout-rises = Pairwise-map _ Rises (layoutIn o f a) one (layout-ordered-in o f up a)
@@ -84,13 +80,8 @@ module _ (o : Order) (f : Frame) (up : Rising f) (a : ℕ → ℕ → ℕ) where
       one : (r t : Row) → RowBeforeIn o f r t → Rises r t
       one r t b e =
           elim (b .before) [
-            | inl l ↦ omega (
-              arith,
-              b .lies-in .ends,
-              b .other-lies .begins,
-              marks-mono f up (suc (b .stretch)) (b .other) l (omega (arith, b .other-lies .a-stretch)),
-            )
-            | inr w ↦ rises-one r t (w .1) e
+            | inl l ↦ stretches-apart o f up a (b .stretch) (b .other) r t l (b .lies-in) (b .other-lies)
+            | inr w ↦ stands-rise o f up a r t (w .1) e
           ]
 
   -- at most stretches × (n + m - 1) rows
@@ -105,8 +96,8 @@ module _ (o : Order) (f : Frame) (up : Rising f) (a : ℕ → ℕ → ℕ) where
     joined-layout-right = joined-right-in 1 o f (layoutIn o f a) (layout-right-in o f up a F)
 
     -- no two rows go on as one another, and a second joining changes nothing
-    pub joined-layout-ends : Pairwise (λ (r s : Row). Ends r s × Ends s r) (joined (layoutIn o f a))
-    joined-layout-ends = joined-ends (layoutIn o f a) layout-forward layout-rises
+    pub joined-layout-separate : Pairwise (λ (r s : Row). Separate r s × Separate s r) (joined (layoutIn o f a))
+    joined-layout-separate = joined-separate (layoutIn o f a) layout-forward layout-rises
 
     pub joined-layout-again : joined (joined (layoutIn o f a)) ≡ joined (layoutIn o f a)
     joined-layout-again = joined-again (layoutIn o f a) layout-forward layout-rises

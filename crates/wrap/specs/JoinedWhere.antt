@@ -10,16 +10,22 @@ use Rattle.sums.specs.Lists.{In, Pairwise}
 use Rattle.sums.specs.Members.{All-in}
 use Rattle.sums.specs.Pairs.{Pairwise-map, pairs-in}
 use Rattle.order.specs.Order.{Order}
-use Rattle.plan.specs.Plan.{Row}
+use Rattle.plan.specs.Plan.{Row, Forward}
 use Rattle.plan.specs.Join.{GoesOnAs}
-use Rattle.plan.specs.JoinLaws.{Forward}
 use Rattle.plan.specs.JoinAgain.{Rises}
 use Rattle.wrap.specs.Frame.{Frame, FeasibleIn, stretchRowsIn, InStretchOf, Rising}
 use Rattle.wrap.specs.FrameLaws.{marks-mono}
-use Rattle.wrap.specs.FrameRight.{stretch-in, stretch-ordered, stretch-once, rows-forward, rows-well-formed}
+use Rattle.wrap.specs.FrameRight.{
+  stretches-apart,
+  stands-rise,
+  stretch-in,
+  stretch-ordered,
+  stretch-once,
+  rows-forward,
+  rows-well-formed,
+}
 use Rattle.wrap.specs.Ending.{endsAt, beginsAt, stretchEndsWith, stretchOpensWith}
 use Rattle.wrap.specs.EndingLaws.{where-found, ends-at-true, begins-at-true, ends-is, begins-is}
-use Rattle.wrap.specs.Joined.{rises-one}
 
 -- no stretch but the first is of no length
 abbrev pub Climbing : Frame → Type 0
@@ -30,7 +36,7 @@ module _ (o : Order) (f : Frame) (up : Rising f) (a : ℕ → ℕ → ℕ) (F : 
   rows s = stretchRowsIn o f a s
 
   stretch-rises : (s : ℕ) → Pairwise Rises (rows s)
-  stretch-rises s = Pairwise-map _ Rises (rows s) (rises-one o f up a) (stretch-ordered o f up a s)
+  stretch-rises s = Pairwise-map _ Rises (rows s) (stands-rise o f up a) (stretch-ordered o f up a s)
 
   lies : (s : ℕ) → s < f .stretches → (r : Row) → In r (rows s) → InStretchOf f s r × Forward r
   lies s l r i = (All-in _ (rows s) (stretch-in o f up a s l) r i, All-in _ (rows s) (rows-forward o f up a F s l) r i)
@@ -99,15 +105,7 @@ module _ (o : Order) (f : Frame) (up : Rising f) (a : ℕ → ℕ → ℕ) (F : 
         | no h ↦
             elim (ℕ-discrete i k) [
               | yes e ↦ absurd (one-stretch e)
-              | no ne ↦ absurd (omega (
-                arith,
-                b .0 .begins,
-                c .0 .ends,
-                b .1,
-                c .1,
-                g .2,
-                marks-mono f up (suc k) i (omega arith) (omega arith),
-              ))
+              | no ne ↦ absurd (omega (arith, b .1, c .1, g .2, stretches-apart o f up a k i t r (omega arith) (c .0) (b .0)))
             ]
       ]
     where

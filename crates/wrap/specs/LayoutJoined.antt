@@ -11,11 +11,12 @@ use Rattle.sums.specs.Sum.{sum-cong, sum-const}
 use Rattle.sums.specs.Lists.{All, Pairwise}
 use Rattle.order.specs.Order.{Order, processorCount, jobCount, Numbers, jobOf}
 use Rattle.order.specs.Deadline.{deadlineOf}
-use Rattle.plan.specs.Plan.{Row, Right}
+use Rattle.plan.specs.Plan.{Row, Forward, Right}
+use Rattle.plan.specs.RuleLaws.{forwards}
 use Rattle.plan.specs.Join.{joined}
-use Rattle.plan.specs.JoinLaws.{Forward, joined-count}
-use Rattle.plan.specs.JoinRight.{forwards, joined-right}
-use Rattle.plan.specs.JoinAgain.{Rises, Ends, joined-ends, joined-again}
+use Rattle.plan.specs.JoinLaws.{joined-count}
+use Rattle.plan.specs.JoinRight.{joined-right}
+use Rattle.plan.specs.JoinAgain.{Rises, Separate, joined-separate, joined-again}
 use Rattle.wrap.specs.Stretches.{stretchCount, mark, FeasibleFor}
 use Rattle.wrap.specs.Marks.{mark-up, mark-rises}
 use Rattle.wrap.specs.DuePlaces.{mark-met}
@@ -45,8 +46,8 @@ module _ (o : Order) (bound : ℤ) (a : ℕ → ℕ → ℕ) where
     pub joined-plan : Right o bound (joined rows)
     joined-plan = joined-right 1 o bound rows (layout-right o bound a F)
 
-    pub plan-ends : Pairwise (λ (r s : Row). Ends r s × Ends s r) (joined rows)
-    plan-ends = joined-ends rows rows-forward rows-rise
+    pub plan-separate : Pairwise (λ (r s : Row). Separate r s × Separate s r) (joined rows)
+    plan-separate = joined-separate rows rows-forward rows-rise
 
     pub plan-again : joined (joined rows) ≡ joined rows
     plan-again = joined-again rows rows-forward rows-rise
