@@ -1,5 +1,5 @@
 -- What a call's answer says of every plan: the least lateness answered is least, a 10 means that there is no right plan, a reason
--- is told exactly where there is none, and the check answers 1 exactly for right plans. And a call has one outcome.
+-- is told exactly where there is none, and the check answers 1 exactly for right plans. Rows are joined, and a call has one outcome.
 use Prim.Native.Nat.{ℕ, _+_, _/_, _≤_}
 use mathlib.Core.Path.{_≡_, refl, sym, ap, _∙_}
 use mathlib.Core.Bool.{Bool, true, false, cond}
@@ -41,6 +41,7 @@ use Rattle.planner.specs.Rows.{rowsAsked, bufferRow, isFound, leastRows, earlie
 use Rattle.planner.specs.Demand.{Demand3}
 use Rattle.planner.specs.DemandMet.{tight-refused, not-found, demand-3}
 use Rattle.planner.specs.WrittenOne.{written-one}
+use Rattle.planner.specs.JoinedPlan.{JoinedPlan, plan-joined}
 use Rattle.highboyrobin.specs.Results.{answerRow, fileCall}
 use Rattle.highboyrobin.specs.Calls.{leastCall, planCall, PlanBy, reasonCall, reasonNumbers, reasonAnswer, checkCall, checkAnswer}
 
@@ -75,6 +76,12 @@ plan-by-one accepted o bound first rows rows′ rows″ answer answer′ answer�
       P .answered ∙ ap (λ (n : ℕ). (first ++ (pos n ∷ [])) ++ drop (length first + 1) answer) (same .1) ∙ sym (Q .answered),
     )
 plan-by-one (refused number job) o bound first rows rows′ rows″ answer answer′ answer″ P Q = (P .0 ∙ sym (Q .0), P .1 ∙ sym (Q .1))
+
+-- the rows that hbr_least and hbr_plan leave are joined: none begins where another of its job on its processor ends
+pub plan-by-joined : (o : Order) (bound : ℤ) (first : List ℤ) (rows rows′ : List ℕ) (answer answer′ : List ℤ)
+    (P : PlanBy accepted o bound first rows rows′ answer answer′) →
+    JoinedPlan o bound (P .written .plan-of .amounts) (P .written .plan)
+plan-by-joined o bound first rows rows′ answer answer′ P = plan-joined o bound (P .written .plan) (P .written .plan-of)
 
 -- a reason is nineteen numbers
 pub numbers-count : (o : Order) (r : Found Reason) → length (reasonNumbers o r) ≡ 19

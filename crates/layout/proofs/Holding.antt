@@ -146,13 +146,13 @@ module _ (x : Row) (some : 1 ≤ x .job) where
                 ]
           ]
 
-  -- and else no row goes on as it
-  join-none : (rows : List Row) → All Forward rows → Pairwise Rises rows → endsWith rows (x .from) (x .processor) ≢ x .job →
-      joinRow rows x ≡ rows ++ (x ∷ [])
-  join-none rows f h ne =
-      row-behind rows x
-      (in-All (λ (r : Row). Separate r x) rows (λ (r : Row) i g.
-      ne (rw (sym (g .1), sym (g .2)) (ends-is rows f h r i) ∙ g .0)))
+-- and else no row goes on as it
+join-none : (x : Row) (rows : List Row) → All Forward rows → Pairwise Rises rows →
+    endsWith rows (x .from) (x .processor) ≢ x .job → joinRow rows x ≡ rows ++ (x ∷ [])
+join-none x rows f h ne =
+    row-behind rows x
+    (in-All (λ (r : Row). Separate r x) rows (λ (r : Row) i g.
+    ne (rw (sym (g .1), sym (g .2)) (ends-is rows f h r i) ∙ g .0)))
 
 module _ {lent : List ℕ} {rows : List Row} {s : Sheet} (holds : Holds lent rows s) where
   -- the number of a processor's last row
@@ -239,7 +239,7 @@ module _ {lent : List ℕ} {rows : List Row} {s : Sheet} (holds : Holds lent row
               let k = join-last x some rows f h b e in
               rw (k .3, added-longer s x (told ∙ e)) (longer-holds (k .0) (k .1) (last-at (x .processor) n ∙ k .2))
           | no ne ↦
-              rw (join-none x some rows f h ne, added-behind s x (λ e. ne (sym told ∙ e))) (behind-holds n room)
+              rw (join-none x rows f h ne, added-behind s x (λ e. ne (sym told ∙ e))) (behind-holds n room)
         ]
 
 -- the buffer has its length

@@ -1,7 +1,7 @@
 -- Laws of the job that a processor ends or begins with at a minute: where its rows rise, there is one row that does.
-use Prim.Native.Nat.{ℕ, _≤_}
+use Prim.Native.Nat.{ℕ, _≤_, _<_}
 use mathlib.Core.Path.{_≡_, refl, sym, ap, _∙_}
-use mathlib.Core.Bool.{Bool, true, false, true≢false}
+use mathlib.Core.Bool.{Bool, true, false, true≢false, _&&_}
 use mathlib.Core.List.{List, [], _∷_}
 use mathlib.Core.Logic.{inl, inr}
 use native.Mathlib.Omega.{arith}
@@ -47,48 +47,49 @@ module _ (test : Row → Bool) where
   where-none [] h = refl
   where-none (x ∷ rows) h = rw (h .0) (where-none rows (h .1))
 
--- the tests
-pub ends-at-true : (minute processor : ℕ) (r : Row) → endsAt minute processor r ≡ true → (r .processor ≡ processor) × (r .to ≡ minute)
-ends-at-true minute processor r e =
-    let h = both-true (eqb (r .processor) processor) _ e in (eqb-true _ _ (h .0), eqb-true _ _ (h .1))
+-- a row's edge, where it ends or where it begins, at a minute on a processor
+module _ (edge : Row → ℕ) where
+  abbrev met : (minute processor : ℕ) → Row → Bool
+  met minute processor r = eqb (r .processor) processor && eqb (edge r) minute
 
-pub ends-at : (r : Row) → endsAt (r .to) (r .processor) r ≡ true
-ends-at r = rw (eq-eqb (r .processor) (r .processor) refl, eq-eqb (r .to) (r .to) refl) refl
+  met-true : (minute processor : ℕ) (r : Row) → met minute processor r ≡ true → (r .processor ≡ processor) × (edge r ≡ minute)
+  met-true minute processor r e =
+      let h = both-true (eqb (r .processor) processor) _ e in (eqb-true _ _ (h .0), eqb-true _ _ (h .1))
+
+  met-own : (r : Row) → met (edge r) (r .processor) r ≡ true
+  met-own r = rw (eq-eqb (r .processor) (r .processor) refl, eq-eqb (edge r) (edge r) refl) refl
+
+  -- where the rows of a processor rise, and their edges with them, one row has its edge at a minute
+  module _ (rises : (r s : Row) → Forward r → Forward s → r .to ≤ s .from → edge r < edge s) (rows : List Row)
+      (f : All Forward rows) (h : Pairwise Rises rows) (r : Row) (i : In r rows) where
+    same-job : (t : Row) → In t rows → t .processor ≡ r .processor → edge t ≡ edge r → t .job ≡ r .job
+    same-job t k p e =
+        let m = All-in Forward rows f r i in
+        let n = All-in Forward rows f t k in
+        elim (pairs-in Rises rows h r t i k) [
+          | inl g ↦ ap (λ (x : Row). x .job) (sym g)
+          | inr g ↦ elim g [
+            | inl w ↦ absurd (omega (arith, rises r t m n (w (sym p))))
+            | inr w ↦ absurd (omega (arith, rises t r n m (w p)))
+          ]
+        ]
+
+    edge-is : jobWhere (met (edge r) (r .processor)) rows ≡ r .job
+    edge-is =
+        where-is (met (edge r) (r .processor)) rows (r .job) r i (met-own r)
+        (λ t k e. let g = met-true (edge r) (r .processor) t e in same-job t k (g .0) (g .1))
+
+-- so of ends and of beginnings
+pub ends-at-true : (minute processor : ℕ) (r : Row) → endsAt minute processor r ≡ true → (r .processor ≡ processor) × (r .to ≡ minute)
+ends-at-true minute processor r e = met-true (λ (r : Row). r .to) minute processor r e
 
 pub begins-at-true : (minute processor : ℕ) (r : Row) → beginsAt minute processor r ≡ true →
     (r .processor ≡ processor) × (r .from ≡ minute)
-begins-at-true minute processor r e =
-    let h = both-true (eqb (r .processor) processor) _ e in (eqb-true _ _ (h .0), eqb-true _ _ (h .1))
+begins-at-true minute processor r e = met-true (λ (r : Row). r .from) minute processor r e
 
-begins-at : (r : Row) → beginsAt (r .from) (r .processor) r ≡ true
-begins-at r = rw (eq-eqb (r .processor) (r .processor) refl, eq-eqb (r .from) (r .from) refl) refl
-
--- where the rows of a processor rise, one of them ends at a minute, and one begins there
 module _ (rows : List Row) (f : All Forward rows) (h : Pairwise Rises rows) (r : Row) (i : In r rows) where
-  same-end : (t : Row) → In t rows → t .processor ≡ r .processor → t .to ≡ r .to → t .job ≡ r .job
-  same-end t k p e =
-      let m = All-in Forward rows f r i in
-      let n = All-in Forward rows f t k in
-      elim (pairs-in Rises rows h r t i k) [
-        | inl g ↦ ap (λ (x : Row). x .job) (sym g)
-        | inr g ↦ elim g [ inl w ↦ absurd (omega (arith, w (sym p))) | inr w ↦ absurd (omega (arith, w p)) ]
-      ]
-
-  same-beginning : (t : Row) → In t rows → t .processor ≡ r .processor → t .from ≡ r .from → t .job ≡ r .job
-  same-beginning t k p e =
-      let m = All-in Forward rows f r i in
-      let n = All-in Forward rows f t k in
-      elim (pairs-in Rises rows h r t i k) [
-        | inl g ↦ ap (λ (x : Row). x .job) (sym g)
-        | inr g ↦ elim g [ inl w ↦ absurd (omega (arith, w (sym p))) | inr w ↦ absurd (omega (arith, w p)) ]
-      ]
-
   pub ends-is : endsWith rows (r .to) (r .processor) ≡ r .job
-  ends-is =
-      where-is (endsAt (r .to) (r .processor)) rows (r .job) r i (ends-at r)
-      (λ t k e. let g = ends-at-true (r .to) (r .processor) t e in same-end t k (g .0) (g .1))
+  ends-is = edge-is (λ (r : Row). r .to) (λ r s k l m. omega arith) rows f h r i
 
   pub begins-is : jobWhere (beginsAt (r .from) (r .processor)) rows ≡ r .job
-  begins-is =
-      where-is (beginsAt (r .from) (r .processor)) rows (r .job) r i (begins-at r)
-      (λ t k e. let g = begins-at-true (r .from) (r .processor) t e in same-beginning t k (g .0) (g .1))
+  begins-is = edge-is (λ (r : Row). r .from) (λ r s k l m. omega arith) rows f h r i

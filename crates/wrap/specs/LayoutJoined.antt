@@ -31,7 +31,7 @@ module _ (o : Order) (bound : ℤ) (a : ℕ → ℕ → ℕ) where
   abbrev rows : List Row
   rows = layout o bound a
 
-  -- "Row counts never grow"
+  -- so many rows as the planner asks for are enough
   pub joined-few : length (joined rows) ≤ stretchCount o * (jobCount o + processorCount o - 1)
   joined-few = omega (arith, joined-count rows, layout-count o bound a)
 
