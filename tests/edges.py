@@ -35,8 +35,8 @@ def files(longest):
 
 def tries(longest, broken):
     """Files to try each bound at: good ones, bad ones, and orders that are refused."""
-    good = orders.order((4,), ((3, 10, 4),))
+    good = (orders.order((4,), ((3, due, 4),)) for due in (orders.DUE_LEAST, 10, orders.DUE_MOST))
     refused = (orders.order((), ((1, 1, 0),)), orders.order((4,), ()), orders.order((4,), ((0, 5, 1),)),
                orders.order((4,), ((1, 1000001, 1),)), orders.order((8,), ((1, 5, 9),)))
-    yield from (order_file.encode(order) for order in (good, *refused))
+    yield from (order_file.encode(order) for order in (*good, *refused))
     yield from (longest, broken, b"", bytes(11), bytes(12), longest + b"\0")

@@ -2,7 +2,7 @@
 
 Document 01, "Errors that a planner of this kind invites", names many of these;
 document 02's sentences of the reason give those of its lines, those of fewer
-hand-overs those of joined rows.
+hand-overs those of joined rows, those of the due minute those of ends.
 Each variant replaces one name of one module while one test runs.
 
     broken.py          runs all variants; exits 1 if one of them is not caught
@@ -12,6 +12,7 @@ import fractions
 import math
 import re
 import sys
+import types
 import unittest
 from collections import namedtuple
 
@@ -34,6 +35,10 @@ import wrap
 # What is broken, where, by what, and the test that catches it.
 Variant = namedtuple("Variant", "story module name replacement test")
 
+WORKED = "test_least.Least.test_worked"
+BY_SEARCH = "test_least.Least.test_by_search_over_all_plans"
+IN_REACH = "test_least.Least.test_all_whole_numbers_in_reach"
+
 right_least = least.least
 right_plan = wrap.plan
 right_refusal = orders.refusal
@@ -42,13 +47,16 @@ right_add = flow.Network.add
 right_staircases = reason.staircases
 right_class_of = reason.class_of
 right_runs = search.runs_together
+right_stretch_ends = flow.stretch_ends
 
 
 def exact_least(order):
-    """The least lateness as a fraction: in parts so small that it is whole."""
+    """The least lateness as a fraction: in parts so small that it is whole. The
+    ends at 0 are the same, counted in parts."""
     parts = math.lcm(*range(1, order.m + 1))
     fine = orders.order(order.memories, [
-        (parts * job.time, parts * job.due, job.need) for job in order.jobs])
+        (parts * job.time, orders.due_at(orders.end(job, 0, parts), 0), job.need)
+        for job in order.jobs])
     return fractions.Fraction(least.by_halving(fine, flow.meets), parts)
 
 
@@ -65,28 +73,21 @@ def rounded_toward_zero(order):
 
 LATENESS = [
     Variant("least lateness one too large", least, "least",
-            lambda order: right_least(order) + 1,
-            "test_least.Least.test_document_01"),
+            lambda order: right_least(order) + 1, WORKED),
     Variant("least lateness one too small", least, "least",
-            lambda order: right_least(order) - 1,
-            "test_least.Least.test_document_01"),
+            lambda order: right_least(order) - 1, WORKED),
     Variant("least lateness one too large, by search", least, "least",
-            lambda order: right_least(order) + 1,
-            "test_least.Least.test_by_search_over_all_plans"),
+            lambda order: right_least(order) + 1, BY_SEARCH),
     Variant("least lateness one too small, by search", least, "least",
-            lambda order: right_least(order) - 1,
-            "test_least.Least.test_by_search_over_all_plans"),
-    Variant("one fixed lateness", least, "least", lambda order: 1,
-            "test_least.Least.test_document_01"),
-    Variant("rounded down below zero: D gives -3", least, "least",
-            rounded_away_from_zero, "test_least.Least.test_document_01"),
-    Variant("rounded toward zero above zero: A gives 0", least, "least",
-            rounded_toward_zero, "test_least.Least.test_document_01"),
+            lambda order: right_least(order) - 1, BY_SEARCH),
+    Variant("one fixed lateness", least, "least", lambda order: 0, WORKED),
+    Variant("rounded down below zero: D gives -4", least, "least",
+            rounded_away_from_zero, WORKED),
+    Variant("rounded toward zero above zero", least, "least", rounded_toward_zero,
+            "test_least.Least.test_fractions_are_rounded_up"),
     Variant("never below zero", least, "least",
-            lambda order: max(0, right_least(order)),
-            "test_least.Least.test_document_01"),
-    Variant("the time of each job alone, no load", least, "least", least.floor,
-            "test_least.Least.test_document_01"),
+            lambda order: max(0, right_least(order)), WORKED),
+    Variant("the time of each job alone, no load", least, "least", least.floor, WORKED),
 ]
 
 
@@ -134,32 +135,31 @@ ONE_COMMON = "staircases at one common time for all classes"
 
 REASONS = [
     Variant(ONE_COMMON, reason, "never_rising", common_times,
-            "test_reason.Reasons.test_document_01"),
+            "test_reason.Reasons.test_documents"),
     Variant(ONE_COMMON + ", against the search", reason, "never_rising",
-            common_times, "test_least.Least.test_all_whole_numbers_in_reach"),
+            common_times, IN_REACH),
     Variant("ranking: the latest time first", reason, "never_rising", latest_first,
             "test_reason.Reasons.test_ranking"),
     Variant("ranking: the last class before class 1", reason, "never_rising",
             last_class_first, "test_reason.Reasons.test_ranking"),
     Variant("ranking: the most classes first", reason, "staircases",
             most_classes_first, "test_reason.Reasons.test_ranking"),
-    Variant("times that rise", reason, "never_rising", rising_too,
-            "test_least.Least.test_all_whole_numbers_in_reach"),
+    Variant("times that rise", reason, "never_rising", rising_too, IN_REACH),
     Variant("need 0 in no class", reason, "class_of", need_0_in_no_class,
             "test_reason.Reasons.test_need_0"),
     Variant("the first class in place of the last", reason, "class_of",
             lambda order, job: 0, "test_reason.Reasons.test_classes"),
     Variant("all classes owe, not the first k", reason, "sums", all_classes_owe,
-            "test_least.Least.test_all_whole_numbers_in_reach"),
+            IN_REACH),
     Variant("owed below 0", reason, "owed",
-            lambda job, bound, time: job.time - max(0, job.due + bound - time),
+            lambda job, bound, time: job.time - max(0, orders.end(job, bound) - time),
             "test_reason.Reasons.test_owed"),
     Variant("owed: the whole time only", reason, "owed",
-            lambda job, bound, time: job.time if job.due + bound <= time else 0,
+            lambda job, bound, time: job.time * (orders.end(job, bound) <= time),
             "test_reason.Reasons.test_owed"),
     Variant("the last late job", reason, "first_late_job",
             lambda order, bound: max((number for number, job in enumerate(
-                order.jobs, 1) if job.time > job.due + bound), default=None),
+                order.jobs, 1) if job.time > orders.end(job, bound)), default=None),
             "test_reason.Reasons.test_first_job"),
     Variant("larger orders: each class's time by itself", reason_large, "best_from",
             lambda gains, k: gains[:k],
@@ -264,18 +264,15 @@ PLANS = [
     Variant("a check without overlaps", plan_rules, "RULES",
             without(plan_rules.no_overlap), "test_plan_rules.Rules.test_overlaps"),
     Variant("touching taken for overlap", plan_rules, "overlap", touching_overlaps,
-            "test_plan_rules.Rules.test_document_01"),
+            "test_plan_rules.Rules.test_documents"),
     Variant("a check that always says no", plan_rules, "broken_rule",
             lambda order, bound, rows, parts=1: "no",
-            "test_plan_rules.Rules.test_document_01"),
+            "test_plan_rules.Rules.test_documents"),
     Variant("a check without the fit", orders, "fits", lambda job, memory: True,
             "test_plan_rules.Rules.test_fit"),
     Variant("a fit that wants more than the need", orders, "fits",
             lambda job, memory: memory > job.need,
-            "test_plan_rules.Rules.test_document_01"),
-    Variant("an end one minute later", orders, "end",
-            lambda job, bound: job.due + bound + 1,
-            "test_plan_rules.Rules.test_cell_by_cell"),
+            "test_plan_rules.Rules.test_documents"),
     Variant("numbers left over forgotten in the check", plan_check, "rows",
             lambda numbers: [tuple(numbers[i:i + 4])
                              for i in range(0, len(numbers) - 3, 4)],
@@ -580,15 +577,14 @@ def on_any_processor(order):
 
 SEARCHES = [
     Variant("a flow without the larger memories", flow.Network, "add",
-            no_larger_memory, "test_least.Least.test_by_search_over_all_plans"),
+            no_larger_memory, BY_SEARCH),
     Variant("a flow in stretches of one part", flow, "stretch_ends",
-            lambda order, bound, parts: sorted(
-                {job.due + bound for job in order.jobs if job.due + bound > 0}),
+            lambda order, bound, parts: right_stretch_ends(order, bound, 1),
             "test_least.Parts.test_parts_by_flow"),
     Variant("a search with one job a minute", search, "runs_together",
-            one_job_a_minute, "test_least.Least.test_by_search_over_all_plans"),
+            one_job_a_minute, BY_SEARCH),
     Variant("a search on any processor", search, "runs_together",
-            on_any_processor, "test_least.Least.test_by_search_over_all_plans"),
+            on_any_processor, BY_SEARCH),
 ]
 
 
@@ -631,10 +627,11 @@ FILES = [
 def ends_for_dues(order, bound, why):
     if why.kind == "job":
         return right_line(order, bound, why)
+    # At -1 a job's end is its due time.
     shifted = orders.order(order.memories, [
-        job._replace(due=job.due + bound) for job in order.jobs])
-    ends = tuple(due + bound for due in why.values)
-    return right_line(shifted, 0, reason.Reason("stairs", ends))
+        job._replace(due=orders.end(job, bound)) for job in order.jobs])
+    ends = tuple(orders.end_at(due, bound) for due in why.values)
+    return right_line(shifted, -1, reason.Reason("stairs", ends))
 
 
 def memories_in_input_order(order, bound, why):
@@ -649,7 +646,7 @@ def staircases_with_a_late_job(order, bound, why):
     if why.kind == "job":
         return right_stands(order, bound, why)
     return sentence.is_staircase(order, why.values) and reason.overfull(
-        order, bound, [due + bound for due in why.values])
+        order, bound, [orders.end_at(due, bound) for due in why.values])
 
 
 def any_dues_beside_a_job(order, given):
@@ -711,7 +708,7 @@ def before_the_sums(text, data):
 def standing_or_not(order, bound, data):
     """Every job and every staircase."""
     return [reason.Reason("job", number) for number in range(1, order.n + 1)] + [
-        reason.Reason("stairs", tuple(time - bound for time in staircase))
+        reason.Reason("stairs", tuple(orders.due_at(time, bound) for time in staircase))
         for staircase in reason.staircases(order, bound)]
 
 
@@ -814,22 +811,113 @@ SENTENCES = [
             the_last_reason, "test_answers.Answers.test_try_bound"),
 ]
 
+# The module of orders with document 01's ends: the due minute is left out.
+NO_DUE_MINUTE = types.SimpleNamespace(**{
+    **vars(orders),
+    "end_at": lambda due, bound: due + bound,
+    "due_at": lambda end, bound: end - bound,
+    "end": lambda job, bound, parts=1: parts * (job.due + bound)})
+
+
+def a_part_for_a_minute(job, bound, parts=1):
+    return parts * (job.due + bound) + 1
+
+
+def end_told_a_minute_early(order, bound, why):
+    """The line of a job; its minutes on hand are right."""
+    end = re.compile("(?<=end )-?[0-9]+")
+    return end.sub(lambda found: str(int(found[0]) - 1), right_line(order, bound, why))
+
+
+def dues_told_a_minute_late(order, bound, why):
+    due = re.compile("(?<=due )-?[0-9]+")
+    return due.sub(lambda found: str(int(found[0]) + 1), right_line(order, bound, why))
+
+
+def on_hand_a_minute_early(kind):
+    """Minutes owed, and on hand by document 01's end, for one kind of reason."""
+    def on_hand(order, bound, why):
+        owed, hand = right_on_hand(order, bound, why)
+        if why.kind == kind:
+            hand = right_on_hand(order, bound - 1, why)[1]
+        return owed, hand
+    return on_hand
+
+
+right_owed = reason.owed
+right_first_late_job = reason.first_late_job
+right_bound_in_range = orders.bound_in_range
+CELLS = "test_plan_rules.Rules.test_cell_by_cell"
+
+ENDS = [
+    Variant("an end one minute earlier", orders, "end_at",
+            lambda due, bound: due + bound, CELLS),
+    Variant("an end one minute later", orders, "end_at",
+            lambda due, bound: due + bound + 2, CELLS),
+    Variant("leasts from an end one minute earlier", orders, "end_at",
+            lambda due, bound: due + bound, WORKED),
+    Variant("leasts from an end one minute later", orders, "end_at",
+            lambda due, bound: due + bound + 2, WORKED),
+    Variant("in parts, one part added in place of one minute", orders, "end",
+            a_part_for_a_minute, "test_plan_rules.Rules.test_parts"),
+    Variant("in parts, one part added in place of one minute, by search", orders,
+            "end", a_part_for_a_minute, "test_least.Parts.test_halves"),
+    Variant("in parts, one part added in place of one minute, by flow", orders, "end",
+            a_part_for_a_minute, "test_least.Parts.test_parts_by_flow"),
+    Variant("a check without the due minute", plan_rules, "orders", NO_DUE_MINUTE,
+            "test_plan_rules.Rules.test_due_minute_is_included"),
+    Variant("staircases without the due minute", reason, "orders", NO_DUE_MINUTE,
+            IN_REACH),
+    Variant("staircases of larger orders without the due minute", reason_large,
+            "orders", NO_DUE_MINUTE, "test_reason.Reasons.test_large_is_the_same"),
+    Variant("a flow without the due minute", flow, "orders", NO_DUE_MINUTE, BY_SEARCH),
+    Variant("a search without the due minute", search, "orders", NO_DUE_MINUTE,
+            BY_SEARCH),
+    Variant("stretches without the due minute", wrap, "orders", NO_DUE_MINUTE,
+            "test_judge.Wrap.test_stretches"),
+    Variant("the least counted from ends without the due minute", least, "orders",
+            NO_DUE_MINUTE, WORKED),
+    Variant("minutes owed without the due minute", reason, "owed",
+            lambda job, bound, time: right_owed(job, bound - 1, time),
+            "test_reason.Reasons.test_owed"),
+    Variant("a job late that ends with its due minute", reason, "first_late_job",
+            lambda order, bound: right_first_late_job(order, bound - 1), IN_REACH),
+    Variant("due times of a staircase one minute late", orders, "due_at",
+            lambda end, bound: end - bound, "test_reason.Reasons.test_documents"),
+    Variant("a line tells a job's end without the due minute", sentence, "line",
+            end_told_a_minute_early, LINES),
+    Variant("a line tells due times one minute late", sentence, "line",
+            dues_told_a_minute_late, LINES),
+    Variant("a job's minutes on hand without the due minute", reason, "on_hand",
+            on_hand_a_minute_early("job"), LINES),
+    Variant("a staircase's minutes on hand without the due minute", reason, "on_hand",
+            on_hand_a_minute_early("stairs"), LINES),
+    Variant("a reason handed in judged without the due minute", sentence, "stands",
+            lambda order, bound, why: right_stands(order, bound - 1, why), ELSE),
+    Variant("the range of a bound one lower", orders, "bound_in_range",
+            lambda bound: right_bound_in_range(bound + 1),
+            "test_orders.Refusals.test_bound"),
+    Variant("due times up to 999,999", orders, "DUE_MOST", 999999,
+            "test_orders.Refusals.test_accepted"),
+]
+
 VARIANTS = (LATENESS + REASONS + REFUSALS + PLANS + LAYOUTS + JOININGS + SEARCHES
-            + FILES + SENTENCES)
+            + FILES + SENTENCES + ENDS)
 
 
 def caught(variant):
-    """Does the test fail while the part is broken?"""
+    """Does the test fail while the part is broken? One that is not there does not."""
     right = getattr(variant.module, variant.name)
     setattr(variant.module, variant.name, variant.replacement)
     try:
-        suite = unittest.defaultTestLoader.loadTestsFromName(variant.test)
+        loader = unittest.TestLoader()
+        suite = loader.loadTestsFromName(variant.test)
         result = unittest.TestResult()
         result.failfast = True
         suite.run(result)
     finally:
         setattr(variant.module, variant.name, right)
-    return result.testsRun == 1 and not result.wasSuccessful()
+    return not loader.errors and result.testsRun == 1 and not result.wasSuccessful()
 
 
 def main():

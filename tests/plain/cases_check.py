@@ -29,26 +29,26 @@ def case(story, order, bound, lent):
 
 def of_document():
     c = known_orders.C
-    yield case("● C at 0, rows 0-1 and 1-3", c, 0, numbers(C_ROWS))
-    yield case("● C at 0, rows 0-2 and 1-2", c, 0,
+    yield case("● C at -1, rows 0-1 and 1-3", c, -1, numbers(C_ROWS))
+    yield case("● C at -1, rows 0-2 and 1-2", c, -1,
                numbers([(1, 1, 0, 2), (1, 1, 1, 2)]))
     for story, order, number, _ in known_orders.REFUSED + known_orders.REFUSED_COUNTS:
         if len(order.jobs) < 48 or number == 4 or "last" in story:
-            yield case(story, order, 0, [1, 1, 0, 1])
+            yield case(story, order, -1, [1, 1, 0, 1])
     for bound in (10000001, -10000001, 2147483647, -2147483648):
         yield case(f"bound {bound}", c, bound, numbers(C_ROWS))
         yield case(f"7 precedes 8: bound {bound}",
                    orders.order([8], [known_orders.BAD_NEED]), bound, [])
-    for bound in (10000000, -10000000, -7, -8, -10, -11):
+    for bound in (10000000, -10000000, -8, -9, -11, -12):
         yield case(f"C at {bound}, rows 0-1 and 1-3", c, bound, numbers(C_ROWS))
     for story, order in known_orders.LIMITS:
         if order.n == 1:
             time = order.jobs[0].time
-            yield case(f"one row, {story}", order, 1000000 + time,
+            yield case(f"one row, {story}", order, 999999 + time,
                        [1, order.m, 0, time])
 
 
-def one_job(story, *rows, bound=0, over=()):
+def one_job(story, *rows, bound=-1, over=()):
     """C (memory 4, job (3, 10, 4)) with these rows, numbers left over."""
     return case(f"C at {bound}, {story}", known_orders.C, bound,
                 numbers(rows) + list(over))
@@ -59,6 +59,8 @@ def malformed():
     yield one_job("the whole job in one row", good)
     yield one_job("the latest row", (1, 1, 7, 10))
     yield one_job("one minute late", (1, 1, 8, 11))
+    yield one_job("the due minute is the last", (1, 1, 8, 11), bound=0)
+    yield one_job("the minute after the due minute", (1, 1, 9, 12), bound=0)
     yield one_job("no rows")
     for count in (1, 2, 3):
         yield one_job(f"{count} numbers left over", good, over=[1, 1, 3][:count])
@@ -84,7 +86,7 @@ def malformed():
 def two_processors():
     fit = orders.order([8, 4], [(1, 9, 5)])
     for processor in (1, 2):
-        yield case(f"need 5 on processor {processor} of memories 8, 4", fit, 0,
+        yield case(f"need 5 on processor {processor} of memories 8, 4", fit, -1,
                    [1, processor, 0, 1])
     two = orders.order([4, 4], [(2, 9, 4), (2, 9, 4)])
     for story, rows in (
@@ -100,7 +102,7 @@ def two_processors():
             ("the minutes of both jobs in one", [(1, 1, 0, 4)]),
             ("too much for one, too little for the other",
              [(1, 1, 0, 3), (2, 2, 0, 1)])):
-        yield case(f"two jobs, {story}", two, 0, numbers(rows))
+        yield case(f"two jobs, {story}", two, -1, numbers(rows))
 
 
 def full_size():
@@ -114,10 +116,10 @@ def full_size():
 
 
 def ends():
-    for due, bound in ((-5, 0), (-5, 5), (-5, 6), (0, 0), (0, 1), (-5, 7),
-                       (-1000000, -10000000), (1000000, 10000000), (-3, 3)):
+    for due, bound in ((-5, -1), (-5, 4), (-5, 5), (0, -1), (0, 0), (-5, 6),
+                       (-1000000, -10000000), (1000000, 10000000), (-3, 2)):
         order = orders.order([1], [(1, due, 1)])
-        end = due + bound
+        end = orders.end_at(due, bound)
         for to in (0, 1, 2, end, end + 1):
             if 0 <= to:
                 yield case(f"end {end}, row to {to}", order, bound,
@@ -134,11 +136,11 @@ def large():
     long = orders.order([4], [(3024, 3024, 4)])
     minutes = [(1, 1, t, t + 1) for t in range(3025)]
     of = draw.Draw(503)
-    yield case("3,024 rows in any order", long, 0,
+    yield case("3,024 rows in any order", long, -1,
                numbers(of.shuffled(minutes[:3024])))
-    yield case("3,025 rows", orders.order([4], [(3025, 3025, 4)]), 0,
+    yield case("3,025 rows", orders.order([4], [(3025, 3025, 4)]), -1,
                numbers(minutes))
-    yield case("3,024 rows and 1 number left over", long, 0,
+    yield case("3,024 rows and 1 number left over", long, -1,
                numbers(minutes[:3024]) + [1])
     yield case("8 precedes 11: 3,026 rows", known_orders.C, 10000001,
                numbers(minutes) + [1, 1, 0, 1])

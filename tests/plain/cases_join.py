@@ -2,7 +2,7 @@
 
 Document 02, §2: "Row counts never grow; the buffer asked for stays q × (n + m - 1)
 rows. Joined plans are still right plans". The amounts of these orders are forced
-at 0, and with them the rows. Each case is (what it shows, record).
+at -1, and with them the rows. Each case is (what it shows, record).
 """
 
 import known_orders
@@ -13,16 +13,16 @@ from cases_planner import least_case, plan_case
 def planned(story, order, rows):
     """A buffer for the rows that are written is too short."""
     yield least_case(story, order)
-    yield plan_case(story, order, 0)
-    yield plan_case(f"{story}, as many rows as are written", order, 0, 4 * len(rows))
+    yield plan_case(story, order, -1)
+    yield plan_case(f"{story}, as many rows as are written", order, -1, 4 * len(rows))
 
 
 def checked(story, order, parts, rows):
     laid = sum(parts, [])
-    yield case(f"{story}, joined", order, 0, numbers(rows))
+    yield case(f"{story}, joined", order, -1, numbers(rows))
     if laid != rows:
-        yield case(f"{story}, not joined", order, 0, numbers(laid))
-    yield case(f"{story}, a part of the last stretch once more", order, 0,
+        yield case(f"{story}, not joined", order, -1, numbers(laid))
+    yield case(f"{story}, a part of the last stretch once more", order, -1,
                numbers(rows + parts[-1][:1]))
 
 

@@ -23,7 +23,7 @@ from stream_form import Record
 BYTES_MOST = 700
 WORD = 4294967296
 NONE = Handed(0, 0, 0, (0,) * sentence.DUES)
-# A at 0, B at 0, C at -8.
+# A at -1, B at -1, C at -9.
 OF_A, OF_B, OF_C = Reason("stairs", (3, 3)), Reason("stairs", (4, 2)), Reason("job", 1)
 
 
@@ -75,25 +75,25 @@ def there_and_back(story, order, bound):
 
 
 def of_document():
-    for name, order, bound in (("● A", A, 0), ("● B", B, 0), ("● C", C, -8)):
+    for name, order, bound in (("● A", A, -1), ("● B", B, -1), ("● C", C, -9)):
         yield from there_and_back(name, order, bound)
-    for bound in (-20, -10, -11, -12, -19, -109, -110, -10000000):
+    for bound in (-21, -11, -12, -13, -20, -110, -111, -10000000):
         yield from there_and_back("C", C, bound)
     for order in (known_orders.DUE_MINUS_5, known_orders.NEED_0):
-        for bound in (0, -1, -10000000):
+        for bound in (-1, -2, -10000000):
             yield from there_and_back("one job", order, bound)
-    yield from there_and_back("several jobs over their ends", SEVERAL_LATE, 0)
-    yield from there_and_back("four overfull staircases", FOUR_STAIRS, 0)
+    yield from there_and_back("several jobs over their ends", SEVERAL_LATE, -1)
+    yield from there_and_back("four overfull staircases", FOUR_STAIRS, -1)
 
 
 def rooms():
-    for name, order, bound in (("A", A, 0), ("B", B, 0), ("C", C, -8), ("C", C, -20)):
+    for name, order, bound in (("A", A, -1), ("B", B, -1), ("C", C, -9), ("C", C, -21)):
         given = sentence.handed(order, sentence.standing(order, bound)[0])
         length = len(sentence.composed(order, bound, given))
         for room in (0, 1, length - 1, length + 1, BYTES_MOST):
             yield compose_case(name, order, bound, given, room)
-    for name, order, bound, given in (("C", C, -7, job(1, 3)), ("C", C, -8, NONE),
-                                      ("B", B, 0, stairs(4, 4)), ("B", B, 0, NONE)):
+    for name, order, bound, given in (("C", C, -8, job(1, 3)), ("C", C, -9, NONE),
+                                      ("B", B, -1, stairs(4, 4)), ("B", B, -1, NONE)):
         for room in (0, 1, BYTES_MOST):
             yield compose_case(f"no line, so no 9: {name}", order, bound, given, room)
 
@@ -113,8 +113,8 @@ def refused():
             yield parse_case(f"{number} before 8: {story}", order, -10000001,
                              b"job 1: time 1, end 0: owed 1, on hand 0")
         if of_table and number != 4:
-            yield compose_case(story, order, 0, NONE, BYTES_MOST)
-            yield parse_case(story, order, 0, b"")
+            yield compose_case(story, order, -1, NONE, BYTES_MOST)
+            yield parse_case(story, order, -1, b"")
     for bound in (10000001, -10000001, 2147483647, -2147483648):
         for given in (job(1, 3), NONE):
             yield compose_case("8 before 9: C", C, bound, given, 0)
@@ -152,37 +152,37 @@ DUE_BELOW_0 = orders.order([8, 4], [(2, -3, 8), (1, -4, 8), (1, -4, 4)])
 
 
 def changed_reasons():
-    for name, order, bound, given in (("C", C, -8, job(1, 3)),
-                                      ("B", B, 0, stairs(4, 2))):
+    for name, order, bound, given in (("C", C, -9, job(1, 3)),
+                                      ("B", B, -1, stairs(4, 2))):
         for place, near in enumerate(dict.fromkeys(near_reasons(given))):
             if near != given:
                 yield compose_case(f"{name}, {said(given)} changed", order, bound, near,
                                    (0, BYTES_MOST)[place % 2])
-    yield compose_case("the due time of the job beside it: C", C, -8, job(1, 3, 10))
+    yield compose_case("the due time of the job beside it: C", C, -9, job(1, 3, 10))
 
 
 def anything_else():
-    for bound in (0, 10000000):
+    for bound in (-1, 10000000):
         yield compose_case("not over its end: C", C, bound, job(1, 3))
     for number, time in ((2, 1), (0, 3), (4, 0), (1, 5), (3, 3)):
-        yield compose_case("several jobs over their ends", SEVERAL_LATE, 0,
+        yield compose_case("several jobs over their ends", SEVERAL_LATE, -1,
                            job(number, time))
     for dues in ((2, 4), (2, 2), (4,), (2,), (4, 2, 2)):
-        yield compose_case("B", B, 0, stairs(*dues))
+        yield compose_case("B", B, -1, stairs(*dues))
     for dues in ((2, 2), (1, 2)):
-        yield compose_case("four overfull staircases", FOUR_STAIRS, 0, stairs(*dues))
-    for bound in (1, -1, -10000000, 10000000):
-        yield compose_case("the staircase of bound 0, B", B, bound, stairs(4, 2))
+        yield compose_case("four overfull staircases", FOUR_STAIRS, -1, stairs(*dues))
+    for bound in (0, -2, -10000000, 10000000):
+        yield compose_case("the staircase of bound -1, B", B, bound, stairs(4, 2))
     for due in range(1, 7):
-        yield compose_case("a due time of no job", NO_JOBS_DUE, 0, stairs(due))
+        yield compose_case("a due time of no job", NO_JOBS_DUE, -1, stairs(due))
     for count in (0, 3):
-        yield compose_case("due times of 0", DUE_0, 2, stairs(count=count))
+        yield compose_case("due times of 0", DUE_0, 1, stairs(count=count))
     for story, order, bound, dues in (
-            ("a job is over its end", SEVERAL_LATE, 0, (1, 2)),
-            ("times that rise", RISING, 0, (1, 2)),
-            ("one class of two processors", ONE_CLASS, 0, (2,)),
-            ("due times of 0", DUE_0, 2, (0,)),
-            ("due times below 0", DUE_BELOW_0, 5, (-3, -4))):
+            ("a job is over its end", SEVERAL_LATE, -1, (1, 2)),
+            ("times that rise", RISING, -1, (1, 2)),
+            ("one class of two processors", ONE_CLASS, -1, (2,)),
+            ("due times of 0", DUE_0, 1, (0,)),
+            ("due times below 0", DUE_BELOW_0, 4, (-3, -4))):
         for one in dues:
             yield compose_case(story, order, bound, stairs(one))
             for two in dues:
@@ -246,14 +246,14 @@ def near_lines(data):
 
 def other_lines():
     """Lines near C's and B's, not all of each kind, and what is no line at all."""
-    of_c = line(C, -8, OF_C)
+    of_c = line(C, -9, OF_C)
     for story, data in (*changed_bytes(of_c), *list(cuts(of_c))[::5],
                         *rewritten(of_c), *list(renumbered(of_c))[::3]):
-        yield parse_case(f"C's line, {story}, C", C, -8, data)
-    of_b = line(B, 0, OF_B)
+        yield parse_case(f"C's line, {story}, C", C, -9, data)
+    of_b = line(B, -1, OF_B)
     for story, data in list(near_lines(of_b))[::7]:
-        yield parse_case(f"B's line, {story}, B", B, 0, data)
-    for bound in (-10, -20):
+        yield parse_case(f"B's line, {story}, B", B, -1, data)
+    for bound in (-11, -21):
         for story, data in renumbered(line(C, bound, OF_C)):
             if re.match("number [35]: .*(sign|zero)", story):
                 yield parse_case(f"C's line, {story}, C", C, bound, data)
@@ -261,42 +261,42 @@ def other_lines():
             ("no byte", b""), ("a line feed", b"\n"), ("a zero byte", b"\0"),
             ("every byte", bytes(range(256))), ("bytes of 255", b"\xff" * 49),
             ("`tight stairs 4 2`", b"tight stairs 4 2")):
-        for name, order, bound in (("C", C, -8), ("B", B, 0)):
+        for name, order, bound in (("C", C, -9), ("B", B, -1)):
             yield parse_case(f"{story}, {name}", order, bound, data)
-    yield parse_case("700 digits, C", C, -8, b"7" * BYTES_MOST)
-    yield parse_case("a job number of 600 digits, C", C, -8, b"job " + b"1" * 600)
-    yield parse_case("B's line made 700 bytes by spaces, B", B, 0,
+    yield parse_case("700 digits, C", C, -9, b"7" * BYTES_MOST)
+    yield parse_case("a job number of 600 digits, C", C, -9, b"job " + b"1" * 600)
+    yield parse_case("B's line made 700 bytes by spaces, B", B, -1,
                      of_b.ljust(BYTES_MOST))
 
 
 def elsewhere():
     """Lines at another bound or order."""
-    for bound in (-1, 1, -10000000, 10000000):
-        yield parse_case("the line of bound 0, B", B, bound, line(B, 0, OF_B))
-        yield parse_case("the staircase of bound 0, B", B, bound, line(B, bound, OF_B))
-    for bound in (-9, -7, 0, -20):
-        yield parse_case("the line of bound -8, C", C, bound, line(C, -8, OF_C))
-    for name, order, bound in (("A", A, 0), ("B", B, 0), ("C", C, -8),
-                               ("D", known_orders.D, -3)):
-        for other, data in (("A", line(A, 0, OF_A)), ("B", line(B, 0, OF_B)),
-                            ("C", line(C, -8, OF_C))):
+    for bound in (-2, 0, -10000000, 10000000):
+        yield parse_case("the line of bound -1, B", B, bound, line(B, -1, OF_B))
+        yield parse_case("the staircase of bound -1, B", B, bound, line(B, bound, OF_B))
+    for bound in (-10, -8, -1, -21):
+        yield parse_case("the line of bound -9, C", C, bound, line(C, -9, OF_C))
+    for name, order, bound in (("A", A, -1), ("B", B, -1), ("C", C, -9),
+                               ("D", known_orders.D, -4)):
+        for other, data in (("A", line(A, -1, OF_A)), ("B", line(B, -1, OF_B)),
+                            ("C", line(C, -9, OF_C))):
             if name != other:
                 yield parse_case(f"{other}'s line, {name}", order, bound, data)
     with_c = orders.order([8, 2], [(3, 10, 8), (1, 99, 0)])
-    yield parse_case("C's line, an order that has the same job", with_c, -8,
-                     line(C, -8, OF_C))
+    yield parse_case("C's line, an order that has the same job", with_c, -9,
+                     line(C, -9, OF_C))
     with_b = orders.order([4, 8], [*B.jobs, (1, 99, 4)])
-    yield parse_case("B's line, an order that has the same staircase", with_b, 0,
-                     line(B, 0, OF_B))
+    yield parse_case("B's line, an order that has the same staircase", with_b, -1,
+                     line(B, -1, OF_B))
     earlier = orders.order([8, 4], [one._replace(due=one.due - 7) for one in B.jobs])
-    yield from there_and_back("B due 7 earlier", earlier, 7)
-    yield parse_case("ends for due times, B due 7 earlier", earlier, 7,
-                     line(B, 0, OF_B))
+    yield from there_and_back("B due 7 earlier", earlier, 6)
+    yield parse_case("ends for due times, B due 7 earlier", earlier, 6,
+                     line(B, -1, OF_B))
 
 
 def not_standing():
     """Lines of reasons that do not stand, and of classes that are not the order's."""
-    yield parse_case("job 1 that is in time, C", C, -7, line(C, -7, OF_C))
+    yield parse_case("job 1 that is in time, C", C, -8, line(C, -8, OF_C))
     for story, order, why in (
             ("B, not overfull", B, Reason("stairs", (4,))),
             ("B, not overfull", B, Reason("stairs", (2,))),
@@ -308,19 +308,19 @@ def not_standing():
             ("jobs 1 and 3 over their ends", SEVERAL_LATE, Reason("job", 2)),
             ("jobs 1 and 3 over their ends", SEVERAL_LATE, Reason("stairs", (1,))),
             ("jobs 1 and 3 over their ends", SEVERAL_LATE, Reason("stairs", (2,)))):
-        yield parse_case(f"{story}, {said(sentence.handed(order, why))}", order, 0,
-                         line(order, 0, why))
+        yield parse_case(f"{story}, {said(sentence.handed(order, why))}", order, -1,
+                         line(order, -1, why))
     for data in (b"memory 4 due 2, memory 4 due 2: owed 12, on hand 8",
                  b"memory 4 due 2: owed 6, on hand 4",
                  b"memory 4 due 2: owed 6, on hand 2"):
-        yield parse_case("one class of two processors", ONE_CLASS, 0, data)
+        yield parse_case("one class of two processors", ONE_CLASS, -1, data)
     for data in (b"memory 4 due 2, memory 8 due 4: owed 8, on hand 6",
                  b"memory 8 due 2, memory 4 due 4: owed 8, on hand 6",
                  b"memory 8 due 4, memory 8 due 2: owed 8, on hand 6",
                  b"memory 8 due 4, due 2: owed 8, on hand 6",
                  b"memory 8 due 4: owed 8, on hand 6", b": owed 8, on hand 6",
                  b"memory 8 due 4, memory 4 due 2, memory 2 due 2: owed 8, on hand 6"):
-        yield parse_case("classes in another way, B", B, 0, data)
+        yield parse_case("classes in another way, B", B, -1, data)
 
 
 # Numbers of which one begins as another does.
@@ -334,14 +334,14 @@ TEN_DIGITS = orders.order([4294967295, 4294967294, 1000000000, 999999999],
 
 def digits():
     for number in (0, 12, 13):
-        yield compose_case("12 equal jobs", TWELVE, 0, job(number, 2))
+        yield compose_case("12 equal jobs", TWELVE, -1, job(number, 2))
     for number in (0, 1, 2, 10, 11, 12, 13, 112):
-        yield parse_case(f"job {number} of 12 equal ones", TWELVE, 0,
+        yield parse_case(f"job {number} of 12 equal ones", TWELVE, -1,
                          b"job %d: time 2, end 1: owed 2, on hand 1" % number)
-    for why in sentence.standing(NESTED, 12):
+    for why in sentence.standing(NESTED, 11):
         yield parse_case(f"{said(sentence.handed(NESTED, why))}, nested numbers",
-                         NESTED, 12, line(NESTED, 12, why))
-    yield from there_and_back("memories of 10 digits", TEN_DIGITS, 0)
+                         NESTED, 11, line(NESTED, 11, why))
+    yield from there_and_back("memories of 10 digits", TEN_DIGITS, -1)
 
 
 def longest():
@@ -354,9 +354,22 @@ def longest():
         yield parse_case(story, order, bound, line(order, bound, why))
 
 
+def furthest_ends():
+    """Due times and bounds at the ends of their ranges."""
+    for bound in (orders.BOUND_MOST, orders.BOUND_LEAST):
+        for due in (orders.DUE_MOST, orders.DUE_LEAST):
+            order = orders.order([4] * 16, [(1, due, 4)])
+            for why in (Reason("job", 1), Reason("stairs", (due,))):
+                given = sentence.handed(order, why)
+                story = f"16 processors, a job due {due}"
+                yield compose_case(story, order, bound, given)
+                yield parse_case(f"the line of {said(given)}, {story}", order, bound,
+                                 line(order, bound, why))
+
+
 # 541 bytes as well, of fewer jobs.
 LONG = orders.order([4294967295 - i for i in range(16)], [(62500, -1000000, 0)] * 17)
-LONG_AT = 1062500
+LONG_AT = 1062499
 
 
 def sixteen_classes():
@@ -372,10 +385,10 @@ def sixteen_classes():
                             b": owed", b", memory 4294967279 due -1000000: owed"))):
         yield parse_case(f"16 classes, {story}", LONG, LONG_AT, near)
     steps, why = known_orders.long_stairs(16), Reason("stairs", tuple(range(32, 0, -2)))
-    data = line(steps, 0, why)
-    yield compose_case("16 steps", steps, 0, stairs(*why.values))
-    yield parse_case("16 steps", steps, 0, data)
-    yield parse_case("16 steps, two exchanged", steps, 0, data.replace(
+    data = line(steps, -1, why)
+    yield compose_case("16 steps", steps, -1, stairs(*why.values))
+    yield parse_case("16 steps", steps, -1, data)
+    yield parse_case("16 steps, two exchanged", steps, -1, data.replace(
         b"due 6,", b"due 4,").replace(b"memory 2 due 4", b"memory 2 due 6"))
 
 
@@ -434,5 +447,5 @@ def drawn_wide():
 def cases():
     for part in (of_document(), rooms(), refused(), changed_reasons(), anything_else(),
                  other_lines(), elsewhere(), not_standing(), digits(), longest(),
-                 sixteen_classes(), drawn(31), drawn_wide()):
+                 furthest_ends(), sixteen_classes(), drawn(31), drawn_wide()):
         yield from part

@@ -72,7 +72,7 @@ class Network:
 
 def stretch_ends(order, bound, parts):
     """The distinct ends after minute 0, where time is cut."""
-    return sorted({parts * orders.end(job, bound) for job in order.jobs
+    return sorted({orders.end(job, bound, parts) for job in order.jobs
                    if orders.end(job, bound) > 0})
 
 
@@ -83,12 +83,12 @@ def build(order, bound, parts):
     network = Network(2 + order.n + len(cuts) * order.m)
     source, sink = 0, 1
     shares = {}
-    for job, (time, due, need) in enumerate(order.jobs):
-        network.add(source, 2 + job, parts * time)
-        last = sum(memory >= need for memory in ranked) - 1
+    for job, one in enumerate(order.jobs):
+        network.add(source, 2 + job, parts * one.time)
+        last = sum(memory >= one.need for memory in ranked) - 1
         begin = 0
         for stretch, cut in enumerate(cuts):
-            if last >= 0 and cut <= parts * (due + bound):
+            if last >= 0 and cut <= orders.end(one, bound, parts):
                 node = 2 + order.n + stretch * order.m + last
                 shares[job, stretch] = network.add(2 + job, node, cut - begin)
             begin = cut

@@ -26,7 +26,7 @@ FULL_EQUAL = order([4] * 16, [(1, 99, 0)] * 48)
 
 def long_stairs(count):
     """So many classes of one processor each, each filled exactly by two jobs up
-    to a due time of its own, the last by one minute too many: at 0 the only
+    to a due time of its own, the last by one minute too many: at -1 the only
     overfull staircase has all classes and goes down 2 minutes a step."""
     jobs = []
     for need in range(count, 1, -1):
@@ -34,12 +34,12 @@ def long_stairs(count):
     return order(range(1, count + 1), jobs + [(1, 2, 1)] * 3)
 
 
-# Two jobs over their ends at 0.
+# Two jobs over their ends at -1.
 SEVERAL_LATE = order([4], [(3, 1, 0), (1, 9, 0), (5, 2, 0)])
-# Four overfull staircases at 0.
+# Four overfull staircases at -1.
 FOUR_STAIRS = order([8, 4], [(2, 2, 8), (1, 1, 8), (1, 1, 4)])
 # The longest lines of a reason: 16 classes, and job 48.
-LONGEST_AT = 1100000
+LONGEST_AT = 1099999
 LONGEST_STAIRS = order([4294967295 - i for i in range(16)],
                        [(100000, -1000000, 0)] * 48)
 LONGEST_JOB_AT = -10000000
@@ -48,7 +48,7 @@ LONGEST_JOB = order([4], [(100000, -1000000, 4)] * 48)
 # Job 1 runs on processor 1 from the first minute to the last.
 OVER_TWO = order([8, 4], [(4, 4, 8), (2, 2, 4)])
 OVER_THREE = order([8, 4], [(6, 6, 8), (2, 2, 4), (2, 4, 4)])
-# Orders whose amounts at 0 are forced: what each shows, the order, the rows of
+# Orders whose amounts at -1 are forced: what each shows, the order, the rows of
 # its stretches, and these joined.
 JOINED = [
     ("one row over two stretches", OVER_TWO,

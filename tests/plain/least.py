@@ -7,6 +7,7 @@ not, so trying whole numbers needs no rounding.
 """
 
 import flow
+import orders
 
 STEPS_MOST = 200
 
@@ -14,7 +15,7 @@ STEPS_MOST = 200
 def floor(order):
     """No right plan meets less: a job's rows lie between minute 0 and its end
     and do not overlap, so its time is at most its end."""
-    return max(job.time - job.due for job in order.jobs)
+    return max(job.time - orders.end(job, 0) for job in order.jobs)
 
 
 def upwards(order, meets):
@@ -30,7 +31,7 @@ def by_halving(order, meets):
     one job after another on the largest memory meets the highest tried here."""
     short = floor(order) - 1
     enough = (sum(job.time for job in order.jobs)
-              - min(job.due for job in order.jobs))
+              - min(orders.end(job, 0) for job in order.jobs))
     while enough - short > 1:
         middle = (short + enough) // 2
         if meets(order, middle):

@@ -1,11 +1,12 @@
-"""An order, its limits and refusals 1 to 7.
+"""An order, its limits, the end of a job, and refusals 1 to 7.
 
 Document 01: "A processor has a memory, 0 to 4,294,967,295. There are 1 to 16."
 "A job has a time of 1 to 100,000, a due time of -1,000,000 to 1,000,000 and a
 need of 0 to 4,294,967,295. There are 1 to 48. A job fits a processor whose
 memory is at least its need." "A bound is a whole number of -10,000,000 to
-10,000,000. A job's end is its due time plus the bound." "Jobs and processors
-carry numbers from 1 in input order."
+10,000,000." "Jobs and processors carry numbers from 1 in input order."
+Document 02, §3: "The due minute is included." "A job's end is due time plus
+bound plus 1 from here on, in plans, checks and staircases alike."
 """
 
 from collections import namedtuple
@@ -37,9 +38,19 @@ def fits(job, memory):
     return memory >= job.need
 
 
-def end(job, bound):
-    # "A job's end is its due time plus the bound."
-    return job.due + bound
+def end_at(due, bound):
+    # "A job's end is due time plus bound plus 1".
+    return due + bound + 1
+
+
+def due_at(end, bound):
+    """The due time that has this end."""
+    return end - end_at(0, bound)
+
+
+def end(job, bound, parts=1):
+    """The end of a job, counted in so many parts a minute."""
+    return parts * end_at(job.due, bound)
 
 
 def first_job(an_order, holds):

@@ -41,7 +41,7 @@ def names_that_fit(order, bound, rows, parts):
 def by_the_end(order, bound, rows, parts):
     """The second rule."""
     for number, (job, _, _, to) in enumerate(rows, 1):
-        end = parts * orders.end(order.jobs[job - 1], bound)
+        end = orders.end(order.jobs[job - 1], bound, parts)
         if to > end:
             return f"row {number}: to {to} is after the end {end} of job {job}"
     return None

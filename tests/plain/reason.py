@@ -94,7 +94,7 @@ def first_overfull(order, bound):
     the search stops at the first overfull staircase"."""
     for staircase in staircases(order, bound):
         if overfull(order, bound, staircase):
-            return tuple(time - bound for time in staircase)
+            return tuple(orders.due_at(time, bound) for time in staircase)
     return None
 
 
@@ -113,4 +113,4 @@ def on_hand(order, bound, why):
     if why.kind == "job":
         job = order.jobs[why.values - 1]
         return job.time, orders.end(job, bound)
-    return sums(order, bound, [due + bound for due in why.values])
+    return sums(order, bound, [orders.end_at(due, bound) for due in why.values])

@@ -56,5 +56,5 @@ def first_overfull(order, bound):
     for k in range(1, len(gains) + 1):
         places = earliest(gains, k)
         if places:
-            return tuple(times[place] - bound for place in places)
+            return tuple(orders.due_at(times[place], bound) for place in places)
     return None

@@ -54,7 +54,7 @@ def from_minute(minute, left, ends, runs, dead):
 def plan(order, bound, parts=1):
     """A right plan in so many parts a minute, or None if there is none. Each
     row is one part long."""
-    ends = [parts * orders.end(job, bound) for job in order.jobs]
+    ends = [orders.end(job, bound, parts) for job in order.jobs]
     times = tuple(parts * job.time for job in order.jobs)
     return from_minute(0, times, ends, runs_together(order), set())
 

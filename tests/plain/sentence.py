@@ -36,7 +36,7 @@ def late_jobs(order, bound):
 
 def overfull_stairs(order, bound):
     """The due times of every overfull staircase, in ranking order."""
-    return [tuple(time - bound for time in staircase)
+    return [tuple(orders.due_at(time, bound) for time in staircase)
             for staircase in reason.staircases(order, bound)
             if reason.overfull(order, bound, staircase)]
 
@@ -62,7 +62,8 @@ def stands(order, bound, why):
     if why.kind == "job":
         return why.values in late
     return (not late and is_staircase(order, why.values)
-            and reason.overfull(order, bound, [due + bound for due in why.values]))
+            and reason.overfull(order, bound, [orders.end_at(due, bound)
+                                               for due in why.values]))
 
 
 def line(order, bound, why):

@@ -102,14 +102,14 @@ class EndsWith(unittest.TestCase):
 class Known(unittest.TestCase):
     def test_amounts_are_forced(self):
         for story, order, parts, _ in known_orders.JOINED:
-            amounts, = all_amounts(order, 0)
-            self.assertEqual(wrap.by_stretch(order, 0, amounts), parts, story)
+            amounts, = all_amounts(order, -1)
+            self.assertEqual(wrap.by_stretch(order, -1, amounts), parts, story)
 
     def test_joined(self):
         for story, order, parts, rows in known_orders.JOINED:
-            stretches = wrap.stretches(order, 0)
+            stretches = wrap.stretches(order, -1)
             self.assertEqual(join.joined(stretches, parts), rows, story)
-            self.assertEqual(join.plan(order, 0, flow.amounts(order, 0)), rows, story)
+            self.assertEqual(join.plan(order, -1, flow.amounts(order, -1)), rows, story)
 
     def test_rest_before_the_end(self):
         parts = [[(1, 1, 0, 1)], [(1, 1, 2, 4)]]

@@ -55,35 +55,35 @@ class Wrap(unittest.TestCase):
                          [(1, 1, 0, 2), (2, 2, 0, 2)])
 
     def test_stretches(self):
-        self.assertEqual(wrap.stretches(known_orders.A, 1), [(0, 4), (4, 5)])
-        self.assertEqual(wrap.stretches(known_orders.D, -2), [(0, 2)])
+        self.assertEqual(wrap.stretches(known_orders.A, 0), [(0, 4), (4, 5)])
+        self.assertEqual(wrap.stretches(known_orders.D, -3), [(0, 2)])
 
 
 class Judge(unittest.TestCase):
-    A1 = [(1, 1, 0, 3), (2, 1, 3, 4), (2, 2, 0, 2), (3, 2, 2, 4)]
+    A0 = [(1, 1, 0, 3), (2, 1, 3, 4), (2, 2, 0, 2), (3, 2, 2, 4)]
 
-    def names(self, word, rows, order=known_orders.A, bound=1, count=None):
+    def names(self, word, rows, order=known_orders.A, bound=0, count=None):
         said = judge.broken(order, bound, rows,
                             len(rows) if count is None else count)
         self.assertIn(word, str(said), rows)
 
     def test_right(self):
-        self.names("None", self.A1)
-        self.names("None", [(1, 1, 0, 3)], known_orders.C, -7)
+        self.names("None", self.A0)
+        self.names("None", [(1, 1, 0, 3)], known_orders.C, -8)
 
     def test_other_amounts_are_right_too(self):
         self.names("None", [(1, 1, 0, 3), (2, 1, 3, 4), (2, 2, 0, 2),
                             (3, 2, 2, 3), (3, 1, 4, 5)])
 
     def test_wrong(self):
-        a1 = self.A1
-        self.names("the count is 3", a1, count=3)
-        self.names("the count is 5", a1, count=5)
-        self.names("job 3: gets 0", a1[:3])
-        self.names("stands in a wrong place", [a1[0], a1[2], a1[1], a1[3]])
-        self.names("is not below", a1 + [(3, 1, 4, 4)])
-        self.names("after the end", a1, bound=0)
-        self.names("does not fit", [(1, 2, 0, 3)] + a1[1:])
+        a0 = self.A0
+        self.names("the count is 3", a0, count=3)
+        self.names("the count is 5", a0, count=5)
+        self.names("job 3: gets 0", a0[:3])
+        self.names("stands in a wrong place", [a0[0], a0[2], a0[1], a0[3]])
+        self.names("is not below", a0 + [(3, 1, 4, 4)])
+        self.names("after the end", a0, bound=-1)
+        self.names("does not fit", [(1, 2, 0, 3)] + a0[1:])
 
     def test_wrong_layout_of_right_plans(self):
         a = known_orders
@@ -92,33 +92,33 @@ class Judge(unittest.TestCase):
         self.names("is not the wrap's", [
             (1, 1, 0, 3), (2, 2, 0, 3), (3, 1, 4, 5), (3, 2, 4, 5)][:2]
             + [(3, 2, 3, 4), (3, 1, 4, 5)])
-        self.names("is not the wrap's", [(1, 1, 1, 4)], a.C, -6)
-        self.names("over 1 rows", [(1, 1, 0, 1), (1, 1, 1, 3)], a.C, 0)
+        self.names("is not the wrap's", [(1, 1, 1, 4)], a.C, -7)
+        self.names("over 1 rows", [(1, 1, 0, 1), (1, 1, 1, 3)], a.C, -1)
         self.names("is not the wrap's", [
-            (2, 1, 0, 1), (1, 1, 1, 2), (3, 2, 0, 1)], a.D, -2)
+            (2, 1, 0, 1), (1, 1, 1, 2), (3, 2, 0, 1)], a.D, -3)
 
     def test_split_row(self):
         order = orders.order([4], [(3, 3, 4), (1, 9, 4)])
-        self.names("None", [(1, 1, 0, 3), (2, 1, 3, 4)], order, 0)
+        self.names("None", [(1, 1, 0, 3), (2, 1, 3, 4)], order, -1)
         self.names("rows 1 and 2 are not joined",
-                   [(1, 1, 0, 2), (1, 1, 2, 3), (2, 1, 3, 4)], order, 0)
+                   [(1, 1, 0, 2), (1, 1, 2, 3), (2, 1, 3, 4)], order, -1)
 
     def test_joined(self):
         for _, order, _, rows in known_orders.JOINED:
-            self.names("None", rows, order, 0)
+            self.names("None", rows, order, -1)
 
     def test_not_joined(self):
         for _, order, parts, rows in known_orders.JOINED:
             laid = sum(parts, [])
             if laid != rows:
-                self.names("are not joined", laid, order, 0)
+                self.names("are not joined", laid, order, -1)
 
     def test_joined_once_of_two_times(self):
         order = known_orders.OVER_THREE
         self.names("rows 1 and 4 are not joined", [
-            (1, 1, 0, 4), (2, 2, 0, 2), (3, 2, 2, 4), (1, 1, 4, 6)], order, 0)
+            (1, 1, 0, 4), (2, 2, 0, 2), (3, 2, 2, 4), (1, 1, 4, 6)], order, -1)
         self.names("rows 1 and 3 are not joined", [
-            (1, 1, 0, 2), (2, 2, 0, 2), (1, 1, 2, 6), (3, 2, 2, 4)], order, 0)
+            (1, 1, 0, 2), (2, 2, 0, 2), (1, 1, 2, 6), (3, 2, 2, 4)], order, -1)
 
     def test_where_a_joined_row_stands(self):
         # Every other order of the rows is wrong, that by `from` alone and that by
@@ -126,31 +126,31 @@ class Judge(unittest.TestCase):
         for _, order, _, rows in known_orders.JOINED:
             for other in itertools.permutations(rows):
                 if list(other) != rows:
-                    self.names("stands in a wrong place", list(other), order, 0)
+                    self.names("stands in a wrong place", list(other), order, -1)
 
     def test_rows_over_an_end_that_are_no_joined_rows(self):
         # By the wrap job 2 is on processor 2 in the first stretch and on processor
         # 1 in the second: a row of processor 2 over the end is right, but no layout.
         order = orders.order([8, 4], [(2, 2, 8), (3, 4, 4)])
-        self.names("None", [(1, 1, 0, 2), (2, 2, 0, 1), (2, 1, 2, 4)], order, 0)
-        self.names("None", [(1, 1, 0, 2), (2, 2, 0, 2), (2, 1, 2, 3)], order, 0)
-        self.names("is not the wrap's", [(1, 1, 0, 2), (2, 2, 0, 3)], order, 0)
-        self.names("is not the wrap's", [(1, 1, 0, 2), (2, 2, 1, 4)], order, 0)
+        self.names("None", [(1, 1, 0, 2), (2, 2, 0, 1), (2, 1, 2, 4)], order, -1)
+        self.names("None", [(1, 1, 0, 2), (2, 2, 0, 2), (2, 1, 2, 3)], order, -1)
+        self.names("is not the wrap's", [(1, 1, 0, 2), (2, 2, 0, 3)], order, -1)
+        self.names("is not the wrap's", [(1, 1, 0, 2), (2, 2, 1, 4)], order, -1)
 
     def test_buffer(self):
         before = [7] * 22
-        rows = [x for row in self.A1 for x in row]
+        rows = [x for row in self.A0 for x in row]
         after = rows + before[16:]
         told = judge.broken_buffer
-        self.assertIsNone(told(known_orders.A, 1, before, after, 4))
+        self.assertIsNone(told(known_orders.A, 0, before, after, 4))
         for place in (16, 19, 20, 21):
             changed = list(after)
             changed[place] = 0
             self.assertIn("beyond the rows is changed",
-                          str(told(known_orders.A, 1, before, changed, 4)))
-        self.assertIsNotNone(told(known_orders.A, 1, before, after, 3))
-        self.assertIsNotNone(told(known_orders.A, 1, before, after, 5))
-        self.assertIsNotNone(told(known_orders.A, 1, before, after, 6))
+                          str(told(known_orders.A, 0, before, changed, 4)))
+        self.assertIsNotNone(told(known_orders.A, 0, before, after, 3))
+        self.assertIsNotNone(told(known_orders.A, 0, before, after, 5))
+        self.assertIsNotNone(told(known_orders.A, 0, before, after, 6))
 
     def test_plans_of_the_flow(self):
         of = draw.Draw(61)
@@ -178,26 +178,26 @@ class Judge(unittest.TestCase):
 
 class Program(unittest.TestCase):
     def test_right(self):
-        text = "least -7\npiece 1 1 0 3\nend 1\n"
+        text = "least -8\npiece 1 1 0 3\nend 1\n"
         self.assertEqual(run(known_orders.C, text), (0, "right\n"))
-        self.assertEqual(run(known_orders.C, text, "-7"), (0, "right\n"))
+        self.assertEqual(run(known_orders.C, text, "-8"), (0, "right\n"))
         text = "piece 1 1 0 3\nend 1\n"
-        self.assertEqual(run(known_orders.C, text, "0"), (0, "right\n"))
-        text = "least 0\npiece 1 1 0 4\npiece 2 2 0 2\nend 2\n"
+        self.assertEqual(run(known_orders.C, text, "-1"), (0, "right\n"))
+        text = "least -1\npiece 1 1 0 4\npiece 2 2 0 2\nend 2\n"
         self.assertEqual(run(known_orders.OVER_TWO, text), (0, "right\n"))
         bad = orders.order([8], [known_orders.BAD_NEED])
         self.assertEqual(run(bad, "refused 7 1\n"), (0, "right\n"))
 
     def test_wrong(self):
         for order, text, arguments, said in (
-                (known_orders.C, "least -6\npiece 1 1 0 3\nend 1\n", (),
-                 "the least lateness is -7, not -6\n"),
-                (known_orders.C, "piece 1 1 0 3\nend 2\n", ("0",),
+                (known_orders.C, "least -7\npiece 1 1 0 3\nend 1\n", (),
+                 "the least lateness is -8, not -7\n"),
+                (known_orders.C, "piece 1 1 0 3\nend 2\n", ("-1",),
                  "the count is 2, but 1 rows are written\n"),
-                (known_orders.OVER_TWO, "least 0\npiece 1 1 0 2\npiece 2 2 0 2\n"
+                (known_orders.OVER_TWO, "least -1\npiece 1 1 0 2\npiece 2 2 0 2\n"
                  "piece 1 1 2 4\nend 3\n", (), "rows 1 and 3 are not joined\n"),
                 (known_orders.C, "refused 9 0\n", (),
                  "'refused 9 0', but the order is accepted\n"),
-                (known_orders.C, "piece 1 1 0 3\n", ("0",), ""),
-                (known_orders.C, "piece 1 1 0\nend 1\n", ("0",), "")):
+                (known_orders.C, "piece 1 1 0 3\n", ("-1",), ""),
+                (known_orders.C, "piece 1 1 0\nend 1\n", ("-1",), "")):
             self.assertEqual(run(order, text, *arguments), (1, said))

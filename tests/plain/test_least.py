@@ -12,9 +12,10 @@ import reason
 import search
 import wrap
 
-OF_DOCUMENT_01 = [
-    (known_orders.A, 1), (known_orders.B, 1), (known_orders.C, -7),
-    (known_orders.D, -2), (known_orders.NEED_0, 0), (known_orders.DUE_MINUS_5, 6)]
+# Document 02, §3: "A 0, B 0, C -8, D -3, need 0 gives -1, the overdue job gives 5."
+WORKED = [
+    (known_orders.A, 0), (known_orders.B, 0), (known_orders.C, -8),
+    (known_orders.D, -3), (known_orders.NEED_0, -1), (known_orders.DUE_MINUS_5, 5)]
 
 
 def tiny_orders(seed, count):
@@ -24,9 +25,15 @@ def tiny_orders(seed, count):
 
 
 class Least(unittest.TestCase):
-    def test_document_01(self):
-        for order, number in OF_DOCUMENT_01:
+    def test_worked(self):
+        for order, number in WORKED:
             self.assertEqual(least.least(order), number)
+
+    def test_of_one_job(self):
+        # At 0 a job can have minutes 0 to `due`, one more than `due`.
+        for due in (0, 1, 10):
+            self.assertEqual(least.least(orders.order([4], [(due + 1, due, 4)])), 0)
+            self.assertEqual(least.least(orders.order([4], [(due + 2, due, 4)])), 1)
 
     def test_by_search_over_all_plans(self):
         for order in tiny_orders(41, 2500):
@@ -57,15 +64,15 @@ class Least(unittest.TestCase):
         for memory in (0, 1, 4294967295):
             for need in {0, memory}:
                 order = orders.order([memory], [(2, 1, need), (1, 1, need)])
-                self.assertEqual(least.least(order), 2)
+                self.assertEqual(least.least(order), 1)
 
     def test_fractions_are_rounded_up(self):
-        # k jobs of time t on m processors, all due at d: k × t / m - d.
+        # k jobs of time t on m processors, all due at d: k × t / m - d - 1.
         for m in (1, 2, 3):
             for k in (1, 2, 3, 4):
                 for due in (-2, 0, 9):
                     order = orders.order([4] * m, [(1, due, 4)] * k)
-                    exact = max(-(-k // m), 1) - due
+                    exact = max(-(-k // m), 1) - due - 1
                     self.assertEqual(least.least(order), exact)
 
 

@@ -1,9 +1,21 @@
-"""Refusals 1 to 7: "The lowest applicable number is given"."""
+"""A job's end, and refusals 1 to 7: "The lowest applicable number is given"."""
 
 import unittest
 
 import known_orders
 import orders
+
+
+class End(unittest.TestCase):
+    def test_known(self):
+        for due, bound, end in ((10, 0, 11), (10, -1, 10), (-5, 5, 1), (0, -1, 0),
+                                (1000000, 10000000, 11000001),
+                                (-1000000, -10000000, -10999999)):
+            self.assertEqual(orders.end_at(due, bound), end)
+            self.assertEqual(orders.due_at(end, bound), due)
+            for parts in (1, 2, 7):
+                job = orders.Job(1, due, 0)
+                self.assertEqual(orders.end(job, bound, parts), parts * end)
 
 
 class Refusals(unittest.TestCase):

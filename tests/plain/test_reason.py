@@ -24,16 +24,16 @@ def every_staircase(order, bound):
 def minutes_inside(job, bound, time):
     """The minutes owed, counted one by one: those of the job's time that stay
     if it runs as much as it can from `time` up to its end."""
-    after = sum(1 for minute in range(time, job.due + bound))
+    after = sum(1 for minute in range(time, job.due + bound + 1))
     return sum(1 for _ in range(after, job.time))
 
 
 class Reasons(unittest.TestCase):
-    def test_document_01(self):
+    def test_documents(self):
         for order, bound, why, sums in (
-                (known_orders.A, 0, ("stairs", (3, 3)), (7, 6)),
-                (known_orders.B, 0, ("stairs", (4, 2)), (8, 6)),
-                (known_orders.C, -8, ("job", 1), (3, 2))):
+                (known_orders.A, -1, ("stairs", (3, 3)), (7, 6)),
+                (known_orders.B, -1, ("stairs", (4, 2)), (8, 6)),
+                (known_orders.C, -9, ("job", 1), (3, 2))):
             self.assertEqual(reason.reason(order, bound), why)
             self.assertEqual(
                 reason.on_hand(order, bound, reason.reason(order, bound)), sums)
@@ -42,19 +42,19 @@ class Reasons(unittest.TestCase):
         for time in (2, 4):
             for k in (1, 2):
                 self.assertFalse(
-                    reason.overfull(known_orders.B, 0, (time,) * k))
+                    reason.overfull(known_orders.B, -1, (time,) * k))
 
     def test_first_job(self):
         order = orders.order([4], [(1, 9, 4), (5, 4, 4), (1, 0, 4)])
-        self.assertEqual(reason.reason(order, 0), ("job", 2))
+        self.assertEqual(reason.reason(order, -1), ("job", 2))
         self.assertEqual(reason.reason(order, -10000000), ("job", 1))
 
     def test_owed(self):
         job = orders.Job(3, 10, 0)
-        self.assertEqual([reason.owed(job, 0, time) for time in range(5, 13)],
+        self.assertEqual([reason.owed(job, -1, time) for time in range(5, 13)],
                          [0, 0, 0, 1, 2, 3, 3, 3])
         for time in range(14):
-            for bound in (-3, 0, 2):
+            for bound in (-4, -1, 1):
                 self.assertEqual(reason.owed(job, bound, time),
                                  minutes_inside(job, bound, time))
 
@@ -66,24 +66,24 @@ class Reasons(unittest.TestCase):
 
     def test_need_0(self):
         order = orders.order([8, 4], [(2, 2, 0)] * 3)
-        self.assertEqual(reason.reason(order, 0), ("stairs", (2, 2)))
+        self.assertEqual(reason.reason(order, -1), ("stairs", (2, 2)))
 
     def test_times_of_any_job(self):
         # The jobs of class 2 are due at 4; the time of class 2 in the reason is
         # 3, the due time of the job of class 1.
         order = orders.order([8, 4], [(3, 3, 8), (4, 4, 4), (2, 4, 4)])
-        self.assertEqual(reason.reason(order, 0), ("stairs", (3, 3)))
+        self.assertEqual(reason.reason(order, -1), ("stairs", (3, 3)))
 
     def test_long_stairs(self):
         for count in (2, 3, 4):
             order = known_orders.long_stairs(count)
             stairs = tuple(range(2 * count, 0, -2))
-            self.assertEqual(reason.reason(order, 0), ("stairs", stairs))
+            self.assertEqual(reason.reason(order, -1), ("stairs", stairs))
             self.assertEqual(
-                [one for one in every_staircase(order, 0)
-                 if reason.overfull(order, 0, one)], [stairs])
+                [one for one in every_staircase(order, -1)
+                 if reason.overfull(order, -1, one)], [stairs])
         order = known_orders.long_stairs(16)
-        self.assertEqual(reason_large.first_overfull(order, 0),
+        self.assertEqual(reason_large.first_overfull(order, -1),
                          tuple(range(32, 0, -2)))
 
     def test_ranking(self):
@@ -98,7 +98,7 @@ class Reasons(unittest.TestCase):
             first = min(found, key=lambda staircase: (len(staircase), staircase))
             several += len(found) > 1
             self.assertEqual(reason.reason(order, bound),
-                             ("stairs", tuple(time - bound for time in first)))
+                             ("stairs", tuple(time - bound - 1 for time in first)))
         self.assertGreater(several, 100)
 
     def test_owed_exceed_on_hand(self):

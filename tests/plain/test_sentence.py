@@ -20,27 +20,29 @@ MEMORIES_RISE = orders.order([4, 8, 4], [(2, 2, 4)] * 3 + [(2, 2, 0)])
 
 # Order, bound, and each reason that stands with its line.
 KNOWN = [
-    (A, 0, [(("stairs", (3, 3)), "memory 8 due 3, memory 4 due 3: owed 7, on hand 6")]),
-    (B, 0, [(("stairs", (4, 2)), "memory 8 due 4, memory 4 due 2: owed 8, on hand 6")]),
-    (C, -8, [(("job", 1), "job 1: time 3, end 2: owed 3, on hand 2")]),
-    (C, -10, [(("job", 1), "job 1: time 3, end 0: owed 3, on hand 0")]),
-    (C, -20, [(("job", 1), "job 1: time 3, end -10: owed 3, on hand -10")]),
-    (SEVERAL_LATE, 0, [(("job", 1), "job 1: time 3, end 1: owed 3, on hand 1"),
-                       (("job", 3), "job 3: time 5, end 2: owed 5, on hand 2")]),
-    (FOUR_STAIRS, 0, [
+    (A, -1, [
+        (("stairs", (3, 3)), "memory 8 due 3, memory 4 due 3: owed 7, on hand 6")]),
+    (B, -1, [
+        (("stairs", (4, 2)), "memory 8 due 4, memory 4 due 2: owed 8, on hand 6")]),
+    (C, -9, [(("job", 1), "job 1: time 3, end 2: owed 3, on hand 2")]),
+    (C, -11, [(("job", 1), "job 1: time 3, end 0: owed 3, on hand 0")]),
+    (C, -21, [(("job", 1), "job 1: time 3, end -10: owed 3, on hand -10")]),
+    (SEVERAL_LATE, -1, [(("job", 1), "job 1: time 3, end 1: owed 3, on hand 1"),
+                        (("job", 3), "job 3: time 5, end 2: owed 5, on hand 2")]),
+    (FOUR_STAIRS, -1, [
         (("stairs", (1,)), "memory 8 due 1: owed 2, on hand 1"),
         (("stairs", (2,)), "memory 8 due 2: owed 3, on hand 2"),
         (("stairs", (1, 1)), "memory 8 due 1, memory 4 due 1: owed 3, on hand 2"),
         (("stairs", (2, 1)), "memory 8 due 2, memory 4 due 1: owed 4, on hand 3")]),
-    (MEMORIES_RISE, 0, [
+    (MEMORIES_RISE, -1, [
         (("stairs", (2, 2)), "memory 8 due 2, memory 4 due 2: owed 8, on hand 6")]),
-    (cases_sentence.DUE_BELOW_0, 5, [
+    (cases_sentence.DUE_BELOW_0, 4, [
         (("stairs", (-4,)), "memory 8 due -4: owed 2, on hand 1"),
         (("stairs", (-3,)), "memory 8 due -3: owed 3, on hand 2"),
         (("stairs", (-4, -4)), "memory 8 due -4, memory 4 due -4: owed 3, on hand 2"),
         (("stairs", (-3, -4)), "memory 8 due -3, memory 4 due -4: owed 4, on hand 3")]),
-    (A, 1, []),
-    (C, -7, []),
+    (A, 0, []),
+    (C, -8, []),
 ]
 
 
@@ -92,7 +94,7 @@ class Lines(unittest.TestCase):
     def test_longest_of_a_job(self):
         order, bound = known_orders.LONGEST_JOB, known_orders.LONGEST_JOB_AT
         self.assertEqual(sentence.line(order, bound, Reason("job", 48)), (
-            "job 48: time 100000, end -11000000: owed 100000, on hand -11000000"))
+            "job 48: time 100000, end -10999999: owed 100000, on hand -10999999"))
         self.assertEqual(max(len(sentence.line(order, bound, why))
                              for why in sentence.standing(order, bound)), 66)
 
@@ -142,15 +144,15 @@ class Composing(unittest.TestCase):
                                      (len(text), text), (len(text) + 1, text)):
                     answer = sentence.compose(order, bound, given, room)
                     self.assertEqual(answer, wanted)
-        for order, bound, given in ((C, -8, NONE), (C, -7, job(1, 3)),
-                                    (B, 0, stairs(4))):
+        for order, bound, given in ((C, -9, NONE), (C, -8, job(1, 3)),
+                                    (B, -1, stairs(4))):
             for room in (0, 1, 700):
                 self.assertEqual(sentence.compose(order, bound, given, room), "")
 
     def test_refusals(self):
         for _, order, number, carried in (known_orders.REFUSED
                                           + known_orders.REFUSED_COUNTS):
-            for bound, room in ((0, 700), (10000001, 0)):
+            for bound, room in ((-1, 700), (10000001, 0)):
                 for given in (NONE, job(1, 1), stairs(5)):
                     self.assertEqual(sentence.compose(order, bound, given, room),
                                      (number, carried))
@@ -163,37 +165,37 @@ class Composing(unittest.TestCase):
     def test_anything_else(self):
         with_due = cases_sentence.with_due
         for order, bound, nothing in (
-                (C, -7, (job(1, 3), stairs(10), NONE)),
-                (C, -8, (job(0, 3), job(2, 3), job(1, 2), job(1, 4), job(1, 0),
+                (C, -8, (job(1, 3), stairs(10), NONE)),
+                (C, -9, (job(0, 3), job(2, 3), job(1, 2), job(1, 4), job(1, 0),
                          job(1, 3, 10), with_due(job(1, 3), 15, 1), stairs(10),
                          job(1, 3)._replace(kind=0), job(1, 3)._replace(kind=3))),
-                (B, 0, (stairs(4), stairs(2), stairs(4, 4), stairs(2, 2), stairs(2, 4),
-                        stairs(4, 3), stairs(4, 2, 2), stairs(4, 2, count=1),
-                        stairs(4, 2, count=0), stairs(4, 2, count=16),
-                        stairs(4, 2, count=17), stairs(4, 2, 0, 1, count=2),
-                        with_due(stairs(4, 2), 15, 2), job(1, 2))),
-                (B, 1, (stairs(4, 2),)),
-                (SEVERAL_LATE, 0, (job(2, 1), job(1, 5), job(3, 3), stairs(1),
-                                   stairs(2), stairs(9), stairs(2, 1))),
-                (FOUR_STAIRS, 0, (stairs(2, 2), stairs(1, 2), stairs(1, 1, 1))),
-                (cases_sentence.RISING, 0, (stairs(1, 2),)),
-                (cases_sentence.NO_JOBS_DUE, 0, (stairs(3), stairs(4), stairs(2, 2))),
-                (cases_sentence.ONE_CLASS, 0, (stairs(2, 2),)),
-                (cases_sentence.DUE_0, 2, (stairs(count=0), stairs(count=3)))):
+                (B, -1, (stairs(4), stairs(2), stairs(4, 4), stairs(2, 2), stairs(2, 4),
+                         stairs(4, 3), stairs(4, 2, 2), stairs(4, 2, count=1),
+                         stairs(4, 2, count=0), stairs(4, 2, count=16),
+                         stairs(4, 2, count=17), stairs(4, 2, 0, 1, count=2),
+                         with_due(stairs(4, 2), 15, 2), job(1, 2))),
+                (B, 0, (stairs(4, 2),)),
+                (SEVERAL_LATE, -1, (job(2, 1), job(1, 5), job(3, 3), stairs(1),
+                                    stairs(2), stairs(9), stairs(2, 1))),
+                (FOUR_STAIRS, -1, (stairs(2, 2), stairs(1, 2), stairs(1, 1, 1))),
+                (cases_sentence.RISING, -1, (stairs(1, 2),)),
+                (cases_sentence.NO_JOBS_DUE, -1, (stairs(3), stairs(4), stairs(2, 2))),
+                (cases_sentence.ONE_CLASS, -1, (stairs(2, 2),)),
+                (cases_sentence.DUE_0, 1, (stairs(count=0), stairs(count=3)))):
             for given in nothing:
                 self.assertEqual(sentence.compose(order, bound, given, 0), "", given)
 
     def test_sums_alone_do_not_make_a_staircase(self):
         rising, none = cases_sentence.RISING, cases_sentence.NO_JOBS_DUE
-        self.assertTrue(reason.overfull(rising, 0, (1, 2)))
-        self.assertTrue(reason.overfull(none, 0, (3,)))
-        self.assertTrue(reason.overfull(SEVERAL_LATE, 0, (2,)))
+        self.assertTrue(reason.overfull(rising, -1, (1, 2)))
+        self.assertTrue(reason.overfull(none, -1, (3,)))
+        self.assertTrue(reason.overfull(SEVERAL_LATE, -1, (2,)))
 
     def test_the_count_tells_due_times_of_0_apart(self):
         for count, text in ((1, "memory 8 due 0: owed 4, on hand 2"),
                             (2, "memory 8 due 0, memory 4 due 0: owed 5, on hand 4")):
             self.assertEqual(sentence.compose(
-                cases_sentence.DUE_0, 2, stairs(count=count), 541), text)
+                cases_sentence.DUE_0, 1, stairs(count=count), 541), text)
 
     def test_near_reasons(self):
         composed = empty = 0
@@ -244,31 +246,31 @@ class ReadingBack(unittest.TestCase):
 
     def test_other_lines(self):
         for order, bound, text in (
-                (C, -8, ""), (C, -8, "\n"), (C, -8, "job 1"), (C, -8, b"\xff"),
-                (C, -8, "job 1: time 3, end 2: owed 3, on hand 2\n"),
-                (C, -8, "job 01: time 3, end 2: owed 3, on hand 2"),
-                (C, -8, "job +1: time 3, end 2: owed 3, on hand 2"),
-                (C, -8, "Job 1: time 3, end 2: owed 3, on hand 2"),
-                (C, -8, "job 1: time 3, end 2: owed 3, on hand 3"),
-                (C, -8, "job 1: time 3, end 2: owed 3, on hand"),
-                (C, -8, "ob 1: time 3, end 2: owed 3, on hand 2"),
-                (C, -9, "job 1: time 3, end 2: owed 3, on hand 2"),
-                (C, -7, "job 1: time 3, end 3: owed 3, on hand 3"),
-                (C, -10, "job 1: time 3, end -0: owed 3, on hand 0"),
-                (C, -10, "job 1: time 3, end 0: owed 3, on hand -0"),
-                (C, -20, "job 1: time 3, end 10: owed 3, on hand 10"),
-                (B, 0, "memory 8 due 4, memory 4 due 2: owed 8, on hand 6\n"),
-                (B, 0, "memory 8 due 4, memory 4 due 02: owed 8, on hand 6"),
-                (B, 0, "memory 8 due 4, memory 4 due 2: owed 8, on hand 7"),
-                (B, 0, "memory 8 due 4: owed 4, on hand 4"),
-                (B, 0, "memory 8 due 3, memory 4 due 3: owed 7, on hand 6"),
-                (B, 1, "memory 8 due 4, memory 4 due 2: owed 8, on hand 6"),
-                (A, 0, "memory 8 due 4, memory 4 due 2: owed 8, on hand 6"),
-                (SEVERAL_LATE, 0, "job 2: time 1, end 9: owed 1, on hand 9"),
-                (SEVERAL_LATE, 0, "memory 4 due 2: owed 8, on hand 2"),
-                (cases_sentence.RISING, 0,
+                (C, -9, ""), (C, -9, "\n"), (C, -9, "job 1"), (C, -9, b"\xff"),
+                (C, -9, "job 1: time 3, end 2: owed 3, on hand 2\n"),
+                (C, -9, "job 01: time 3, end 2: owed 3, on hand 2"),
+                (C, -9, "job +1: time 3, end 2: owed 3, on hand 2"),
+                (C, -9, "Job 1: time 3, end 2: owed 3, on hand 2"),
+                (C, -9, "job 1: time 3, end 2: owed 3, on hand 3"),
+                (C, -9, "job 1: time 3, end 2: owed 3, on hand"),
+                (C, -9, "ob 1: time 3, end 2: owed 3, on hand 2"),
+                (C, -10, "job 1: time 3, end 2: owed 3, on hand 2"),
+                (C, -8, "job 1: time 3, end 3: owed 3, on hand 3"),
+                (C, -11, "job 1: time 3, end -0: owed 3, on hand 0"),
+                (C, -11, "job 1: time 3, end 0: owed 3, on hand -0"),
+                (C, -21, "job 1: time 3, end 10: owed 3, on hand 10"),
+                (B, -1, "memory 8 due 4, memory 4 due 2: owed 8, on hand 6\n"),
+                (B, -1, "memory 8 due 4, memory 4 due 02: owed 8, on hand 6"),
+                (B, -1, "memory 8 due 4, memory 4 due 2: owed 8, on hand 7"),
+                (B, -1, "memory 8 due 4: owed 4, on hand 4"),
+                (B, -1, "memory 8 due 3, memory 4 due 3: owed 7, on hand 6"),
+                (B, 0, "memory 8 due 4, memory 4 due 2: owed 8, on hand 6"),
+                (A, -1, "memory 8 due 4, memory 4 due 2: owed 8, on hand 6"),
+                (SEVERAL_LATE, -1, "job 2: time 1, end 9: owed 1, on hand 9"),
+                (SEVERAL_LATE, -1, "memory 4 due 2: owed 8, on hand 2"),
+                (cases_sentence.RISING, -1,
                  "memory 8 due 1, memory 4 due 2: owed 5, on hand 3"),
-                (cases_sentence.NO_JOBS_DUE, 0, "memory 4 due 3: owed 4, on hand 3")):
+                (cases_sentence.NO_JOBS_DUE, -1, "memory 4 due 3: owed 4, on hand 3")):
             self.assertIsNone(read(order, bound, text), text)
 
     def test_near_lines(self):
@@ -303,7 +305,7 @@ class ReadingBack(unittest.TestCase):
         steps = known_orders.long_stairs(16)
         for order, bound, why in (
                 (LONGEST_STAIRS, LONGEST_AT, Reason("stairs", (-1000000,) * 16)),
-                (steps, 0, Reason("stairs", tuple(range(32, 0, -2))))):
+                (steps, -1, Reason("stairs", tuple(range(32, 0, -2))))):
             data = sentence.line(order, bound, why).encode()
             self.assertEqual(read(order, bound, data), why)
             for _, near in list(cases_sentence.near_lines(data))[::40]:
@@ -313,7 +315,7 @@ class ReadingBack(unittest.TestCase):
         text = "job 1: time 3, end 2: owed 3, on hand 2"
         for _, order, number, carried in (known_orders.REFUSED
                                           + known_orders.REFUSED_COUNTS):
-            for bound in (0, 10000001):
+            for bound in (-1, 10000001):
                 self.assertEqual(read(order, bound, text), (number, carried))
         for bound in (10000001, -10000001):
             self.assertEqual(read(C, bound, text), (8, 0))

@@ -1,4 +1,4 @@
--- Signed numbers of 32 bits: tests of a range, the sum of a due time and a bound.
+-- Signed numbers of 32 bits: tests of a range, the end of a due time and a bound.
 use Prim.Native.Nat.{ℕ, _≤_}
 use mathlib.Core.Path.{_≡_, refl, sym}
 use mathlib.Core.Bool.{true, false, _&&_}
@@ -13,7 +13,7 @@ use mir.Syntax.{w32}
 use Rattle.order.specs.Order.{endAt}
 use Rattle.order.specs.Refusals.{dueInRange, boundInRange}
 use Rattle.order.specs.Deadline.{cut}
-use Rattle.order.specs.EndLaws.{mag-end}
+use Rattle.order.specs.EndLaws.{mag-more, mag-both, mag-end}
 
 -- the two tests of a range
 module _ (z lo hi : ℤ) (f : SFits w32 z) where
@@ -40,17 +40,32 @@ module _ (due bound : ℤ) (f : SFits w32 due) (g : SFits w32 bound) (d : dueInR
   fits-end : SFits w32 (endAt bound due)
   fits-end = record { sfits = omega (arith, mag-end due bound d b) }
 
-  abbrev read : ℤ
-  read = toZ w32 (ofZ w32 due) +ℤ toZ w32 (ofZ w32 bound)
+  -- the due time and the bound, as the machine adds them
+  abbrev both : ℤ
+  both = toZ w32 (ofZ w32 due) +ℤ toZ w32 (ofZ w32 bound)
 
-  read-is : read ≡ endAt bound due
+  both-is : both ≡ due +ℤ bound
+  both-is = rw (toZ-ofZ w32 due f, toZ-ofZ w32 bound g)
+
+  fits-both : SFits w32 (due +ℤ bound)
+  fits-both = record { sfits = omega (arith, mag-both due bound d b) }
+
+  pub both-fits : SFits w32 both
+  both-fits = rw both-is fits-both
+
+  both-back : toZ w32 (ofZ w32 both) ≡ due +ℤ bound
+  both-back = rw both-is (toZ-ofZ w32 (due +ℤ bound) fits-both)
+
+  -- and a minute more
+  pub more-fits : (n : ℕ) → n ≤ 1 → SFits w32 (toZ w32 (ofZ w32 both) +ℤ pos n)
+  more-fits n l =
+      rw both-back (record { sfits = omega (arith, mag-more (due +ℤ bound) n 22000000 (omega (arith, mag-both due bound d b))) })
+
+  read-is : toZ w32 (ofZ w32 both) +ℤ pos 1 ≡ endAt bound due
   unfolding endAt
-  read-is = rw (toZ-ofZ w32 due f, toZ-ofZ w32 bound g)
+  read-is = rw both-back
 
-  pub end-fits : SFits w32 read
-  end-fits = rw read-is fits-end
-
-  pub end-back : toZ w32 (ofZ w32 read) ≡ endAt bound due
+  pub end-back : toZ w32 (ofZ w32 (toZ w32 (ofZ w32 both) +ℤ pos 1)) ≡ endAt bound due
   end-back = rw read-is (toZ-ofZ w32 (endAt bound due) fits-end)
 
   -- what is handed on as the machine reads it back

@@ -25,6 +25,10 @@ boundAt top reach = pos reach -ℤ endAt (pos 0) top
 abbrev pub lastDue : ℤ
 lastDue = pos 1000000
 
+-- the largest reach of a bound in range
+abbrev pub mostReach : ℕ
+mostReach = 11000001
+
 -- what the mathematics asks of an order: some job, and each job takes a minute or more, is due by `top` and fits a processor
 pub record Workable (top : ℤ) (o : Order) : Type 0 where
   pub some-job : 1 ≤ jobCount o

@@ -1,22 +1,21 @@
 -- Laws of leads and reaches: a due time that `top` does not precede is told by its lead, later due times have smaller leads, an end is
 -- the reach less the lead.
-use Prim.Native.Nat.{ℕ, zero, suc, _+_, _-_, _≤_, _<_}
+use Prim.Native.Nat.{ℕ, suc, _+_, _-_, _≤_, _<_}
 use mathlib.Core.Path.{_≡_, sym, ap, _∙_, subst}
 use mathlib.Core.Bool.{true}
 use mathlib.Core.Logic.{_↔_, inl, inr}
 use native.Mathlib.Omega.{arith}
-use native.Mathlib.Decide.{decLt}
-use borrow.Author.Tests.{leb-true, lt-ltb, le-ltb}
+use borrow.Author.Tests.{leb-true}
 use lib.Dec.{leb, ltb}
 use lib.IntN.{ℤ, pos, negsuc, negℤ, _+ℤ_, _-ℤ_, +ℤ-assoc, +ℤ-idl, +ℤ-invr, -ℤ-+ℤ-cancel}
 use lib.Signed.{mag, leZ, ltZ, _≤ℤ_, _<ℤ_}
 use Rattle.sums.specs.Members.{All-map}
 use Rattle.order.specs.Order.{Job, Order, endAt}
 use Rattle.order.specs.Deadline.{cut}
-use Rattle.order.specs.Lead.{lead, reachAt, dueAt, boundAt, lastDue, Workable}
+use Rattle.order.specs.Lead.{lead, reachAt, dueAt, boundAt, lastDue, mostReach, Workable}
 use Rattle.order.specs.Refusals.{dueInRange, boundInRange}
 use Rattle.order.specs.RefusalLaws.{both-true, leZ-true, Acceptable}
-use Rattle.order.specs.EndLaws.{end-later, end-from}
+use Rattle.order.specs.EndLaws.{end-later, end-from, mag-less}
 use Rattle.order.specs.Whole.{
   ltZ-is-ltb,
   true-ltZ,
@@ -144,25 +143,16 @@ lead-most (negsuc n) h = omega (arith, leb-true n 999999 (both-true (leb n 99999
 
 -- the due time of a small lead, and the bound of a small reach, fit a machine number
 pub due-small : (g : ℕ) → g ≤ 2000000 → mag (dueAt lastDue g) < 2147483648
-due-small zero h = omega arith
-due-small (suc g) h =
-    elim (decLt 1000000 (suc g)) [
-      | yes l ↦ rw (lt-ltb 1000000 (suc g) l) (omega arith)
-      | no l ↦ rw (le-ltb 1000000 (suc g) (omega arith)) (omega arith)
-    ]
+due-small g h = mag-less 1000000 g 2147483648 (omega arith)
 
 pub bound-small : (n : ℕ) → n ≤ 640000000 → mag (boundAt lastDue n) < 2147483648
 unfolding endAt
-bound-small n h =
-    elim (decLt n 1000000) [
-      | yes l ↦ rw (lt-ltb n 1000000 l) (omega arith)
-      | no l ↦ rw (le-ltb n 1000000 (omega arith)) (omega arith)
-    ]
+bound-small n h = mag-less n 1000001 2147483648 (omega arith)
 
-pub reach-most : (bound : ℤ) → boundInRange bound ≡ true → reachAt lastDue bound ≤ 11000000
+pub reach-most : (bound : ℤ) → boundInRange bound ≡ true → reachAt lastDue bound ≤ mostReach
 unfolding endAt
 reach-most (pos n) h = omega (arith, leb-true n 10000000 (both-true true (leb n 10000000) h .1))
-reach-most (negsuc n) h = omega (arith, cut-minus 1000000 (suc n))
+reach-most (negsuc n) h = rw (end-from (negsuc n) lastDue) (omega (arith, cut-minus 1000001 (suc n)))
 
 -- an accepted order is one that the mathematics takes
 pub workable : (o : Order) → Acceptable o → Workable lastDue o

@@ -42,9 +42,10 @@ memoryOf o i = nth (o .memories) i 0
 abbrev pub Fits : Job → ℕ → Type 0
 Fits job memory = job .need ≤ memory
 
--- "A job's end is its due time plus the bound." The bound may be any whole number, in the bound's range or not.
+-- Document 02, §3: "A job's end is due time plus bound plus 1": due 10 means done by the close of minute 10, so the end is minute 11.
+-- The bound may be any whole number, in the bound's range or not.
 unfoldable pub endAt : ℤ → ℤ → ℤ
-endAt bound due = due +ℤ bound
+endAt bound due = due +ℤ bound +ℤ pos 1
 
 unfoldable pub endOf : ℤ → Job → ℤ
 endOf bound job = endAt bound (job .due)

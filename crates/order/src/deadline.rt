@@ -11,7 +11,7 @@ pub fn end_of(due: i32, bound: i32) -> i32
     requires { ⌜ (dueInRange due ≡ true) × (boundInRange bound ≡ true) ⌝ }
     ensures { λ r. ⌜ r ≡ endAt bound due ⌝ }
 {
-    due + bound
+    due + bound + 1
 }
 
 pub fn deadline(due: i32, bound: i32) -> u32

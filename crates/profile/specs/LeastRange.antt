@@ -18,7 +18,7 @@ use Rattle.sums.specs.Most.{ceiling, largest-le, most-le, ceiling-le}
 use Rattle.order.specs.Order.{Job, Order, jobCount, Numbers, noJob, jobOf, endAt}
 use Rattle.order.specs.Sorted.{dueTimes}
 use Rattle.order.specs.Class.{classes, classOf, processorsIn, processorsTo}
-use Rattle.order.specs.Lead.{lead, boundAt, lastDue}
+use Rattle.order.specs.Lead.{lead, boundAt, lastDue, mostReach}
 use Rattle.order.specs.LeadLaws.{lead-most}
 use Rattle.order.specs.Refusals.{Accepted, boundInRange}
 use Rattle.order.specs.RefusalLaws.{Acceptable, accepted-iff, dues-in-range}
@@ -88,13 +88,13 @@ module _ (o : Order) (a : Acceptable o) where
           let z : 0 + length es ≡ suc k = omega (arith, c .0) in
           omega (arith, weight-most 0 es (omega arith) (c .1 .members), ap (processorsTo o) z)
 
--- the bound of a reach up to 11,000,000 is in a bound's range
-reach-in-range : (n : ℕ) → n ≤ 11000000 → boundInRange (boundAt lastDue n) ≡ true
+-- the bound of a reach is in a bound's range
+reach-in-range : (n : ℕ) → n ≤ mostReach → boundInRange (boundAt lastDue n) ≡ true
 unfolding endAt
 reach-in-range n h =
-    elim (decLt n 1000000) [
-      | yes l ↦ rw (subℕ-neg n 1000000 l, le-leb (1000000 - suc n) 9999999 (omega arith))
-      | no l ↦ rw (subℕ-pos n 1000000 (omega arith), le-leb (n - 1000000) 10000000 (omega arith))
+    elim (decLt n 1000001) [
+      | yes l ↦ rw (subℕ-neg n 1000001 l, le-leb (1000001 - suc n) 9999999 (omega arith))
+      | no l ↦ rw (subℕ-pos n 1000001 (omega arith), le-leb (n - 1000001) 10000000 (omega arith))
     ]
 
 -- the least lateness is in a bound's range

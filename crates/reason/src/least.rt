@@ -1,4 +1,4 @@
-// The least reach: 1,000,000 more than the least lateness. All serve the crates above and have a `requires`.
+// The least reach: 1,000,001 more than the least lateness. All serve the crates above and have a `requires`.
 use super::weight::table;
 use stairs::completion::heaviest;
 use stairs::completion::larger;

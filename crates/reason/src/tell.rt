@@ -17,7 +17,7 @@ ghost use Prim.Native.Nat.{ℕ, _<_, _≤_};
 ghost use lib.IntN.{pos};
 ghost use lib.ListN.{length, getD};
 ghost use Rattle.sums.specs.Lists.{tabulate};
-ghost use Rattle.order.specs.Lead.{boundAt, lastDue};
+ghost use Rattle.order.specs.Lead.{boundAt, lastDue, mostReach};
 ghost use Rattle.order.specs.Refusals.{Accepted, boundInRange, first};
 ghost use Rattle.order.specs.Table.{orderOf, findingOf};
 ghost use Rattle.profile.specs.Search.{reasonOf};
@@ -62,7 +62,7 @@ pub fn dues_of(grid: [u32; 48], at: [u32; 16], k: u32) -> [i32; 16]
 // Why a reach is too small, or that it is not.
 pub fn tell(o: Table, reach: u32) -> Why
     requires { ⌜ Fine o ⌝ }
-    requires { ⌜ reach ≤ 11000000 ⌝ }
+    requires { ⌜ reach ≤ mostReach ⌝ }
     ensures { λ r. ⌜ r ≡ toldOf o reach ⌝ }
 {
     let j = first_late(o, reach);

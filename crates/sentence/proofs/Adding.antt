@@ -8,7 +8,7 @@ use lib.IntN.{ℤ, pos}
 use lib.ListN.{getD}
 use Rattle.sums.specs.Arrays.{RowOf}
 use Rattle.sums.specs.Sum.{sum, sum-more, sum-cong}
-use Rattle.order.specs.Lead.{lead, lastDue}
+use Rattle.order.specs.Lead.{lead, lastDue, mostReach}
 use Rattle.table.specs.declared.Table.{Table}
 use Rattle.sentence.specs.Inside.{owesBy, owedTo, handTo}
 
@@ -20,7 +20,7 @@ pub sum-to : (n m x : ℕ) (f : ℕ → ℕ) → x ≡ sum n f → n ≡ m → x
 sum-to n m x f e h = e ∙ ap (λ (k : ℕ). sum k f) h
 
 -- a class's processors times an end
-pub hand-small : (p e : ℕ) → p ≤ 16 → e ≤ 11000000 → p * e ≤ 176000000
+pub hand-small : (p e : ℕ) → p ≤ 16 → e ≤ mostReach → p * e ≤ 16 * mostReach
 hand-small p e h k = omega (arith, mul-le-mul h k)
 
 -- by the leads of the due times

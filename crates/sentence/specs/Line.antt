@@ -1,6 +1,6 @@
 -- Document 02, §1: "the reason shall be one English line: the job with its time and its end, or each class's memory with its due
--- time, then minutes owed and minutes on hand". At 0 the line for B is `memory 8 due 4, memory 4 due 2: owed 8, on hand 6`; for C at
--- -8 it is `job 1: time 3, end 2: owed 3, on hand 2`. No line feed is part of it.
+-- time, then minutes owed and minutes on hand". At -1 the line for B is `memory 8 due 4, memory 4 due 2: owed 8, on hand 6`; for C
+-- at -9 it is `job 1: time 3, end 2: owed 3, on hand 2`. No line feed is part of it.
 use Prim.Native.Nat.{ℕ, zero, suc}
 use mathlib.Core.Bool.{cond}
 use mathlib.Core.List.{List, [], _∷_, _++_}

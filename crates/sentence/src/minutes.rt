@@ -11,7 +11,7 @@ ghost use lib.ListN.{getD};
 ghost use Rattle.sums.specs.Sum.{sum};
 ghost use Rattle.sums.specs.Arrays.{RowOf};
 ghost use Rattle.sums.specs.Lists.{only};
-ghost use Rattle.order.specs.Lead.{lead, lastDue};
+ghost use Rattle.order.specs.Lead.{lead, lastDue, mostReach};
 ghost use Rattle.table.specs.Tabled.{Fine};
 ghost use Rattle.sentence.specs.Inside.{owesBy, DuesInRange};
 
@@ -56,7 +56,7 @@ fn class_owes(t: Table, class: u32, g: u32) -> u32
 
 // The two sums of the first k classes at a reach, by the leads of their due times.
 pub fn sums_of(t: Table, reach: u32, leads: [u32; 16], k: usize) -> Sums
-    requires { ⌜ Fine t × (reach ≤ 11000000) × (k ≤ 16) × ((i : ℕ) → i < k → getD leads i 0 ≤ reach) ⌝ }
+    requires { ⌜ Fine t × (reach ≤ mostReach) × (k ≤ 16) × ((i : ℕ) → i < k → getD leads i 0 ≤ reach) ⌝ }
     ensures { λ r. ⌜ (r .owed ≡ sum k (λ i. owesBy t (suc i) (getD leads i 0)))
         × (r .«on_hand» ≡ sum k (λ i. getD (t .procs) i 0 * (reach - getD leads i 0))) × (r .owed ≤ 76800000) ⌝ }
 {

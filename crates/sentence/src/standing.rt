@@ -12,7 +12,7 @@ ghost use mathlib.Core.Logic.{_↔_};
 ghost use Prim.Native.Nat.{_<_, _≤_};
 ghost use lib.ListN.{take};
 ghost use Rattle.sums.specs.Lists.{In};
-ghost use Rattle.order.specs.Lead.{lastDue};
+ghost use Rattle.order.specs.Lead.{lastDue, mostReach};
 ghost use Rattle.order.specs.Refusals.{Accepted, boundInRange};
 ghost use Rattle.order.specs.Sorted.{dueTimes};
 ghost use Rattle.order.specs.Table.{orderOf};
@@ -66,7 +66,7 @@ fn steps_fit(order: Order, dues: [i32; 16], k: usize) -> bool
 
 // The two sums of k due times that fit, where all jobs are in time, and whether the staircase is overfull.
 fn weigh_steps(t: Table, reach: u32, dues: [i32; 16], k: usize) -> Weighed
-    requires { ⌜ Fine t × (reach ≤ 11000000) × (k ≤ 16) × StepsReached reach dues k ⌝ }
+    requires { ⌜ Fine t × (reach ≤ mostReach) × (k ≤ 16) × StepsReached reach dues k ⌝ }
     ensures { λ r. ⌜ SumsTold (owedTo t dues k) (handTo t reach dues k) r ⌝ }
 {
     let sums = sums_of(t, reach, leads_of(dues, k), k);

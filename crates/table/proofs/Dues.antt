@@ -3,8 +3,8 @@ use Prim.Native.Nat.{ℕ, _≤_}
 use mathlib.Core.Path.{_≡_, refl, ap}
 use mathlib.Core.Bool.{true}
 use native.Mathlib.Omega.{arith}
-use lib.IntN.{ℤ, pos, natAbs, _-ℤ_}
-use lib.Signed.{nonNeg}
+use lib.IntN.{ℤ, pos, natAbs, _+ℤ_, _-ℤ_}
+use lib.Signed.{mag, nonNeg}
 use lib.Dec.{T}
 use mir.Syntax.{w32}
 use mir.Val.{toZ, ofZ, SFits, Fits}
@@ -13,6 +13,7 @@ use Rattle.order.specs.Machine.{machine-back}
 use Rattle.order.specs.Order.{endAt}
 use Rattle.order.specs.Refusals.{dueInRange}
 use Rattle.order.specs.Lead.{lead, dueAt, boundAt, lastDue}
+use Rattle.order.specs.EndLaws.{mag-sum}
 use Rattle.order.specs.LeadLaws.{lead-whole, due-by-last, lead-most, due-small, bound-small}
 
 pub due-fits : (n : ℕ) → n ≤ 2000000 → SFits w32 (dueAt lastDue n)
@@ -46,15 +47,12 @@ module _ (due : ℤ) (f : SFits w32 due) (h : dueInRange due ≡ true) where
 
 -- the bound of a reach, as the machine computes it
 module _ (n : ℕ) (h : n ≤ 640000000) where
-  abbrev less : ℤ
-  less = toZ w32 n -ℤ pos 1000000
+  pub sum-fits : (z : ℤ) → mag z ≤ 1000001 → SFits w32 (toZ w32 n +ℤ z)
+  sum-fits z l = rw (toZ-pos w32 n (omega arith)) (record { sfits = omega (arith, mag-sum (pos n) z) })
 
-  less-is : less ≡ boundAt lastDue n
+  less-is : toZ w32 n -ℤ pos 1000001 ≡ boundAt lastDue n
   unfolding endAt
-  less-is = ap (λ (z : ℤ). z -ℤ pos 1000000) (toZ-pos w32 n (omega arith))
+  less-is = ap (λ (z : ℤ). z -ℤ pos 1000001) (toZ-pos w32 n (omega arith))
 
-  pub bound-fits : SFits w32 less
-  bound-fits = rw less-is (record { sfits = bound-small n h })
-
-  pub bound-read : toZ w32 (ofZ w32 less) ≡ boundAt lastDue n
+  pub bound-read : toZ w32 (ofZ w32 (toZ w32 n -ℤ pos 1000001)) ≡ boundAt lastDue n
   bound-read = rw less-is (machine-back (boundAt lastDue n) (bound-small n h))

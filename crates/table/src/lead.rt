@@ -11,7 +11,7 @@ ghost use lib.IntN.{pos};
 ghost use lib.ListN.{getD};
 ghost use Rattle.order.specs.Refusals.{Accepted, dueInRange, boundInRange};
 ghost use Rattle.order.specs.Table.{orderOf};
-ghost use Rattle.order.specs.Lead.{lead, dueAt, reachAt, boundAt, lastDue};
+ghost use Rattle.order.specs.Lead.{lead, dueAt, reachAt, boundAt, lastDue, mostReach};
 ghost use Rattle.sums.specs.Arrays.{RowOf};
 ghost use Rattle.table.specs.Tabled.{GridOf};
 
@@ -33,7 +33,7 @@ pub fn due_of(lead: u32) -> i32
 // The reach of a bound.
 pub fn reach_of(bound: i32) -> u32
     requires { ⌜ boundInRange bound ≡ true ⌝ }
-    ensures { λ r. ⌜ (r ≡ reachAt lastDue bound) × (r ≤ 11000000) ⌝ }
+    ensures { λ r. ⌜ (r ≡ reachAt lastDue bound) × (r ≤ mostReach) ⌝ }
 {
     deadline(1000000, bound)
 }
@@ -43,7 +43,7 @@ pub fn bound_of(reach: u32) -> i32
     requires { ⌜ reach ≤ 640000000 ⌝ }
     ensures { λ r. ⌜ r ≡ boundAt lastDue reach ⌝ }
 {
-    (reach as i32) - 1000000
+    (reach as i32) - 1000001
 }
 
 // The difference, 0 where it is negative.

@@ -1,11 +1,11 @@
--- Document 01's cases with a ●, the lines of document 02, §1, joined rows of §2, and more: one table, and one theorem that every case holds
--- of the definitions.
+-- Document 01's cases with a ●, the lines of document 02, §1, joined rows of §2, ends of §3, and more: one table, and one theorem that
+-- every case holds of the definitions.
 use Prim.Native.Nat.{ℕ, suc}
 use Prim.Native.String.{String}
 use mathlib.Core.Path.{_≡_, refl, sym, ap, _∙_, subst}
 use mathlib.Core.Bool.{Bool, true, false, true≢false}
 use mathlib.Core.List.{List, [], _∷_, map}
-use lib.IntN.{ℤ, pos, negsuc}
+use lib.IntN.{ℤ, pos, negℤ}
 use Rattle.sums.specs.Sum.{sum}
 use lib.ListN.{getD}
 use Rattle.sums.specs.Lists.{All, keep, nth, tabulate}
@@ -82,70 +82,77 @@ row job processor from to = record { job = job; processor = processor; from = fr
 abbrev piece : ℕ → ℕ → Row
 piece from to = row 1 1 from to
 
--- document 01's cases with a ●; then a reason, and plans that break one rule each beside one that breaks none
+abbrev minus : ℕ → ℤ
+minus n = negℤ (pos n)
+
+-- document 01's cases with a ●, with the ends of document 02, §3; then a reason, and plans that break one rule each beside one that
+-- breaks none
 abbrev pub cases : List Case
 cases =
-    leastIs A (pos 1)
-    ∷ reasonIs A (pos 0) (stairs (pos 3 ∷ pos 3 ∷ [])) 7 (pos 6)
-    ∷ leastIs B (pos 1)
-    ∷ reasonIs B (pos 0) (stairs (pos 4 ∷ pos 2 ∷ [])) 8 (pos 6)
-    ∷ leastIs C (negsuc 6)
-    ∷ reasonIs C (negsuc 7) (overEnd 1) 3 (pos 2)
-    ∷ leastIs D (negsuc 1)
-    ∷ leastIs needZero (pos 0)
-    ∷ leastIs overdue (pos 6)
-    ∷ rightIs C (pos 0) (piece 0 1 ∷ piece 1 3 ∷ [])
-    ∷ wrongIs C (pos 0) (piece 0 2 ∷ piece 1 2 ∷ [])
+    leastIs A (pos 0)
+    ∷ reasonIs A (minus 1) (stairs (pos 3 ∷ pos 3 ∷ [])) 7 (pos 6)
+    ∷ leastIs B (pos 0)
+    ∷ reasonIs B (minus 1) (stairs (pos 4 ∷ pos 2 ∷ [])) 8 (pos 6)
+    ∷ leastIs C (minus 8)
+    ∷ reasonIs C (minus 9) (overEnd 1) 3 (pos 2)
+    ∷ leastIs D (minus 3)
+    ∷ leastIs needZero (minus 1)
+    ∷ leastIs overdue (pos 5)
+    ∷ rightIs C (minus 1) (piece 0 1 ∷ piece 1 3 ∷ [])
+    ∷ wrongIs C (minus 1) (piece 0 2 ∷ piece 1 2 ∷ [])
+    -- document 02, §3: due 10 is done by the close of minute 10, and a minute later it is late
+    ∷ rightIs C (pos 0) (piece 8 11 ∷ [])
+    ∷ wrongIs C (pos 0) (piece 9 12 ∷ [])
     -- document 02, §1: its two lines, and that of A
-    ∷ lineIs B (pos 0) (stairs (pos 4 ∷ pos 2 ∷ [])) "memory 8 due 4, memory 4 due 2: owed 8, on hand 6"
-    ∷ lineIs C (negsuc 7) (overEnd 1) "job 1: time 3, end 2: owed 3, on hand 2"
-    ∷ lineIs A (pos 0) (stairs (pos 3 ∷ pos 3 ∷ [])) "memory 8 due 3, memory 4 due 3: owed 7, on hand 6"
+    ∷ lineIs B (minus 1) (stairs (pos 4 ∷ pos 2 ∷ [])) "memory 8 due 4, memory 4 due 2: owed 8, on hand 6"
+    ∷ lineIs C (minus 9) (overEnd 1) "job 1: time 3, end 2: owed 3, on hand 2"
+    ∷ lineIs A (minus 1) (stairs (pos 3 ∷ pos 3 ∷ [])) "memory 8 due 3, memory 4 due 3: owed 7, on hand 6"
     -- beyond them: due times where the ends are others; a negative end; of three jobs each late one has a line, the other none,
     -- and no staircase has one
-    ∷ lineIs D (negsuc 2) (stairs (pos 4 ∷ [])) "memory 8 due 4: owed 3, on hand 2"
-    ∷ lineIs C (negsuc 19) (overEnd 1) "job 1: time 3, end -10: owed 3, on hand -10"
-    ∷ lineIs twoLate (pos 0) (overEnd 1) "job 1: time 3, end 1: owed 3, on hand 1"
-    ∷ lineIs twoLate (pos 0) (overEnd 3) "job 3: time 5, end 2: owed 5, on hand 2"
-    ∷ noLine twoLate (pos 0) (overEnd 2)
-    ∷ noLine twoLate (pos 0) (stairs (pos 2 ∷ []))
+    ∷ lineIs D (minus 4) (stairs (pos 4 ∷ [])) "memory 8 due 4: owed 3, on hand 2"
+    ∷ lineIs C (minus 21) (overEnd 1) "job 1: time 3, end -10: owed 3, on hand -10"
+    ∷ lineIs twoLate (minus 1) (overEnd 1) "job 1: time 3, end 1: owed 3, on hand 1"
+    ∷ lineIs twoLate (minus 1) (overEnd 3) "job 3: time 5, end 2: owed 5, on hand 2"
+    ∷ noLine twoLate (minus 1) (overEnd 2)
+    ∷ noLine twoLate (minus 1) (stairs (pos 2 ∷ []))
     -- document 02, §2: a job joined over two stretches, and over three; at A's least there is nothing to join; of a job that wraps in the
     -- next stretch the joined row stands first, and its other part where the wrap puts it
-    ∷ laidIs onTop (pos 0) ((2 ∷ 2 ∷ []) ∷ (2 ∷ []) ∷ []) (row 1 1 0 2 ∷ row 2 2 0 2 ∷ row 1 1 2 4 ∷ [])
+    ∷ laidIs onTop (minus 1) ((2 ∷ 2 ∷ []) ∷ (2 ∷ []) ∷ []) (row 1 1 0 2 ∷ row 2 2 0 2 ∷ row 1 1 2 4 ∷ [])
     (row 1 1 0 4 ∷ row 2 2 0 2 ∷ [])
-    ∷ laidIs chain (pos 0) ((2 ∷ 2 ∷ 2 ∷ []) ∷ (2 ∷ []) ∷ (0 ∷ 2 ∷ []) ∷ [])
+    ∷ laidIs chain (minus 1) ((2 ∷ 2 ∷ 2 ∷ []) ∷ (2 ∷ []) ∷ (0 ∷ 2 ∷ []) ∷ [])
     (row 1 1 0 2 ∷ row 2 2 0 2 ∷ row 1 1 2 4 ∷ row 3 2 2 4 ∷ row 1 1 4 6 ∷ [])
     (row 1 1 0 6 ∷ row 2 2 0 2 ∷ row 3 2 2 4 ∷ [])
-    ∷ laidIs A (pos 1) ((3 ∷ []) ∷ (3 ∷ []) ∷ (1 ∷ 1 ∷ []) ∷ [])
+    ∷ laidIs A (pos 0) ((3 ∷ []) ∷ (3 ∷ []) ∷ (1 ∷ 1 ∷ []) ∷ [])
     (row 1 1 0 3 ∷ row 2 1 3 4 ∷ row 2 2 0 2 ∷ row 3 2 2 3 ∷ row 3 1 4 5 ∷ [])
     (row 1 1 0 3 ∷ row 2 1 3 4 ∷ row 2 2 0 2 ∷ row 3 2 2 3 ∷ row 3 1 4 5 ∷ [])
-    ∷ laidIs wraps (pos 0) ((2 ∷ 3 ∷ []) ∷ (2 ∷ 3 ∷ []) ∷ (1 ∷ []) ∷ [])
+    ∷ laidIs wraps (minus 1) ((2 ∷ 3 ∷ []) ∷ (2 ∷ 3 ∷ []) ∷ (1 ∷ []) ∷ [])
     (row 1 1 0 2 ∷ row 2 2 0 2 ∷ row 3 3 0 1 ∷ row 1 1 2 5 ∷ row 2 1 5 6 ∷ row 2 2 2 4 ∷ [])
     (row 1 1 0 5 ∷ row 2 2 0 4 ∷ row 3 3 0 1 ∷ row 2 1 5 6 ∷ [])
     -- a processor that rests before the stretch's end ends it with no job
-    ∷ endsIs wraps (pos 0) ((2 ∷ 3 ∷ []) ∷ (2 ∷ 3 ∷ []) ∷ (1 ∷ []) ∷ []) 0 (1 ∷ 2 ∷ 0 ∷ [])
-    ∷ endsIs wraps (pos 0) ((2 ∷ 3 ∷ []) ∷ (2 ∷ 3 ∷ []) ∷ (1 ∷ []) ∷ []) 1 (2 ∷ 0 ∷ 0 ∷ [])
+    ∷ endsIs wraps (minus 1) ((2 ∷ 3 ∷ []) ∷ (2 ∷ 3 ∷ []) ∷ (1 ∷ []) ∷ []) 0 (1 ∷ 2 ∷ 0 ∷ [])
+    ∷ endsIs wraps (minus 1) ((2 ∷ 3 ∷ []) ∷ (2 ∷ 3 ∷ []) ∷ (1 ∷ []) ∷ []) 1 (2 ∷ 0 ∷ 0 ∷ [])
     -- another processor, another job, and a pause are not joined
     ∷ joinedIs (row 1 1 0 2 ∷ row 1 2 2 4 ∷ []) (row 1 1 0 2 ∷ row 1 2 2 4 ∷ [])
     ∷ joinedIs (row 1 1 0 2 ∷ row 2 1 2 4 ∷ []) (row 1 1 0 2 ∷ row 2 1 2 4 ∷ [])
     ∷ joinedIs (row 1 1 0 2 ∷ row 1 1 3 4 ∷ []) (row 1 1 0 2 ∷ row 1 1 3 4 ∷ [])
     -- beyond document 01's: of two overfull staircases, the one that ranks first
-    ∷ reasonIs twoOverfull (pos 0) (stairs (pos 4 ∷ pos 2 ∷ [])) 8 (pos 6)
+    ∷ reasonIs twoOverfull (minus 1) (stairs (pos 4 ∷ pos 2 ∷ [])) 8 (pos 6)
     -- an empty row, and one that goes backwards, beside a right plan
-    ∷ wrongIs C (pos 0) (piece 0 3 ∷ piece 3 3 ∷ [])
-    ∷ wrongIs C (pos 0) (piece 0 3 ∷ piece 5 4 ∷ [])
+    ∷ wrongIs C (minus 1) (piece 0 3 ∷ piece 3 3 ∷ [])
+    ∷ wrongIs C (minus 1) (piece 0 3 ∷ piece 5 4 ∷ [])
     -- a minute too many, and a minute late
-    ∷ wrongIs C (pos 0) (piece 0 4 ∷ [])
-    ∷ wrongIs C (pos 0) (piece 8 11 ∷ [])
+    ∷ wrongIs C (minus 1) (piece 0 4 ∷ [])
+    ∷ wrongIs C (minus 1) (piece 8 11 ∷ [])
     -- a row of job 2 or job 0 of one job, and on processor 2 or processor 0 of one processor
-    ∷ wrongIs C (pos 4) (piece 0 3 ∷ row 2 1 3 4 ∷ [])
-    ∷ wrongIs C (pos 4) (piece 0 3 ∷ row 0 1 3 4 ∷ [])
-    ∷ wrongIs needZero (pos 0) (row 1 2 0 1 ∷ [])
-    ∷ wrongIs needZero (pos 0) (row 1 0 0 1 ∷ [])
+    ∷ wrongIs C (pos 3) (piece 0 3 ∷ row 2 1 3 4 ∷ [])
+    ∷ wrongIs C (pos 3) (piece 0 3 ∷ row 0 1 3 4 ∷ [])
+    ∷ wrongIs needZero (minus 1) (row 1 2 0 1 ∷ [])
+    ∷ wrongIs needZero (minus 1) (row 1 0 0 1 ∷ [])
     -- rows that touch; a job on a processor that is too small; two rows of a processor, and of a job, at once
-    ∷ rightIs A (pos 1) (row 1 1 0 3 ∷ row 2 2 0 3 ∷ row 3 1 3 4 ∷ row 3 2 4 5 ∷ [])
-    ∷ wrongIs A (pos 1) (row 1 2 0 3 ∷ row 2 1 0 3 ∷ row 3 1 3 4 ∷ row 3 2 4 5 ∷ [])
-    ∷ wrongIs A (pos 1) (row 1 1 0 3 ∷ row 2 2 0 3 ∷ row 3 1 2 3 ∷ row 3 2 4 5 ∷ [])
-    ∷ wrongIs A (pos 1) (row 1 1 0 3 ∷ row 2 2 0 3 ∷ row 3 1 3 4 ∷ row 3 2 3 4 ∷ [])
+    ∷ rightIs A (pos 0) (row 1 1 0 3 ∷ row 2 2 0 3 ∷ row 3 1 3 4 ∷ row 3 2 4 5 ∷ [])
+    ∷ wrongIs A (pos 0) (row 1 2 0 3 ∷ row 2 1 0 3 ∷ row 3 1 3 4 ∷ row 3 2 4 5 ∷ [])
+    ∷ wrongIs A (pos 0) (row 1 1 0 3 ∷ row 2 2 0 3 ∷ row 3 1 2 3 ∷ row 3 2 4 5 ∷ [])
+    ∷ wrongIs A (pos 0) (row 1 1 0 3 ∷ row 2 2 0 3 ∷ row 3 1 3 4 ∷ row 3 2 3 4 ∷ [])
     ∷ []
 
 -- what a case is about: whether the order is accepted and its least lateness; the reason and its minutes; yes or no

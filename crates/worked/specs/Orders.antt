@@ -29,7 +29,7 @@ needZero = order (4 ∷ []) (job 1 (pos 1) 0 ∷ [])
 abbrev pub overdue : Order
 overdue = order (1 ∷ []) (job 1 (negsuc 4) 1 ∷ [])
 
--- B and a job more: the staircases 4, 2 and 4, 4 are both overfull at 0
+-- B and a job more: the staircases 4, 2 and 4, 4 are both overfull at -1
 abbrev pub twoOverfull : Order
 twoOverfull =
     order (8 ∷ 4 ∷ [])
@@ -46,6 +46,6 @@ chain = order (8 ∷ 4 ∷ []) (job 6 (pos 6) 8 ∷ job 2 (pos 2) 4 ∷ job 2 (p
 abbrev pub wraps : Order
 wraps = order (8 ∷ 8 ∷ 4 ∷ []) (job 5 (pos 6) 8 ∷ job 5 (pos 6) 8 ∷ job 1 (pos 2) 4 ∷ [])
 
--- memory 4; jobs (3, 1, 0), (1, 9, 0), (5, 2, 0): at 0 the first and the last are over their ends
+-- memory 4; jobs (3, 1, 0), (1, 9, 0), (5, 2, 0): at -1 the first and the last are over their ends
 abbrev pub twoLate : Order
 twoLate = order (4 ∷ []) (job 3 (pos 1) 0 ∷ job 1 (pos 9) 0 ∷ job 5 (pos 2) 0 ∷ [])

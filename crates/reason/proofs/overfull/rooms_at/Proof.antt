@@ -6,6 +6,7 @@ use native.Mathlib.Numerals.{add-one}
 use borrow.Author.Needs.{needs}
 use lib.ListN.{length, getD}
 use Rattle.sums.specs.Arrays.{RowOf, fill-at}
+use Rattle.order.specs.Lead.{mostReach}
 use Rattle.reason.specs.Asked.{procsTo}
 use Rattle.reason.specs.WeightLaws.{procs-none, procs-suc, procs-le}
 use Rattle.reason.proofs.overfull.rooms_at.Statement.{statement}
@@ -45,7 +46,7 @@ mul-r c =
       procs-le (s .args .t1) (s .pre .0) (suc (l .k))
           (omega arith),
     ) in
-    let p : (l .m + getD (s .args .t1 .procs) (l .k) 0) * s .args .reach ≤ 256 * 11000000 = mul-le-mul m (s .pre .1) in
+    let p : (l .m + getD (s .args .t1 .procs) (l .k) 0) * s .args .reach ≤ 256 * mostReach = mul-le-mul m (s .pre .1) in
     omega (arith, p)
 
 mul-r-2 : tie.Need-mul-r-2 Inv-loop μ-loop

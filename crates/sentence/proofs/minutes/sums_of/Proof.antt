@@ -2,6 +2,7 @@ use Prim.Native.Nat.{ℕ, suc, _+_, _-_, _*_, _≤_}
 use mathlib.Core.Path.{_≡_, refl, sym, ap, _∙_}
 use lib.ListN.{getD}
 use Rattle.sums.specs.Sum.{sum, sum-none}
+use Rattle.order.specs.Lead.{mostReach}
 use Rattle.sentence.specs.Inside.{owesBy}
 use Rattle.sentence.proofs.Adding.{sum-step, sum-to, hand-small}
 use borrow.Author.Needs.{needs}
@@ -14,7 +15,7 @@ use Rattle.sentence.proofs.minutes.class_owes.Reads as class-owes-reads
 
 abbrev Inv-loop : tie.InvT-loop
 Inv-loop reach k t leads owed₀ on-hand₀ i₀ owed on-hand i =
-    (i ≤ k) × (owed ≤ 4800000 * i) × (on-hand ≤ 176000000 * i) × (owed ≡ sum i (λ i. owesBy t (suc i) (getD leads i 0)))
+    (i ≤ k) × (owed ≤ 4800000 * i) × (on-hand ≤ 16 * mostReach * i) × (owed ≡ sum i (λ i. owesBy t (suc i) (getD leads i 0)))
     × (on-hand ≡ sum i (λ i. getD (t .procs) i 0 * (reach - getD leads i 0)))
 
 abbrev μ-loop : tie.MeasureT-loop
