@@ -154,8 +154,8 @@ fn minute_apart(random: &mut Random) -> Order {
     order
 }
 
-/// Three jobs in each of 16 classes that fill its processor without a gap and end at their due
-/// times: no minute is free.
+/// Three jobs in each of 16 classes that fill its processor without a gap up to their due times: at
+/// the least lateness, -1, no minute is free.
 fn full(random: &mut Random) -> Order {
     let memories = memories(random, 16, 16);
     let last = 2000;

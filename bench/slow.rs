@@ -41,7 +41,7 @@ fn minutes(random: &mut Random, processors: u32, jobs: u32) -> Vec<[u32; 4]> {
 }
 
 /// The order whose jobs have the minutes of the rows. All are due at 0, so that the least lateness
-/// is where the last row ends.
+/// is the last row's minute.
 fn order(processors: u32, jobs: u32, rows: &[[u32; 4]]) -> Order {
     let job = |number: u32| Job {
         time: rows.iter().filter(|row| row[0] == number).count() as i32,

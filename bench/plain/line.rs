@@ -1,7 +1,7 @@
 //! The line of a reason that is handed in as its numbers: the kind, the job or the count of classes,
 //! the job's time, and the classes' due times.
 
-use super::order::Order;
+use super::order::{self, Order};
 use super::setting::Setting;
 use super::standing;
 use super::text::Text;
@@ -38,7 +38,7 @@ fn put_job(order: &Order, bound: i32, number: i32, time: i32, text: &mut Text) {
     let Some(job) = order.jobs().get((number as usize).wrapping_sub(1)) else {
         return;
     };
-    let end = job.due + bound;
+    let end = order::end(job.due, bound);
     if job.time as i32 != time || time <= end {
         return;
     }

@@ -83,7 +83,12 @@ pub fn accept_jobs(order: &Order) -> Result<(), Refusal> {
     Ok(())
 }
 
+/// A job's end at a bound: the due minute is included.
+pub fn end(due: i32, bound: i32) -> i32 {
+    due + bound + 1
+}
+
 /// A job's end at a bound, cut off at minute 0.
 pub fn deadline(due: i32, bound: i32) -> u32 {
-    (due + bound).max(0) as u32
+    end(due, bound).max(0) as u32
 }

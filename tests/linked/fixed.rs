@@ -1,6 +1,8 @@
 //! Document 01's "Orders to try", the small examples of its refusal table and its order file of C,
-//! with the values that stand there; the lines and the joined rows of document 02 in `fixed/`.
+//! with the values that stand there, the leasts and the bounds one lower as document 02's §3 has
+//! them; the lines, the joined rows and the ends of document 02 in `fixed/`.
 
+mod ends;
 mod joins;
 mod lines;
 mod others;
@@ -54,6 +56,7 @@ pub fn run(trial: &mut Trial) {
     lines::run(trial);
     others::run(trial);
     joins::run(trial);
+    ends::run(trial);
 }
 
 /// A call on the order's file, all of whose buffers are long enough.
@@ -80,12 +83,12 @@ fn case(trial: &mut Trial, function: Function, call: Call, result: u32, answer: 
 
 fn lateness(trial: &mut Trial) {
     let cases = [
-        (a(), 1),
-        (b(), 1),
-        (c(), -7),
-        (d(), -2),
-        (order(&[4], &[(1, 1, 0)]), 0),
-        (order(&[1], &[(1, -5, 1)]), 6),
+        (a(), 0),
+        (b(), 0),
+        (c(), -8),
+        (d(), -3),
+        (order(&[4], &[(1, 1, 0)]), -1),
+        (order(&[1], &[(1, -5, 1)]), 5),
     ];
     for (order, least) in cases {
         let call = on(&mut trial.random, &order);
@@ -95,10 +98,10 @@ fn lateness(trial: &mut Trial) {
 
 fn reasons(trial: &mut Trial) {
     let cases: [(Order, i32, &[i32]); 4] = [
-        (a(), 0, &[2, 2, 0, 3, 3, 0]),
-        (b(), 0, &[2, 2, 0, 4, 2, 0]),
-        (c(), -8, &[1, 1, 3, 0]),
-        (c(), -7, &[0, 0, 0, 0]),
+        (a(), -1, &[2, 2, 0, 3, 3, 0]),
+        (b(), -1, &[2, 2, 0, 4, 2, 0]),
+        (c(), -9, &[1, 1, 3, 0]),
+        (c(), -8, &[0, 0, 0, 0]),
     ];
     for (order, bound, reason) in cases {
         let call = on(&mut trial.random, &order).at(bound);
@@ -113,7 +116,7 @@ fn checks(trial: &mut Trial) {
     ];
     for (rows, answer) in cases {
         let call = on(&mut trial.random, &c()).with_rows(&mut trial.random, rows);
-        case(trial, Function::Check, call, 0, &[answer]);
+        case(trial, Function::Check, call.at(-1), 0, &[answer]);
     }
 }
 
@@ -145,7 +148,7 @@ fn other_refusals(trial: &mut Trial) {
     case(trial, Function::Plan, call, 8, &[]);
     let call = on(&mut trial.random, &c()).with_room(&mut trial.random, 0);
     case(trial, Function::Least, call, 9, &[]);
-    let call = on(&mut trial.random, &a());
+    let call = on(&mut trial.random, &a()).at(-1);
     case(trial, Function::Plan, call, 10, &[]);
     let call = on(&mut trial.random, &c()).with_room(&mut trial.random, 4 * 3_025);
     case(trial, Function::Check, call, 11, &[]);
@@ -161,7 +164,7 @@ fn accepted(trial: &mut Trial) {
     let call = on(&mut trial.random, &largest);
     case(trial, Function::Judge, call, 0, &[16, 48, 63]);
     let call = on(&mut trial.random, &c()).with_room(&mut trial.random, 4);
-    case(trial, Function::Least, call, 0, &[-7, 1]);
+    case(trial, Function::Least, call, 0, &[-8, 1]);
     let call = Call::with_lists(&mut trial.random, &[4], &[3, 10, 4], 28, 1);
     case(trial, Function::Write, call, 0, &[28]);
     if write(&c()) != C_FILE {

@@ -57,10 +57,15 @@ pub struct Job {
 }
 
 impl Job {
-    /// "A job's end is its due time plus the bound."
     pub fn end(&self, bound: i64) -> i64 {
-        i64::from(self.due).saturating_add(bound)
+        end(self.due, bound)
     }
+}
+
+/// "A job's end is due time plus bound plus 1 from here on, in plans, checks and staircases alike":
+/// "due 10" is "done by the close of minute 10".
+pub fn end(due: i32, bound: i64) -> i64 {
+    i64::from(due).saturating_add(bound).saturating_add(1)
 }
 
 /// An order: a memory to each processor, and the jobs, both in input order.

@@ -1,5 +1,5 @@
 //! A plain search over tiny orders: minute by minute, any set of jobs that processors can take at
-//! once. Nothing here knows of stretches, classes or flows.
+//! once. Nothing here knows of ends, stretches, classes or flows.
 
 use crate::independent::Order;
 use std::cmp::Reverse;
@@ -11,7 +11,8 @@ pub fn meets(order: &Order, bound: i64) -> bool {
     from_minute(order, bound, 0, left, &mut HashSet::new())
 }
 
-/// Whether the minutes left can be done from this minute on.
+/// Whether the minutes left can be done from this minute on. "due 10" is "done by the close of
+/// minute 10": the last minute that a job may take is its due time moved by the bound.
 fn from_minute(
     order: &Order,
     bound: i64,
@@ -19,7 +20,8 @@ fn from_minute(
     left: Vec<u32>,
     failed: &mut HashSet<(i64, Vec<u32>)>,
 ) -> bool {
-    let lost = |job: usize| minute + i64::from(left[job]) > order.jobs[job].end(bound);
+    let last = |job: usize| minute + i64::from(left[job]) - 1;
+    let lost = |job: usize| last(job) > i64::from(order.jobs[job].due) + bound;
     let open: Vec<usize> = (0..left.len()).filter(|&job| left[job] > 0).collect();
     if open.is_empty() {
         return true;

@@ -3,11 +3,13 @@
 
 mod buffers;
 mod checks;
+mod ends;
 mod files;
 mod joins;
 mod lines;
 mod meeting;
 mod plans;
+mod ranges;
 mod readings;
 mod reasons;
 mod refusals;
@@ -43,9 +45,27 @@ pub fn run() -> Result<String, String> {
         ));
     }
     println!("unbroken: {calls} calls, 0 differ");
+    let all = libraries();
+    let mut missed = Vec::new();
+    for (name, library) in &all {
+        let (difference, calls) = tried(*library);
+        match difference {
+            Some(_) => println!("caught at call {calls}: {name}"),
+            None => missed.push(name.as_str()),
+        }
+    }
+    if missed.is_empty() {
+        return Ok(format!("broken: {} wrong libraries, all caught", all.len()));
+    }
+    Err(format!("broken: NOT caught: {}", missed.join("; ")))
+}
+
+/// All wrong libraries, each with what is wrong with it.
+fn libraries() -> Vec<(String, Library)> {
     let parts = [
         buffers::WRONG,
         refusals::WRONG,
+        ranges::WRONG,
         files::WRONG,
         plans::WRONG,
         joins::WRONG,
@@ -55,21 +75,17 @@ pub fn run() -> Result<String, String> {
         lines::WRONG,
         readings::WRONG,
         checks::WRONG,
+        ends::WRONG,
     ];
-    let all = parts.concat();
-    let mut missed = Vec::new();
-    for &(function, what, entry) in &all {
-        let (difference, calls) = tried(MODEL.with(function, entry));
+    let in_one = parts.concat().into_iter().map(|(function, what, entry)| {
         let name = format!("{} {what}", function.name());
-        match difference {
-            Some(_) => println!("caught at call {calls}: {name}"),
-            None => missed.push(name),
-        }
-    }
-    if missed.is_empty() {
-        return Ok(format!("broken: {} wrong libraries, all caught", all.len()));
-    }
-    Err(format!("broken: NOT caught: {}", missed.join("; ")))
+        (name, MODEL.with(function, entry))
+    });
+    let in_several = ends::LIBRARIES.iter().map(|&(what, library)| {
+        let name = format!("the library {what}");
+        (name, library)
+    });
+    in_one.chain(in_several).collect()
 }
 
 /// The difference that is found in a library, if any, and the number of calls made.

@@ -74,16 +74,17 @@ fn not_joined(trial: &mut Trial) {
     );
 }
 
-/// The order has the least lateness 0 and this plan at it, which the check takes. However few rows
+/// The order has the least lateness -1 and this plan at it, which the check takes. However few rows
 /// there are, "the buffer asked for stays q × (n + m - 1) rows".
 fn rows_are(trial: &mut Trial, order: Order, rows: &[Row]) {
     let (asked, count) = (4 * rows_asked(&order), rows.len() as i32);
     let answers = [
-        (Function::Least, vec![0, count]),
+        (Function::Least, vec![-1, count]),
         (Function::Plan, vec![count]),
     ];
     for (function, answer) in answers {
-        let call = on(&mut trial.random, &order).with_room(&mut trial.random, asked);
+        let call = on(&mut trial.random, &order).at(-1);
+        let call = call.with_room(&mut trial.random, asked);
         case(trial, function, call.clone(), 0, &answer);
         if let Some((_, after)) = trial.call(function, call) {
             let written = rows_of(after.rows.content());
@@ -91,9 +92,10 @@ fn rows_are(trial: &mut Trial, order: Order, rows: &[Row]) {
                 trial.differs(format!("rows {written:?} of {order:?}, not {rows:?}"));
             }
         }
-        let call = on(&mut trial.random, &order).with_room(&mut trial.random, asked - 1);
+        let call = on(&mut trial.random, &order).at(-1);
+        let call = call.with_room(&mut trial.random, asked - 1);
         case(trial, function, call, 9, &[]);
     }
     let call = on(&mut trial.random, &order).with_rows(&mut trial.random, &rows.concat());
-    case(trial, Function::Check, call, 0, &[1]);
+    case(trial, Function::Check, call.at(-1), 0, &[1]);
 }

@@ -43,7 +43,7 @@ fn reading(trial: &mut Trial, order: &Order, bound: i32, line: &[u8]) -> Call {
 }
 
 /// A reason that composes to this line.
-fn composes(trial: &mut Trial, order: &Order, bound: i32, reason: &Reason, line: &str) {
+pub fn composes(trial: &mut Trial, order: &Order, bound: i32, reason: &Reason, line: &str) {
     let (length, numbers) = (line.len(), numbers_of(reason));
     for room in [length, length + 1, 600] {
         let call = composing(trial, order, bound, &numbers, room);
@@ -87,12 +87,12 @@ fn told(trial: &mut Trial) {
     let of_b = "memory 8 due 4, memory 4 due 2: owed 8, on hand 6";
     let of_c = "job 1: time 3, end 2: owed 3, on hand 2";
     let early_c = "job 1: time 3, end -10: owed 3, on hand -10";
-    composes(trial, &a(), 0, &stairs(&[3, 3]), of_a);
-    composes(trial, &b(), 0, &stairs(&[4, 2]), of_b);
-    composes(trial, &c(), -8, &late(1, 3), of_c);
-    composes(trial, &c(), -20, &late(1, 3), early_c);
-    empty(trial, &c(), -7, &late(1, 3));
-    empty(trial, &b(), 1, &stairs(&[4, 2]));
+    composes(trial, &a(), -1, &stairs(&[3, 3]), of_a);
+    composes(trial, &b(), -1, &stairs(&[4, 2]), of_b);
+    composes(trial, &c(), -9, &late(1, 3), of_c);
+    composes(trial, &c(), -21, &late(1, 3), early_c);
+    empty(trial, &c(), -8, &late(1, 3));
+    empty(trial, &b(), 0, &stairs(&[4, 2]));
 }
 
 /// Every overfull staircase composes, not the first alone.
@@ -105,10 +105,10 @@ fn four_staircases(trial: &mut Trial) {
         (&[2, 1], "memory 8 due 2, memory 4 due 1: owed 4, on hand 3"),
     ];
     for (dues, line) in lines {
-        composes(trial, &order, 0, &stairs(dues), line);
+        composes(trial, &order, -1, &stairs(dues), line);
     }
     for dues in [&[2, 2][..], &[1, 2], &[3], &[], &[1, 1, 1]] {
-        empty(trial, &order, 0, &stairs(dues));
+        empty(trial, &order, -1, &stairs(dues));
     }
 }
 
@@ -117,16 +117,17 @@ fn two_late_jobs(trial: &mut Trial) {
     let order = order(&[4], &[(3, 1, 0), (1, 9, 0), (5, 2, 0)]);
     let first = "job 1: time 3, end 1: owed 3, on hand 1";
     let third = "job 3: time 5, end 2: owed 5, on hand 2";
-    composes(trial, &order, 0, &late(1, 3), first);
-    composes(trial, &order, 0, &late(3, 5), third);
+    composes(trial, &order, -1, &late(1, 3), first);
+    composes(trial, &order, -1, &late(3, 5), third);
     for (job, time) in [(2, 1), (0, 3), (4, 3), (1, 5), (3, 3)] {
-        empty(trial, &order, 0, &late(job, time));
+        empty(trial, &order, -1, &late(job, time));
     }
     for due in [1, 2, 9] {
-        empty(trial, &order, 0, &stairs(&[due]));
+        empty(trial, &order, -1, &stairs(&[due]));
     }
-    none(trial, &order, 0, b"memory 4 due 2: owed 8, on hand 2");
-    none(trial, &order, 0, b"job 2: time 1, end 9: owed 1, on hand 9");
+    let second = "job 2: time 1, end 9: owed 1, on hand 9";
+    none(trial, &order, -1, second.as_bytes());
+    none(trial, &order, -1, b"memory 4 due 2: owed 8, on hand 2");
 }
 
 /// Due times of no job and due times that rise, though they add up to more than is on hand.
@@ -142,8 +143,8 @@ fn no_staircases(trial: &mut Trial) {
         ),
     ];
     for (order, dues, line) in cases {
-        empty(trial, order, 0, &stairs(dues));
-        none(trial, order, 0, line.as_bytes());
+        empty(trial, order, -1, &stairs(dues));
+        none(trial, order, -1, line.as_bytes());
     }
 }
 
@@ -155,10 +156,10 @@ fn longest(trial: &mut Trial) {
     let steps = steps.map(|memory| format!("memory {memory} due -1000000"));
     let steps: Vec<String> = steps.collect();
     let line = format!("{}: owed 4800000, on hand 1600000", steps.join(", "));
-    let job = "job 48: time 100000, end -11000000: owed 100000, on hand -11000000";
+    let job = "job 48: time 100000, end -10999999: owed 100000, on hand -10999999";
     if (line.len(), job.len()) != (541, 66) {
         trial.differs("the longest lines are not 541 and 66 bytes long".to_string());
     }
-    composes(trial, &order, 1_100_000, &stairs(&[-1_000_000; 16]), &line);
+    composes(trial, &order, 1_099_999, &stairs(&[-1_000_000; 16]), &line);
     composes(trial, &order, -10_000_000, &late(48, 100_000), job);
 }

@@ -1,5 +1,5 @@
-//! What does not compose and what does not read back: the numbers and the lines of B at 0 and of C
-//! at -8 with one thing changed, and calls that are refused.
+//! What does not compose and what does not read back: the numbers and the lines of B at -1 and of C
+//! at -9 with one thing changed, and calls that are refused.
 
 use super::lines::{empty_of, late, none, numbers_of, stairs};
 use super::{a, b, c, case};
@@ -37,7 +37,7 @@ fn refused(trial: &mut Trial) {
     }
 }
 
-/// The numbers of B at 0 and of C at -8, each with one that makes them no reason.
+/// The numbers of B at -1 and of C at -9, each with one that makes them no reason.
 fn no_reasons(trial: &mut Trial) {
     let of_b = [
         (0, &[0, 1, 3, -1, 258, i32::MIN, i32::MAX][..]),
@@ -56,8 +56,8 @@ fn no_reasons(trial: &mut Trial) {
         (18, &[1, 10, -1]),
     ];
     let cases = [
-        (b(), 0, stairs(&[4, 2]), &of_b[..]),
-        (c(), -8, late(1, 3), &of_c[..]),
+        (b(), -1, stairs(&[4, 2]), &of_b[..]),
+        (c(), -9, late(1, 3), &of_c[..]),
     ];
     for (order, bound, reason, changes) in cases {
         for (place, values) in changes {
@@ -70,7 +70,7 @@ fn no_reasons(trial: &mut Trial) {
     }
 }
 
-/// The line of B at 0, changed so that a careless reader might still take it.
+/// The line of B at -1, changed so that a careless reader might still take it.
 fn no_lines_of_b(trial: &mut Trial) {
     let lines = [
         "",
@@ -100,14 +100,14 @@ fn no_lines_of_b(trial: &mut Trial) {
         "job 1: time 2, end 4: owed 2, on hand 4",
     ];
     for line in lines {
-        none(trial, &b(), 0, line.as_bytes());
+        none(trial, &b(), -1, line.as_bytes());
     }
     let good = b"memory 8 due 4, memory 4 due 2: owed 8, on hand 6";
-    none(trial, &b(), -1, good);
-    none(trial, &a(), 0, good);
+    none(trial, &b(), -2, good);
+    none(trial, &a(), -1, good);
 }
 
-/// The line of C at -8, changed likewise; at -10 the end is 0, at -20 it is -10.
+/// The line of C at -9, changed likewise; at -11 the end is 0, at -21 it is -10.
 fn no_lines_of_c(trial: &mut Trial) {
     let lines = [
         "job 01: time 3, end 2: owed 3, on hand 2",
@@ -123,10 +123,10 @@ fn no_lines_of_c(trial: &mut Trial) {
         "JOB 1: TIME 3, END 2: OWED 3, ON HAND 2",
     ];
     for line in lines {
-        none(trial, &c(), -8, line.as_bytes());
+        none(trial, &c(), -9, line.as_bytes());
     }
     let minus_0 = b"job 1: time 3, end -0: owed 3, on hand 0";
-    none(trial, &c(), -10, minus_0);
+    none(trial, &c(), -11, minus_0);
     let no_minus = b"job 1: time 3, end 10: owed 3, on hand 10";
-    none(trial, &c(), -20, no_minus);
+    none(trial, &c(), -21, no_minus);
 }

@@ -41,12 +41,12 @@ pub fn least(order: &Order) -> i32 {
 
 /// A bound that is not met and a larger one that is. A job cannot end before it has run for its
 /// time; and all jobs, one after the other on a processor of the largest memory, end by the sum of
-/// times.
+/// times. A bound moves all ends from where they are at 0.
 pub fn least_between(order: &Order) -> (i64, i64) {
     let jobs = || order.jobs.iter();
     let together: i64 = jobs().map(|job| i64::from(job.time)).sum();
-    let alone = jobs().map(|job| i64::from(job.time) - i64::from(job.due));
-    let earliest = jobs().map(|job| i64::from(job.due)).min();
+    let alone = jobs().map(|job| i64::from(job.time) - job.end(0));
+    let earliest = jobs().map(|job| job.end(0)).min();
     let unmet = alone.max().expect("an accepted order has a job") - 1;
     let met = together - earliest.expect("an accepted order has a job");
     (unmet, met)

@@ -4,7 +4,7 @@
 //! that.
 
 use super::classes::Classes;
-use super::{Job, Order, Reason};
+use super::{end, Job, Order, Reason};
 use std::collections::BTreeSet;
 
 const FEW: usize = 5_000;
@@ -93,7 +93,7 @@ impl Slopes {
         let classes = Classes::of(order);
         let dues: BTreeSet<i32> = order.jobs.iter().map(|job| job.due).collect();
         let excess = |class: usize, due: &i32| {
-            let by = i64::from(*due) + bound;
+            let by = end(*due, bound);
             let of_class = order.jobs.iter().filter(|job| classes.class(job) == class);
             let owed: i64 = of_class.map(|job| owed(job, bound, by)).sum();
             owed - classes.processors[class] * by

@@ -5,7 +5,7 @@
 
 use super::classes::Classes;
 use super::reasons::{overfull, owed};
-use super::{Job, Order, Reason};
+use super::{end, Job, Order, Reason};
 
 /// The line that a reason composes to, of an accepted order.
 pub fn composed(order: &Order, bound: i32, reason: &Reason) -> String {
@@ -68,7 +68,7 @@ pub fn minutes(order: &Order, bound: i32, reason: &Reason) -> (i64, i64) {
             let classes = Classes::of(order);
             let (mut owed_in_all, mut on_hand) = (0, 0);
             for (class, due) in dues.iter().enumerate().take(classes.count()) {
-                let by = i64::from(*due) + bound;
+                let by = end(*due, bound);
                 let own = order.jobs.iter().filter(|job| classes.class(job) == class);
                 owed_in_all += own.map(|job| owed(job, bound, by)).sum::<i64>();
                 on_hand += classes.processors[class] * by;

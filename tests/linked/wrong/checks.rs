@@ -21,9 +21,6 @@ pub const WRONG: &[Wrong] = &[
     (Function::Check, "ignores due times", |call| {
         judged(call, |order, _, rows| right(order, 1 << 40, rows))
     }),
-    (Function::Check, "wants jobs done a minute early", |call| {
-        judged(call, |order, bound, rows| right(order, bound - 1, rows))
-    }),
     (Function::Check, "ignores times", |call| {
         judged(call, |order, bound, rows| {
             let as_long = |number, job: &mut Job| job.time = minutes(number, rows);
@@ -112,7 +109,7 @@ pub const WRONG: &[Wrong] = &[
 ];
 
 /// The check with other rules, where the call is not refused.
-fn judged(call: &mut Call, rules: fn(&Order, i64, &[u32]) -> bool) -> u32 {
+pub fn judged(call: &mut Call, rules: fn(&Order, i64, &[u32]) -> bool) -> u32 {
     answered(MODEL.check, call, |call| {
         let order = accepted(call).expect("the call was answered");
         let yes = rules(&order, call.bound.into(), call.rows.content());

@@ -89,6 +89,15 @@ pub const WRONG: &[Wrong] = &[
             call.answer.put(&reason_numbers(told));
         })
     }),
+    (Function::Parse, "tells due times a minute later", |call| {
+        answered(MODEL.parse, call, |call| {
+            let answer = call.answer.content_mut();
+            if answer[0] == 2 {
+                let beyond = 3 + answer[1] as usize;
+                answer[3..beyond].iter_mut().for_each(|due| *due += 1);
+            }
+        })
+    }),
     (Function::Parse, "reads one due time too few", |call| {
         answered(MODEL.parse, call, |call| {
             let answer = call.answer.content_mut();

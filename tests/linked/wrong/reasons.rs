@@ -3,7 +3,7 @@
 
 use super::{accepted, answered, class_memory, Wrong};
 use crate::expect::reason_numbers;
-use crate::independent::{overfull, reason, Job, Order, Reason};
+use crate::independent::{end, overfull, reason, Job, Order, Reason};
 use crate::lent::Call;
 use crate::library::Function;
 use crate::model::MODEL;
@@ -52,10 +52,31 @@ pub const WRONG: &[Wrong] = &[
     (Function::Reason, "tells ends, not due times", |call| {
         stairs(call, |order, bound| {
             let mut first = overfull(order, bound, 1).pop()?;
-            first.iter_mut().for_each(|due| *due += bound);
+            let told = |due: &mut i32| *due = end(*due, bound.into()) as i32;
+            first.iter_mut().for_each(told);
             Some(first)
         })
     }),
+    (Function::Reason, "tells due times a minute later", |call| {
+        stairs(call, |order, bound| {
+            let mut first = overfull(order, bound, 1).pop()?;
+            first.iter_mut().for_each(|due| *due += 1);
+            Some(first)
+        })
+    }),
+    (
+        Function::Reason,
+        "leaves out the due minute in staircases alone",
+        |call| {
+            answered(MODEL.reason, call, |call| {
+                let order = accepted(call).expect("the call was answered");
+                if call.answer.content()[0] != 1 {
+                    let first = overfull(&order, call.bound - 1, 1).pop();
+                    call.answer.put(&reason_numbers(first.map(Reason::Stairs)));
+                }
+            })
+        },
+    ),
     (Function::Reason, "leaves out jobs that need 0", |call| {
         stairs(call, |order, bound| {
             let mut order = order.clone();

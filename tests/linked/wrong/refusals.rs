@@ -1,7 +1,7 @@
 //! Wrong in which refusal is told: "The lowest applicable number is given, except that 12 precedes
 //! all"; "the first such job".
 
-use super::{accepted, Wrong};
+use super::Wrong;
 use crate::expect::listed;
 use crate::independent::{judge, read, Job, Order};
 use crate::lent::Call;
@@ -97,14 +97,6 @@ pub const WRONG: &[Wrong] = &[
         let result = (MODEL.reason)(call);
         call.bound = bound;
         result
-    }),
-    (Function::Check, "does not take the largest bound", |call| {
-        let out = call.bound == 10_000_000 && accepted(call).is_some();
-        if out && call.answer.len() > 0 {
-            8
-        } else {
-            (MODEL.check)(call)
-        }
     }),
     (
         Function::Sentence,

@@ -28,6 +28,16 @@ pub const WRONG: &[Wrong] = &[
             })
         },
     ),
+    (
+        Function::Sentence,
+        "composes a staircase that the due minute makes room for",
+        |call| {
+            takes_stairs(call, |order, bound, dues| {
+                let over = excess(order, bound - 1, dues) > 0;
+                in_time(order, bound) && staircase(order, dues) && over
+            })
+        },
+    ),
     (Function::Sentence, "composes times that rise", |call| {
         takes_stairs(call, |order, bound, dues| {
             let mut falling = dues.to_vec();

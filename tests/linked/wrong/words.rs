@@ -4,18 +4,61 @@
 use super::sentences::{composes, right};
 use super::Wrong;
 use crate::expect::reason_named;
-use crate::independent::{line_of, minutes, Order, Reason};
+use crate::independent::{end, line_of, minutes, Order, Reason};
 use crate::lent::Call;
 use crate::library::Function;
 
 pub const WRONG: &[Wrong] = &[
     (Function::Sentence, "tells ends, not due times", |call| {
         says_stairs(call, |order, bound, dues, line| {
-            let ends = dues.iter().map(|due| due + bound).collect();
-            let ends = line_of(order, bound, &Reason::Stairs(ends));
+            let ends = dues.iter().map(|due| end(*due, bound.into()) as i32);
+            let ends = line_of(order, bound, &Reason::Stairs(ends.collect()));
             line.replace(what(line), what(&ends))
         })
     }),
+    (
+        Function::Sentence,
+        "tells due times a minute later",
+        |call| {
+            says_stairs(call, |order, bound, dues, line| {
+                let later = dues.iter().map(|due| due + 1).collect();
+                let later = line_of(order, bound, &Reason::Stairs(later));
+                line.replace(what(line), what(&later))
+            })
+        },
+    ),
+    (
+        Function::Sentence,
+        "leaves out the due minute in a job's numbers",
+        |call| {
+            says(call, |order, bound, reason, line| match reason {
+                Reason::Job { .. } => line_of(order, bound - 1, reason),
+                Reason::Stairs(_) => line.to_string(),
+            })
+        },
+    ),
+    (
+        Function::Sentence,
+        "leaves out the due minute in a job's end alone",
+        |call| {
+            says(call, |order, bound, reason, line| match reason {
+                Reason::Job { .. } => {
+                    let early = line_of(order, bound - 1, reason);
+                    line.replace(what(line), what(&early))
+                }
+                Reason::Stairs(_) => line.to_string(),
+            })
+        },
+    ),
+    (
+        Function::Sentence,
+        "leaves out the due minute in what staircases have on hand",
+        |call| {
+            says_stairs(call, |order, bound, dues, _| {
+                line_of(order, bound - 1, &Reason::Stairs(dues.to_vec()))
+            })
+        },
+    ),
     (
         Function::Sentence,
         "tells memories in input order",
@@ -45,8 +88,9 @@ pub const WRONG: &[Wrong] = &[
         Function::Sentence,
         "tells a job's due time, not its end",
         |call| {
+            // at -1 a job's end is its due time
             says(call, |order, _, reason, line| match reason {
-                Reason::Job { .. } => line_of(order, 0, reason),
+                Reason::Job { .. } => line_of(order, -1, reason),
                 Reason::Stairs(_) => line.to_string(),
             })
         },
