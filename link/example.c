@@ -1,4 +1,4 @@
-/* Plans an order from C: two processors, three jobs. Prints the least lateness, a plan that meets it, and why 0 is too tight, in
+/* Plans an order from C: two processors, three jobs. Prints the least lateness, a plan that meets it, and why -1 is too tight, in
  * due times and as a sentence. */
 #include "highboyrobin.h"
 #include <stdio.h>
@@ -15,9 +15,9 @@ int main(void) {
   if (result == 0)
     result = hbr_least(file, (size_t)length[0], rows, 4 * HBR_MOST_ROWS, least, HBR_LEAST_ANSWER);
   if (result == 0)
-    result = hbr_reason(file, (size_t)length[0], 0, reason, HBR_REASON_ANSWER);
+    result = hbr_reason(file, (size_t)length[0], -1, reason, HBR_REASON_ANSWER);
   if (result == 0)
-    result = hbr_sentence(file, (size_t)length[0], 0, reason, HBR_REASON_ANSWER, line, sizeof line, written, HBR_SENTENCE_ANSWER);
+    result = hbr_sentence(file, (size_t)length[0], -1, reason, HBR_REASON_ANSWER, line, sizeof line, written, HBR_SENTENCE_ANSWER);
   if (result != 0) {
     printf("refused %u, job %u\n", hbr_number(result), hbr_job(result));
     return 1;
@@ -28,7 +28,7 @@ int main(void) {
     printf("job %u on processor %u from %u to %u\n", row[0], row[1], row[2], row[3]);
   }
   if (reason[0] == HBR_STAIRS) {
-    printf("lateness 0 is too tight: due times");
+    printf("lateness -1 is too tight: due times");
     for (int k = 0; k < reason[1]; k++)
       printf(" %d", reason[3 + k]);
     printf("\n%.*s\n", (int)written[0], (const char *)line);

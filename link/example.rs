@@ -1,5 +1,5 @@
-// Plans an order from Rust: two processors, three jobs. Prints the least lateness, a plan that meets it, and why 0 is too tight, in
-// due times and as a sentence.
+// Plans an order from Rust: two processors, three jobs. Prints the least lateness, a plan that meets it, and why -1 is too tight,
+// in due times and as a sentence.
 #[allow(dead_code)]
 mod highboyrobin;
 use highboyrobin::{judge, least, reason, sentence, write};
@@ -37,10 +37,10 @@ fn main() -> Result<(), Refused> {
             row.job, row.processor, row.from, row.to
         );
     }
-    if let Some(why @ Reason::Stairs { classes, dues }) = reason(file, 0)? {
-        print!("lateness 0 is too tight: due times");
+    if let Some(why @ Reason::Stairs { classes, dues }) = reason(file, -1)? {
+        print!("lateness -1 is too tight: due times");
         dues[..classes].iter().for_each(|due| print!(" {due}"));
-        println!("\n{}", sentence(file, 0, &why, &mut [0; MOST_LINE])?);
+        println!("\n{}", sentence(file, -1, &why, &mut [0; MOST_LINE])?);
     }
     Ok(())
 }

@@ -3,6 +3,9 @@
  * Units. Times are whole minutes from a common start, minute 0. A memory and a need are numbers of one unit of yours, 0 to
  * 4294967295. Jobs and processors are numbered from 1, in the order in which you list them.
  *
+ * Ends. Due 10 means done by the close of minute 10, so the end is minute 11: a job's end is its due time plus the bound plus 1.
+ * At bound 0 a job is on time; the bound moves all ends alike.
+ *
  * An order is handed over as the bytes of an order file (docs/LINKING.md shows them; hbr_write makes them). Its length is exact, as
  * hbr_write answers it.
  *
@@ -70,17 +73,16 @@ extern "C" {
 #define HBR_JUDGE_ANSWER 3
 uint32_t hbr_judge(const uint8_t *file, size_t file_length, int32_t *answer, size_t answer_length);
 
-/* The least lateness: the smallest whole number by which, added to every due time, all jobs can be done by their due times. It
- * may be negative: then all can be early. A plan that meets it is written from rows[0] on. rows_length counts numbers, not rows: it
- * is 4 * rows. Refusals, in the order in which they are told: 255, 12, 1 to 7, 9.
+/* The least lateness: the smallest whole number that, as the bound, lets every job be done by its end. It may be negative: then
+ * all can be early. A plan that meets it is written from rows[0] on. rows_length counts numbers, not rows: it is 4 * rows.
+ * Refusals, in the order in which they are told: 255, 12, 1 to 7, 9.
  * answer[0] the least lateness, answer[1] the number of rows written. */
 #define HBR_LEAST_ANSWER 2
 uint32_t hbr_least(const uint8_t *file, size_t file_length, uint32_t *rows, size_t rows_length, int32_t *answer,
                    size_t answer_length);
 
-/* A plan in which every job is done by its due time plus the bound, written from rows[0] on. rows_length counts numbers, not rows:
- * it is 4 * rows. Refusals, in the order in which they are told: 255, 12, 1 to 10; 10 carries no job, also where hbr_reason then
- * names one.
+/* A plan in which every job is done by its end, written from rows[0] on. rows_length counts numbers, not rows: it is 4 * rows.
+ * Refusals, in the order in which they are told: 255, 12, 1 to 10; 10 carries no job, also where hbr_reason then names one.
  * answer[0] the number of rows written. */
 #define HBR_PLAN_ANSWER 1
 uint32_t hbr_plan(const uint8_t *file, size_t file_length, int32_t bound, uint32_t *rows, size_t rows_length, int32_t *answer,
@@ -88,10 +90,10 @@ uint32_t hbr_plan(const uint8_t *file, size_t file_length, int32_t bound, uint32
 
 /* Why no plan can meet the bound. Refusals, in the order in which they are told: 255, 12, 1 to 8.
  * answer[0] HBR_NONE where there is a plan, else HBR_JOB or HBR_STAIRS.
- * HBR_JOB: answer[1] the first job whose time exceeds its due time plus the bound, answer[2] its time.
+ * HBR_JOB: answer[1] the first job whose time exceeds its end, answer[2] its time.
  * HBR_STAIRS: answer[1] a count k of classes, answer[3] to answer[k + 2] a due time for each. Class 1 is the processors of the
- * largest memory, class 2 those of the next, and so on; the jobs of these classes need more minutes by those due times plus the
- * bound than their processors have.
+ * largest memory, class 2 those of the next, and so on; the jobs of these classes need more minutes by the ends of those due times
+ * than their processors have.
  * All numbers not named are 0. */
 #define HBR_NONE 0
 #define HBR_JOB 1
@@ -103,8 +105,8 @@ uint32_t hbr_reason(const uint8_t *file, size_t file_length, int32_t bound, int3
  *     job 1: time 3, end 2: owed 3, on hand 2
  *     memory 8 due 4, memory 4 due 2: owed 8, on hand 6
  * reason is the first 19 numbers lent, as hbr_reason answers them, by whomever they were made; numbers after them are not looked
- * at. A reason stands if it is any job whose time exceeds its due time plus the bound or, where there is no such job, any count of
- * classes with due times that never rise, each of them some job's, by which those classes owe more minutes than they have on hand.
+ * at. A reason stands if it is any job whose time exceeds its end or, where there is no such job, any count of classes with due
+ * times that never rise, each of them some job's, by whose ends those classes owe more minutes than they have on hand.
  * A reason that does not stand, HBR_NONE too, has an empty line: the call succeeds, answer[0] is 0 and line is left as it was.
  * HBR_MOST_LINE bytes are always enough. Refusals, in the order in which they are told: 255, 253, 12, 1 to 8, 9.
  * answer[0] the length of the line. */
@@ -120,7 +122,7 @@ uint32_t hbr_parse(const uint8_t *file, size_t file_length, int32_t bound, const
                    int32_t *answer, size_t answer_length);
 
 /* Whether rows, made by anybody and in any order, are a right plan that meets the bound: each job gets its full time, on
- * processors whose memory suffices, by its due time plus the bound, and no job and no processor is used twice at a time.
+ * processors whose memory suffices, by its end, and no job and no processor is used twice at a time.
  * rows_length counts numbers, not rows: it is 4 * rows. Numbers left over after the last whole row make the plan wrong, and count
  * as a row for 11. Refusals, in the order in which they are told: 255, 12, 1 to 8, 11.
  * answer[0] 1 for yes, 0 for no. */

@@ -1,7 +1,8 @@
 //! Safe Rust over `libhighboyrobin.a`: a session planner whose refusals are facts. It needs neither `std` nor a heap.
 //!
 //! Times are whole minutes from a common start, minute 0. Jobs and processors are numbered from 1, in the order in which they are
-//! listed. An order is handed over as the bytes of an order file, which `write` makes. A refused call writes nothing.
+//! listed. Due 10 means done by the close of minute 10, so the end is minute 11: a job's end is its due time plus the bound plus 1.
+//! An order is handed over as the bytes of an order file, which `write` makes. A refused call writes nothing.
 
 /// The most processors and jobs of an order, bytes of its file, rows of a plan, bytes of a reason's line.
 pub const MOST_PROCESSORS: usize = 16;
@@ -166,10 +167,10 @@ pub struct Least {
 /// Why no plan can meet a bound.
 #[derive(Clone, Copy, Debug, PartialEq, Eq)]
 pub enum Reason {
-    /// A job whose time exceeds its due time plus the bound; `reason` tells the first.
+    /// A job whose time exceeds its end; `reason` tells the first.
     Job { job: u32, time: u32 },
-    /// The first `classes` due times, one for each class of processors from the largest memory down: by these due times plus the
-    /// bound the jobs of these classes need more minutes than their processors have. The others are 0.
+    /// The first `classes` due times, one for each class of processors from the largest memory down: by the ends of these due times
+    /// the jobs of these classes need more minutes than their processors have. The others are 0.
     Stairs { classes: usize, dues: [i32; 16] },
 }
 
@@ -252,8 +253,8 @@ pub fn least(file: &[u8], rows: &mut [Row]) -> Result<Least, Refused> {
     })
 }
 
-/// A plan in which every job is done by its due time plus the bound, from `rows[0]` on, joined as that of `least`; its number of rows.
-/// Refusals: 12, 1 to 10.
+/// A plan in which every job is done by its end, from `rows[0]` on, joined as that of `least`; its number of rows. Refusals: 12, 1
+/// to 10.
 pub fn plan(file: &[u8], bound: i32, rows: &mut [Row]) -> Result<usize, Refused> {
     let mut answer = [0; 1];
     let (at, length) = (rows.as_mut_ptr().cast(), rows.len() * 4);

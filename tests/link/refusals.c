@@ -68,17 +68,17 @@ static void of_orders(void) {
   }
 }
 
-/* the refusals of composing and of reading back on the same order; at -8 the line of job 1 has 39 bytes */
+/* the refusals of composing and of reading back on the same order; at -9 the line of job 1 has 39 bytes */
 static void of_lines(size_t length) {
   static const int32_t job[HBR_REASON_ANSWER] = {HBR_JOB, 1, 3};
   const size_t short_reason = HBR_REASON_ANSWER - 1;
-  refused(hbr_sentence(file, length, -8, job, short_reason, line, 0, answer, 0), HBR_SHORT_ANSWER, 0);
-  refused(hbr_sentence(file, 11, -8, job, short_reason, line, 0, answer, HBR_SENTENCE_ANSWER), HBR_SHORT_REASON, 0);
-  refused(hbr_sentence(file, 11, -8, job, HBR_REASON_ANSWER, line, 0, answer, HBR_SENTENCE_ANSWER), HBR_BAD_FILE, 0);
+  refused(hbr_sentence(file, length, -9, job, short_reason, line, 0, answer, 0), HBR_SHORT_ANSWER, 0);
+  refused(hbr_sentence(file, 11, -9, job, short_reason, line, 0, answer, HBR_SENTENCE_ANSWER), HBR_SHORT_REASON, 0);
+  refused(hbr_sentence(file, 11, -9, job, HBR_REASON_ANSWER, line, 0, answer, HBR_SENTENCE_ANSWER), HBR_BAD_FILE, 0);
   refused(hbr_sentence(file, length, -10000001, job, HBR_REASON_ANSWER, line, 0, answer, HBR_SENTENCE_ANSWER),
           HBR_BOUND_OUT_OF_RANGE, 0);
-  refused(hbr_sentence(file, length, -8, job, HBR_REASON_ANSWER, line, 38, answer, HBR_SENTENCE_ANSWER), HBR_BUFFER_TOO_SHORT, 0);
-  refused(hbr_parse(file, length, -8, line, 39, answer, HBR_PARSE_ANSWER - 1), HBR_SHORT_ANSWER, 0);
+  refused(hbr_sentence(file, length, -9, job, HBR_REASON_ANSWER, line, 38, answer, HBR_SENTENCE_ANSWER), HBR_BUFFER_TOO_SHORT, 0);
+  refused(hbr_parse(file, length, -9, line, 39, answer, HBR_PARSE_ANSWER - 1), HBR_SHORT_ANSWER, 0);
   refused(hbr_parse(file, length, -10000001, line, 39, answer, HBR_PARSE_ANSWER), HBR_BOUND_OUT_OF_RANGE, 0);
 }
 
@@ -90,14 +90,14 @@ static void of_calls(void) {
   fill();
   refused(hbr_plan(file, length, 10000001, rows, 4, answer, HBR_PLAN_ANSWER), HBR_BOUND_OUT_OF_RANGE, 0);
   refused(hbr_least(file, length, rows, 0, answer, HBR_LEAST_ANSWER), HBR_BUFFER_TOO_SHORT, 0);
-  refused(hbr_plan(file, length, -8, rows, 4, answer, HBR_PLAN_ANSWER), HBR_BOUND_TOO_TIGHT, 0);
-  refused(hbr_check(file, length, 0, rows, 4 * 3025, answer, HBR_CHECK_ANSWER), HBR_TOO_MANY_ROWS, 0);
+  refused(hbr_plan(file, length, -9, rows, 4, answer, HBR_PLAN_ANSWER), HBR_BOUND_TOO_TIGHT, 0);
+  refused(hbr_check(file, length, -1, rows, 4 * 3025, answer, HBR_CHECK_ANSWER), HBR_TOO_MANY_ROWS, 0);
   refused(hbr_judge(file, length, answer, HBR_JUDGE_ANSWER - 1), HBR_SHORT_ANSWER, 0);
-  refused(hbr_reason(file, length, 0, answer, HBR_REASON_ANSWER - 1), HBR_SHORT_ANSWER, 0);
+  refused(hbr_reason(file, length, -1, answer, HBR_REASON_ANSWER - 1), HBR_SHORT_ANSWER, 0);
   of_lines(length);
   memset(file, 0, 11);
   refused(hbr_judge(file, 11, answer, HBR_JUDGE_ANSWER), HBR_BAD_FILE, 0);
-  refused(hbr_parse(file, 11, 0, line, 0, answer, HBR_PARSE_ANSWER), HBR_BAD_FILE, 0);
+  refused(hbr_parse(file, 11, -1, line, 0, answer, HBR_PARSE_ANSWER), HBR_BAD_FILE, 0);
 }
 
 int main(void) {

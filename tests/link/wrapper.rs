@@ -48,17 +48,17 @@ fn order_c() {
     assert_eq!(
         least(file, &mut rows),
         Ok(Least {
-            lateness: -7,
+            lateness: -8,
             rows: 1
         })
     );
     assert_eq!(rows, [row, KEPT]);
     rows[0] = KEPT;
-    assert_eq!(plan(file, 0, &mut rows), Ok(1));
-    assert_eq!(check(file, 0, &rows[..1]), Ok(true));
-    assert_eq!(check(file, -8, &[row]), Ok(false));
-    assert_eq!(reason(file, -7), Ok(None));
-    assert_eq!(reason(file, -8), Ok(Some(Reason::Job { job: 1, time: 3 })));
+    assert_eq!(plan(file, -1, &mut rows), Ok(1));
+    assert_eq!(check(file, -1, &rows[..1]), Ok(true));
+    assert_eq!(check(file, -9, &[row]), Ok(false));
+    assert_eq!(reason(file, -8), Ok(None));
+    assert_eq!(reason(file, -9), Ok(Some(Reason::Job { job: 1, time: 3 })));
 }
 
 fn refusals() {
@@ -78,7 +78,7 @@ fn refusals() {
         need: 4,
     };
     assert_eq!(write(&[4], &[job], &mut bytes), Ok(28));
-    assert_eq!(plan(&bytes[..28], -8, &mut rows), Err(refused(10, 0)));
+    assert_eq!(plan(&bytes[..28], -9, &mut rows), Err(refused(10, 0)));
     assert_eq!(least(&bytes[..28], &mut []), Err(refused(9, 0)));
     assert_eq!(rows, [KEPT]);
 }
@@ -88,8 +88,8 @@ fn order_a() {
     let jobs = [(3, 3, 8), (3, 3, 4), (2, 4, 2)].map(|(time, due, need)| Job { time, due, need });
     let mut bytes = [0; MOST_BYTES];
     let length = write(&[8, 4], &jobs, &mut bytes).unwrap();
-    let Ok(Some(Reason::Stairs { classes, dues })) = reason(&bytes[..length], 0) else {
-        panic!("A at 0 has no staircase");
+    let Ok(Some(Reason::Stairs { classes, dues })) = reason(&bytes[..length], -1) else {
+        panic!("A at -1 has no staircase");
     };
     assert_eq!((classes, &dues[..3]), (2, &[3, 3, 0][..]));
 }
@@ -107,43 +107,43 @@ fn composes(file: &[u8], bound: i32, reason: Reason, line: &str) {
     assert_eq!(bytes, [7; MOST_LINE]);
 }
 
-// document 02's line of C at -8
+// document 02's line of C at -9
 fn line_of_c() {
     let c = [(3, 10, 4)].map(|(time, due, need)| Job { time, due, need });
     let mut bytes = [0; MOST_BYTES];
     let length = write(&[4], &c, &mut bytes).unwrap();
     let file = &bytes[..length];
     let late = Reason::Job { job: 1, time: 3 };
-    composes(file, -8, late, "job 1: time 3, end 2: owed 3, on hand 2");
+    composes(file, -9, late, "job 1: time 3, end 2: owed 3, on hand 2");
     let nobody = [(0, 3), (2, 3), (1, 2), (u32::MAX, 3), (1, u32::MAX)];
     for (job, time) in nobody {
         let none = Reason::Job { job, time };
-        assert_eq!(sentence(file, -8, &none, &mut []), Ok(""));
+        assert_eq!(sentence(file, -9, &none, &mut []), Ok(""));
     }
-    assert_eq!(sentence(file, -7, &late, &mut []), Ok(""));
-    assert_eq!(parse(file, -8, b""), Ok(None));
+    assert_eq!(sentence(file, -8, &late, &mut []), Ok(""));
+    assert_eq!(parse(file, -9, b""), Ok(None));
     assert_eq!(parse(file, -10_000_001, b""), Err(refused(8, 0)));
 }
 
-// document 02's line of B at 0: memories 8, 4; jobs (2, 4, 8) twice, (2, 2, 4) twice
+// document 02's line of B at -1: memories 8, 4; jobs (2, 4, 8) twice, (2, 2, 4) twice
 fn line_of_b() {
     let b = [(2, 4, 8), (2, 4, 8), (2, 2, 4), (2, 2, 4)];
     let b = b.map(|(time, due, need)| Job { time, due, need });
     let mut bytes = [0; MOST_BYTES];
     let length = write(&[8, 4], &b, &mut bytes).unwrap();
     let file = &bytes[..length];
-    let Ok(Some(stairs @ Reason::Stairs { classes, dues })) = reason(file, 0) else {
-        panic!("B at 0 has no staircase");
+    let Ok(Some(stairs @ Reason::Stairs { classes, dues })) = reason(file, -1) else {
+        panic!("B at -1 has no staircase");
     };
     let line = "memory 8 due 4, memory 4 due 2: owed 8, on hand 6";
-    composes(file, 0, stairs, line);
+    composes(file, -1, stairs, line);
     for classes in [0, 1, 3, classes + (1 << 32), usize::MAX] {
         let none = Reason::Stairs { classes, dues };
-        assert_eq!(sentence(file, 0, &none, &mut []), Ok(""));
+        assert_eq!(sentence(file, -1, &none, &mut []), Ok(""));
     }
-    assert_eq!(parse(file, 0, format!("{line}\n").as_bytes()), Ok(None));
-    assert_eq!(parse(file, 1, line.as_bytes()), Ok(None));
-    let told = sentence(&[0; 11], 0, &stairs, &mut []);
+    assert_eq!(parse(file, -1, format!("{line}\n").as_bytes()), Ok(None));
+    assert_eq!(parse(file, 0, line.as_bytes()), Ok(None));
+    let told = sentence(&[0; 11], -1, &stairs, &mut []);
     assert_eq!(told, Err(refused(12, 0)));
 }
 
