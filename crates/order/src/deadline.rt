@@ -6,7 +6,7 @@ ghost use Rattle.order.specs.Order.{endAt};
 ghost use Rattle.order.specs.Refusals.{dueInRange, boundInRange};
 ghost use Rattle.order.specs.Deadline.{cut};
 
-// The end itself, which may be negative.
+// The end itself, which may be negative: the close of the due minute, moved by the bound.
 pub fn end_of(due: i32, bound: i32) -> i32
     requires { ⌜ (dueInRange due ≡ true) × (boundInRange bound ≡ true) ⌝ }
     ensures { λ r. ⌜ r ≡ endAt bound due ⌝ }

@@ -38,7 +38,7 @@ pub fn reach_of(bound: i32) -> u32
     deadline(1000000, bound)
 }
 
-// The bound of a reach.
+// The bound of a reach: at bound 0 a job due at minute 1,000,000 has the end 1,000,001.
 pub fn bound_of(reach: u32) -> i32
     requires { ⌜ reach ≤ 640000000 ⌝ }
     ensures { λ r. ⌜ r ≡ boundAt lastDue reach ⌝ }

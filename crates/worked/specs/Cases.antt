@@ -82,6 +82,7 @@ row job processor from to = record { job = job; processor = processor; from = fr
 abbrev piece : ℕ → ℕ → Row
 piece from to = row 1 1 from to
 
+-- minus 8 is -8
 abbrev minus : ℕ → ℤ
 minus n = negℤ (pos n)
 
