@@ -56,7 +56,7 @@ module _ (due bound : ℤ) (f : SFits w32 due) (g : SFits w32 bound) (d : dueInR
   both-back : toZ w32 (ofZ w32 both) ≡ due +ℤ bound
   both-back = rw both-is (toZ-ofZ w32 (due +ℤ bound) fits-both)
 
-  -- and a minute more
+  -- with up to a minute more they fit; how much it is, `end-back` says
   pub more-fits : (n : ℕ) → n ≤ 1 → SFits w32 (toZ w32 (ofZ w32 both) +ℤ pos n)
   more-fits n l =
       rw both-back (record { sfits = omega (arith, mag-more (due +ℤ bound) n 22000000 (omega (arith, mag-both due bound d b))) })

@@ -47,6 +47,7 @@ module _ (due : ℤ) (f : SFits w32 due) (h : dueInRange due ≡ true) where
 
 -- the bound of a reach, as the machine computes it
 module _ (n : ℕ) (h : n ≤ 640000000) where
+  -- it fits with any number of that size; which one is right, `bound-read` says
   pub sum-fits : (z : ℤ) → mag z ≤ 1000001 → SFits w32 (toZ w32 n +ℤ z)
   sum-fits z l = rw (toZ-pos w32 n (omega arith)) (record { sfits = omega (arith, mag-sum (pos n) z) })
 
