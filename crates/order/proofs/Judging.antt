@@ -13,6 +13,7 @@ use Rattle.order.specs.Refusals.{
   first,
   timeInRange,
   dueInRange,
+  makerInRange,
   fitsSome,
   countRows,
   jobRows,
@@ -52,8 +53,8 @@ module _ (t : OrderTable) (a : Acceptance) (e : acceptanceTold a ≡ judge (coun
       ap judge counts
       ∙ judge-accepted-append (countRows limits (t .processors) (t .jobs)) (jobRows (orderOf t)) (sym e ∙ ap acceptanceTold is)
 
--- the first bad job, of the rows 5, 6 and 7 in this order
-module _ (o : Order) (time due need : ℕ)
+-- the first bad job, of the rows 5, 6, 13 and 7 in this order
+module _ (o : Order) (time due maker need : ℕ)
     (et : findingOf time ≡ first (λ (job : Job). not (timeInRange (job .time))) (o .jobs)) where
   pub time-refused : 0 < time → judge (jobRows o) ≡ refused 5 time
   unfolding judge
@@ -65,11 +66,29 @@ module _ (o : Order) (time due need : ℕ)
     due-refused h = rw (sym et ∙ finding-none time good-time, sym ed ∙ finding-some due h)
 
     module _ (good-due : due ≤ 0)
-        (en : findingOf need ≡ first (λ (job : Job). not (fitsSome (job .need) (o .memories))) (o .jobs)) where
-      pub need-refused : 0 < need → judge (jobRows o) ≡ refused 7 need
+        (em : findingOf maker ≡ first (λ (job : Job). not (makerInRange (job .maker))) (o .jobs)) where
+      pub maker-refused : 0 < maker → judge (jobRows o) ≡ refused 13 maker
       unfolding judge
-      need-refused h = rw (sym et ∙ finding-none time good-time, sym ed ∙ finding-none due good-due, sym en ∙ finding-some need h)
+      maker-refused h = rw (sym et ∙ finding-none time good-time, sym ed ∙ finding-none due good-due, sym em ∙ finding-some maker h)
 
-      pub all-accepted : need ≤ 0 → judge (jobRows o) ≡ accepted
-      unfolding judge
-      all-accepted h = rw (sym et ∙ finding-none time good-time, sym ed ∙ finding-none due good-due, sym en ∙ finding-none need h)
+      module _ (good-maker : maker ≤ 0)
+          (en : findingOf need ≡ first (λ (job : Job). not (fitsSome (job .need) (o .memories))) (o .jobs)) where
+        pub need-refused : 0 < need → judge (jobRows o) ≡ refused 7 need
+        unfolding judge
+        need-refused h =
+            rw (
+              sym et ∙ finding-none time good-time,
+              sym ed ∙ finding-none due good-due,
+              sym em ∙ finding-none maker good-maker,
+              sym en ∙ finding-some need h,
+            )
+
+        pub all-accepted : need ≤ 0 → judge (jobRows o) ≡ accepted
+        unfolding judge
+        all-accepted h =
+            rw (
+              sym et ∙ finding-none time good-time,
+              sym ed ∙ finding-none due good-due,
+              sym em ∙ finding-none maker good-maker,
+              sym en ∙ finding-none need h,
+            )

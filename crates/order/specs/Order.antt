@@ -6,11 +6,12 @@ use lib.IntN.{ℤ, pos, _+ℤ_}
 use lib.ListN.{length}
 use Rattle.sums.specs.Lists.{nth}
 
--- a job: its working time, the minute by which it is due, the memory that it needs
+-- a job: its working time, the minute by which it is due, the memory that it needs; and the number of its maker (document 02, §4)
 pub record Job : Type 0 where
   pub time : ℕ
   pub due : ℤ
   pub need : ℕ
+  pub maker : ℕ
 
 -- an order: the memory of each processor, and the jobs
 pub record Order : Type 0 where
@@ -30,7 +31,7 @@ Numbers n k = (1 ≤ k) × (k ≤ n)
 
 -- the job and the memory that a number names; one that names none is never asked for
 abbrev pub noJob : Job
-noJob = record { time = 0; due = pos 0; need = 0 }
+noJob = record { time = 0; due = pos 0; need = 0; maker = 0 }
 
 abbrev pub jobOf : Order → ℕ → Job
 jobOf o j = nth (o .jobs) j noJob

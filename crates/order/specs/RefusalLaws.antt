@@ -1,5 +1,5 @@
 -- The refusal table as sentences: a refusal is returned exactly if its condition holds and that of no earlier row does; an
--- order is accepted exactly if its counts, times and due times are in range and each job fits some processor.
+-- order is accepted exactly if its counts, times, due times and makers are in range and each job fits some processor.
 use Prim.Native.Nat.{ℕ, zero, suc, _+_, _≤_, _<_}
 use mathlib.Core.Path.{_≡_, refl, sym, ap, _∙_}
 use mathlib.Core.Bool.{Bool, true, false, cond, not, _&&_, _||_}
@@ -31,6 +31,7 @@ use Rattle.order.specs.Refusals.{
   firstAfter,
   first,
   dueInRange,
+  mostMakers,
   fitsSome,
   row,
   countRows,
@@ -237,7 +238,7 @@ true-fitsSome need (m ∷ ms) (suc i) l h = rw (true-fitsSome need ms i (le-of-s
     either true = refl
     either false = refl
 
--- what an accepted order is, in the words of document 01's ranges
+-- what an accepted order is, in the words of the papers' ranges
 pub record Acceptable (o : Order) : Type 0 where
   pub some-processor : 1 ≤ processorCount o
   pub few-processors : processorCount o ≤ 16
@@ -245,6 +246,7 @@ pub record Acceptable (o : Order) : Type 0 where
   pub few-jobs : jobCount o ≤ 48
   pub times : All (λ (job : Job). (1 ≤ job .time) × (job .time ≤ 100000)) (o .jobs)
   pub dues : All (λ (job : Job). (negsuc 999999 ≤ℤ job .due) × (job .due ≤ℤ pos 1000000)) (o .jobs)
+  pub makers : All (λ (job : Job). (1 ≤ job .maker) × (job .maker ≤ mostMakers)) (o .jobs)
   pub fit : All (λ (job : Job). (i : ℕ) × Numbers (processorCount o) i × Fits job (memoryOf o i)) (o .jobs)
 
 -- rows 1 to 4 do not hold: the counts are within the limits
@@ -273,9 +275,13 @@ acceptable-of o a =
           (λ (job : Job) e. let h = both-true (leZ (negsuc 999999) (job .due)) (leZ (job .due) (pos 1000000)) (not-false _ e) in
           (leZ-true _ _ (h .0), leZ-true _ _ (h .1)))
           (first-clear _ (o .jobs) 0 (c .1 .1 .1 .1 .1 .0));
+      makers = All-map _ _ (o .jobs)
+          (λ (job : Job) e. let h = both-true (leb 1 (job .maker)) (leb (job .maker) mostMakers) (not-false _ e) in
+          (leb-true 1 (job .maker) (h .0), leb-true (job .maker) mostMakers (h .1)))
+          (first-clear _ (o .jobs) 0 (c .1 .1 .1 .1 .1 .1 .0));
       fit = All-map _ _ (o .jobs)
           (λ (job : Job) e. let h = fitsSome-true (job .need) (o .memories) (not-false _ e) in (suc (h .0), (omega arith, h .1), h .2))
-          (first-clear _ (o .jobs) 0 (c .1 .1 .1 .1 .1 .1 .0));
+          (first-clear _ (o .jobs) 0 (c .1 .1 .1 .1 .1 .1 .1 .0));
     }
 
 accepted-of : (o : Order) → Acceptable o → Accepted o
@@ -297,8 +303,13 @@ accepted-of o a =
                     (λ (job : Job) h. false-not _ (true-both _ _ (true-leZ _ _ (h .0)) (true-leZ _ _ (h .1)))) (a .dues)),
                 (
                   first-none _ (o .jobs) 0 (All-map _ _ (o .jobs)
-                      (λ (job : Job) h. false-not _ (fits-place (job .need) (o .memories) (h .0) (h .1) (h .2))) (a .fit)),
-                  tt,
+                      (λ (job : Job) h. false-not _
+                      (true-both _ _ (le-leb 1 (job .maker) (h .0)) (le-leb (job .maker) mostMakers (h .1)))) (a .makers)),
+                  (
+                    first-none _ (o .jobs) 0 (All-map _ _ (o .jobs)
+                        (λ (job : Job) h. false-not _ (fits-place (job .need) (o .memories) (h .0) (h .1) (h .2))) (a .fit)),
+                    tt,
+                  ),
                 ),
               ),
             ),

@@ -1,4 +1,5 @@
--- Document 01's refusal table. Each entry point judges by the rows that it uses, in the table's order, 12 before all:
+-- Document 01's refusal table, with document 02's rows. Each entry point judges by the rows that it uses, in the table's order, 12
+-- before all, 13 right after 6, 14 last of all:
 -- "Each is returned if its condition holds and that of no earlier one does, otherwise never."
 use Prim.Native.Nat.{ℕ, suc, _+_, _/_}
 use mathlib.Core.Path.{_≡_}
@@ -25,7 +26,7 @@ abbrev pub shortestFile : ℕ
 shortestFile = 12
 
 abbrev pub longestFile : ℕ
-longestFile = 652
+longestFile = 844
 
 -- what a row of the table finds: its condition does not hold, or it holds, and the refusal carries this number
 pub data Finding : Type 0 where
@@ -80,6 +81,13 @@ timeInRange t = leb 1 t && leb t 100000
 abbrev pub dueInRange : ℤ → Bool
 dueInRange d = leZ (negsuc 999999) d && leZ d (pos 1000000)
 
+-- document 02, §4: "a maker number, 1 to 16"
+abbrev pub mostMakers : ℕ
+mostMakers = 16
+
+abbrev pub makerInRange : ℕ → Bool
+makerInRange maker = leb 1 maker && leb maker mostMakers
+
 -- some memory is at least the need
 unfoldable pub fitsSome : ℕ → List ℕ → Bool
 fitsSome need [] = false
@@ -101,15 +109,16 @@ countRows most processors jobs =
     ∷ row 4 (whole (ltb (most .jobs) jobs))
     ∷ []
 
--- rows 5 to 7: each carries the first job for which its condition holds
+-- rows 5, 6, 13 and 7: each carries the first job for which its condition holds
 abbrev pub jobRows : Order → List TableRow
 jobRows o =
     row 5 (first (λ (job : Job). not (timeInRange (job .time))) (o .jobs))
     ∷ row 6 (first (λ (job : Job). not (dueInRange (job .due))) (o .jobs))
+    ∷ row 13 (first (λ (job : Job). not (makerInRange (job .maker))) (o .jobs))
     ∷ row 7 (first (λ (job : Job). not (fitsSome (job .need) (o .memories))) (o .jobs))
     ∷ []
 
--- rows 1 to 7, the conditions on an order's processors and jobs
+-- rows 1 to 7 and 13, the conditions on an order's processors and jobs
 abbrev pub orderRows : Limits → Order → List TableRow
 orderRows most o = countRows most (processorCount o) (jobCount o) ++ jobRows o
 
@@ -133,6 +142,6 @@ rowsToCheckRow numbers = row 11 (whole (ltb mostRows ((numbers + 3) / 4)))
 abbrev pub fileRow : Bool → TableRow
 fileRow good = row 12 (whole (not good))
 
--- "An order is accepted if no condition on its processors or jobs holds, here rows 1 to 7."
+-- "An order is accepted if no condition on its processors or jobs holds": document 01's rows 1 to 7, and 13
 abbrev pub Accepted : Order → Type 0
 Accepted o = judge (orderRows limits o) ≡ accepted

@@ -15,18 +15,25 @@ use Rattle.order.specs.declared.Refusal.the-variants.{
   TooManyJobs,
   TimeOutOfRange,
   DueOutOfRange,
+  MakerOutOfRange,
   FitsNoProcessor,
   BoundOutOfRange,
   BufferTooShort,
   TooManyRows,
   BadFile,
+  BookFull,
 }
 use Rattle.order.specs.declared.Acceptance.{Acceptance}
 use Rattle.order.specs.declared.Acceptance.the-variants.{Accepted, Refused}
 
 -- job number j + 1 of a struct
 abbrev pub jobAt : OrderTable → ℕ → Job
-jobAt t j = record { time = getD (t .times) j 0; due = getD (t .dues) j (pos 0); need = getD (t .needs) j 0 }
+jobAt t j = record {
+  time = getD (t .times) j 0;
+  due = getD (t .dues) j (pos 0);
+  need = getD (t .needs) j 0;
+  maker = getD (t .makers) j 0;
+}
 
 -- the order of a struct: as many processors and jobs as it counts, zeros behind the end of its arrays
 abbrev pub orderOf : OrderTable → Order
@@ -48,9 +55,10 @@ tableOf o = record {
   times = tabulate (limits .jobs) (λ j. getD (o .jobs) j noJob .time);
   dues = tabulate (limits .jobs) (λ j. getD (o .jobs) j noJob .due);
   needs = tabulate (limits .jobs) (λ j. getD (o .jobs) j noJob .need);
+  makers = tabulate (limits .jobs) (λ j. getD (o .jobs) j noJob .maker);
 }
 
--- document 01's number of a refusal, and what it carries
+-- the number of a refusal, and what it carries
 abbrev pub refusalTold : Refusal → Verdict
 refusalTold NoProcessor = refused 1 0
 refusalTold TooManyProcessors = refused 2 0
@@ -58,11 +66,13 @@ refusalTold NoJob = refused 3 0
 refusalTold TooManyJobs = refused 4 0
 refusalTold (TimeOutOfRange job) = refused 5 job
 refusalTold (DueOutOfRange job) = refused 6 job
+refusalTold (MakerOutOfRange job) = refused 13 job
 refusalTold (FitsNoProcessor job) = refused 7 job
 refusalTold BoundOutOfRange = refused 8 0
 refusalTold BufferTooShort = refused 9 0
 refusalTold TooManyRows = refused 11 0
 refusalTold BadFile = refused 12 0
+refusalTold BookFull = refused 14 0
 
 -- the number of a verdict, and what it carries; 0 where nothing is refused
 abbrev pub numberBy : Verdict → ℕ

@@ -16,11 +16,13 @@ use Rattle.order.specs.declared.Refusal.the-variants.{
   TooManyJobs,
   TimeOutOfRange,
   DueOutOfRange,
+  MakerOutOfRange,
   FitsNoProcessor,
   BoundOutOfRange,
   BufferTooShort,
   TooManyRows,
   BadFile,
+  BookFull,
 }
 
 -- the number of a refusal, and what it carries
@@ -31,11 +33,13 @@ refused-told NoJob = (3, 0, refl)
 refused-told TooManyJobs = (4, 0, refl)
 refused-told (TimeOutOfRange j) = (5, j, refl)
 refused-told (DueOutOfRange j) = (6, j, refl)
+refused-told (MakerOutOfRange j) = (13, j, refl)
 refused-told (FitsNoProcessor j) = (7, j, refl)
 refused-told BoundOutOfRange = (8, 0, refl)
 refused-told BufferTooShort = (9, 0, refl)
 refused-told TooManyRows = (11, 0, refl)
 refused-told BadFile = (12, 0, refl)
+refused-told BookFull = (14, 0, refl)
 
 -- none of them is 10, which comes with its reason
 pub not-ten : (r : Refusal) → eqb (numberBy (refusalTold r)) 10 ≡ false
@@ -45,11 +49,13 @@ not-ten NoJob = refl
 not-ten TooManyJobs = refl
 not-ten (TimeOutOfRange j) = refl
 not-ten (DueOutOfRange j) = refl
+not-ten (MakerOutOfRange j) = refl
 not-ten (FitsNoProcessor j) = refl
 not-ten BoundOutOfRange = refl
 not-ten BufferTooShort = refl
 not-ten TooManyRows = refl
 not-ten BadFile = refl
+not-ten BookFull = refl
 
 -- where the first rows refuse, so does the whole table, whatever the values are that would have been answered
 pub refused-answer : {A : Type 0} (rows later : List TableRow) (r : Refusal) (a b : A) → refusalTold r ≡ judge rows →

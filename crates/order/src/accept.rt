@@ -1,7 +1,8 @@
-// Acceptance of an order: refusals 1 to 7, for every entry point. `first_bad_time`, `first_bad_due` and `first_unfit` serve
-// `accept` alone and have a `requires`.
+// Acceptance of an order: refusals 1 to 7 and 13, for every entry point. `first_bad_time`, `first_bad_due`, `first_bad_maker` and
+// `first_unfit` serve `accept` alone and have a `requires`.
 use super::Acceptance;
 use super::MOST_JOBS;
+use super::MOST_MAKERS;
 use super::MOST_PROCESSORS;
 use super::Order;
 use super::Refusal;
@@ -9,7 +10,7 @@ ghost use mathlib.Core.Path.{_≡_};
 ghost use Prim.Native.Nat.{_≤_};
 ghost use mathlib.Core.Bool.{not};
 ghost use Rattle.order.specs.Order.{Job};
-ghost use Rattle.order.specs.Refusals.{judge, countRows, orderRows, limits, first, timeInRange, dueInRange, fitsSome};
+ghost use Rattle.order.specs.Refusals.{judge, countRows, orderRows, limits, first, timeInRange, dueInRange, makerInRange, fitsSome};
 ghost use Rattle.order.specs.Table.{orderOf, acceptanceTold, findingOf};
 
 // Rows 1 to 4 of the table, on the counts alone.
@@ -77,6 +78,32 @@ fn due_in_range(due: i32) -> bool
     false
 }
 
+// The first job whose maker number is not in range, or 0.
+fn first_bad_maker(order: Order) -> u32
+    requires { ⌜ order .jobs ≤ 48 ⌝ }
+    ensures { λ r. ⌜ findingOf r ≡ first (λ (job : Job). not (makerInRange (job .maker))) (orderOf order .jobs) ⌝ }
+{
+    let jobs = order.jobs as usize;
+    let mut j: usize = 0;
+    while j < jobs {
+        let good = maker_in_range(order.makers[j]);
+        j += 1;
+        if !good {
+            return j as u32;
+        }
+    }
+    0
+}
+
+fn maker_in_range(maker: u32) -> bool
+    ensures { λ r. ⌜ r ≡ makerInRange maker ⌝ }
+{
+    if 1 <= maker {
+        return maker <= MOST_MAKERS;
+    }
+    false
+}
+
 // Whether some processor has at least this memory.
 fn fits_some(order: Order, need: u32) -> bool
     requires { ⌜ order .processors ≤ 16 ⌝ }
@@ -110,7 +137,7 @@ fn first_unfit(order: Order) -> u32
     0
 }
 
-// Rows 1 to 7 of the table.
+// Rows 1 to 7 and 13 of the table, 13 right after 6.
 pub fn accept(order: Order) -> Acceptance
     ensures { λ r. ⌜ acceptanceTold r ≡ judge (orderRows limits (orderOf order)) ⌝ }
 {
@@ -125,6 +152,10 @@ pub fn accept(order: Order) -> Acceptance
     let due = first_bad_due(order);
     if 0 < due {
         return Acceptance::Refused(Refusal::DueOutOfRange(due));
+    }
+    let maker = first_bad_maker(order);
+    if 0 < maker {
+        return Acceptance::Refused(Refusal::MakerOutOfRange(maker));
     }
     let need = first_unfit(order);
     if 0 < need {

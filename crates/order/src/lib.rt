@@ -1,5 +1,5 @@
-// What an order is (document 01, "Order and file"), whether it is accepted, and its orderings.
-pub mod accept; // refusals 1 to 7
+// What an order is (document 01, "Order and file"; the maker: document 02, §4), whether it is accepted, and its orderings.
+pub mod accept; // refusals 1 to 7 and 13
 pub mod deadline; // a job's end, and the end cut off at minute 0
 pub mod orderings; // processors by falling memory, jobs by falling need
 pub mod told; // refusals as numbers
@@ -8,6 +8,9 @@ pub mod told; // refusals as numbers
 pub const MOST_PROCESSORS: u32 = 16;
 
 pub const MOST_JOBS: u32 = 48;
+
+// Makers are numbered from 1 to this.
+pub const MOST_MAKERS: u32 = 16;
 
 // An order: counts, and a column for each number of a processor or a job. It stands for the list of as many as it counts,
 // zeros behind the end of an array.
@@ -18,9 +21,10 @@ pub struct Order {
     pub times: [u32; 48],
     pub dues: [i32; 48],
     pub needs: [u32; 48],
+    pub makers: [u32; 48],
 }
 
-// Document 01's refusals but 10, which comes with its reason; where one carries a job, the job's number.
+// The refusals but 10, which comes with its reason; where one carries a job, the job's number.
 pub enum Refusal {
     NoProcessor,
     TooManyProcessors,
@@ -28,11 +32,13 @@ pub enum Refusal {
     TooManyJobs,
     TimeOutOfRange(u32),
     DueOutOfRange(u32),
+    MakerOutOfRange(u32),
     FitsNoProcessor(u32),
     BoundOutOfRange,
     BufferTooShort,
     TooManyRows,
     BadFile,
+    BookFull,
 }
 
 pub enum Acceptance {

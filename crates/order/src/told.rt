@@ -1,4 +1,4 @@
-// Document 01's refusals as numbers: what is printed and what is returned have them from here.
+// Refusals as numbers: what is printed and what is returned have them from here.
 use super::Refusal;
 ghost use mathlib.Core.Path.{_≡_};
 ghost use Prim.Native.Nat.{_≤_};
@@ -15,11 +15,13 @@ pub fn number_of(refusal: Refusal) -> u32
         Refusal::TooManyJobs => 4,
         Refusal::TimeOutOfRange(_) => 5,
         Refusal::DueOutOfRange(_) => 6,
+        Refusal::MakerOutOfRange(_) => 13,
         Refusal::FitsNoProcessor(_) => 7,
         Refusal::BoundOutOfRange => 8,
         Refusal::BufferTooShort => 9,
         Refusal::TooManyRows => 11,
         Refusal::BadFile => 12,
+        Refusal::BookFull => 14,
     }
 }
 
@@ -34,10 +36,12 @@ pub fn carried_of(refusal: Refusal) -> u32
         Refusal::TooManyJobs => 0,
         Refusal::TimeOutOfRange(job) => job,
         Refusal::DueOutOfRange(job) => job,
+        Refusal::MakerOutOfRange(job) => job,
         Refusal::FitsNoProcessor(job) => job,
         Refusal::BoundOutOfRange => 0,
         Refusal::BufferTooShort => 0,
         Refusal::TooManyRows => 0,
         Refusal::BadFile => 0,
+        Refusal::BookFull => 0,
     }
 }

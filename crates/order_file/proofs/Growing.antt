@@ -10,7 +10,7 @@ use Rattle.order.specs.Order.{Job}
 use Rattle.order_file.specs.Bytes.{bytes4, pattern}
 use Rattle.order_file.specs.File.{processorBytes, bytesOfJob, jobBytes, jobWidth}
 use Rattle.order_file.specs.FileLaws.{processorBytes-more, jobBytes-more}
-use Rattle.order_file.proofs.Stores.{Front, front-start, front-at, front-more, three-put}
+use Rattle.order_file.proofs.Stores.{Front, front-start, front-at, front-more, four-put}
 
 module _ (s : List ℕ) (f : ℕ → ℕ) where
   pub no-processor : Front s 0 (processorBytes []) s
@@ -26,7 +26,7 @@ module _ (s : List ℕ) (f : ℕ → ℕ) where
 
 -- a job with another due time
 abbrev withDue : ℤ → Job → Job
-withDue z job = record { time = job .time; due = z; need = job .need }
+withDue z job = record { time = job .time; due = z; need = job .need; maker = job .maker }
 
 module _ (s : List ℕ) (a : ℕ) (f : ℕ → Job) where
   pub no-job : a ≤ length s → Front s (a + 0) (take a s ++ jobBytes []) s
@@ -49,10 +49,13 @@ module _ (s : List ℕ) (a : ℕ) (f : ℕ → Job) where
       out ≡ take a s ++ (jobBytes (tabulate n f) ++ drop (a + jobWidth * n) s)
   all-jobs n out fr = fr .is ∙ append-assoc (take a s) (jobBytes (tabulate n f)) (drop (a + jobWidth * n) s)
 
--- the three numbers of one job, the due time as the pattern x
-pub one-job : (s : List ℕ) (a : ℕ) (job : Job) (x : ℕ) (o₁ o₂ o₃ : List ℕ) → a + jobWidth ≤ length s → x ≡ pattern (job .due) →
+-- the four numbers of one job, the due time as the pattern x
+pub one-job : (s : List ℕ) (a : ℕ) (job : Job) (x : ℕ) (o₁ o₂ o₃ o₄ : List ℕ) → a + jobWidth ≤ length s → x ≡ pattern (job .due) →
     o₁ ≡ take a s ++ (bytes4 (job .time) ++ drop (a + 4) s) → o₂ ≡ take (a + 4) o₁ ++ (bytes4 x ++ drop (a + 4 + 4) o₁) →
-    o₃ ≡ take (a + 8) o₂ ++ (bytes4 (job .need) ++ drop (a + 8 + 4) o₂) → o₃ ≡ take a s ++ (bytesOfJob job ++ drop (a + jobWidth) s)
-one-job s a job x o₁ o₂ o₃ h p e₁ e₂ e₃ =
-    three-put s a (bytes4 (job .time)) (bytes4 x) (bytes4 (job .need)) o₁ o₂ o₃ h refl refl refl e₁ e₂ e₃
-    ∙ ap (λ (y : ℕ). take a s ++ ((bytes4 (job .time) ++ (bytes4 y ++ bytes4 (job .need))) ++ drop (a + jobWidth) s)) p
+    o₃ ≡ take (a + 8) o₂ ++ (bytes4 (job .need) ++ drop (a + 8 + 4) o₂) →
+    o₄ ≡ take (a + 12) o₃ ++ (bytes4 (job .maker) ++ drop (a + 12 + 4) o₃) → o₄ ≡ take a s ++ (bytesOfJob job ++ drop (a + jobWidth) s)
+one-job s a job x o₁ o₂ o₃ o₄ h p e₁ e₂ e₃ e₄ =
+    four-put s a 4 (a + 12) (a + jobWidth) (bytes4 (job .time)) (bytes4 x) (bytes4 (job .need)) (bytes4 (job .maker)) o₁ o₂ o₃ o₄
+    (omega arith) (omega arith) h refl refl refl refl e₁ e₂ e₃ e₄
+    ∙ ap (λ (y : ℕ). take a s ++ ((bytes4 (job .time) ++ (bytes4 y ++ (bytes4 (job .need) ++ bytes4 (job .maker))))
+    ++ drop (a + jobWidth) s)) p

@@ -51,24 +51,15 @@ front-more s n p buffer f k new after e h is =
     dropped : drop (n + k) (p ++ drop n s) ≡ drop (n + k) s
     dropped = ap (λ (m : ℕ). drop (m + k) (p ++ drop n s)) (sym (f .size)) ∙ drop-append-add p (drop n s) k ∙ drop-drop k n s
 
--- several stores one after the other are one
-module _ (s : List ℕ) (a : ℕ) (b₁ b₂ b₃ o₁ o₂ o₃ : List ℕ) where
-  pub three-put : a + 12 ≤ length s → length b₁ ≡ 4 → length b₂ ≡ 4 → length b₃ ≡ 4 →
-      o₁ ≡ take a s ++ (b₁ ++ drop (a + 4) s) → o₂ ≡ take (a + 4) o₁ ++ (b₂ ++ drop (a + 4 + 4) o₁) →
-      o₃ ≡ take (a + 8) o₂ ++ (b₃ ++ drop (a + 8 + 4) o₂) → o₃ ≡ take a s ++ ((b₁ ++ (b₂ ++ b₃)) ++ drop (a + 12) s)
-  three-put h l₁ l₂ l₃ e₁ e₂ e₃ =
-      let f₁ = front-more s a _ s (front-start s a (omega arith)) 4 b₁ o₁ l₁ (omega arith) e₁ in
-      let f₂ = front-at s _ (a + 8) _ o₂ (front-more s _ _ o₁ f₁ 4 b₂ o₂ l₂ (omega arith) e₂) (omega arith) in
-      let f₃ = front-at s _ (a + 12) _ o₃ (front-more s _ _ o₂ f₂ 4 b₃ o₃ l₃ (omega arith) e₃) (omega arith) in
-      f₃ .is ∙ simp append-assoc
-
-  pub four-put : (b₄ o₄ : List ℕ) → a + 12 ≤ length s → length b₁ ≡ 4 → length b₂ ≡ 4 → length b₃ ≡ 2 → length b₄ ≡ 2 →
-      o₁ ≡ take a s ++ (b₁ ++ drop (a + 4) s) → o₂ ≡ take (a + 4) o₁ ++ (b₂ ++ drop (a + 4 + 4) o₁) →
-      o₃ ≡ take (a + 8) o₂ ++ (b₃ ++ drop (a + 8 + 2) o₂) → o₄ ≡ take (a + 10) o₃ ++ (b₄ ++ drop (a + 10 + 2) o₃) →
-      o₄ ≡ take a s ++ ((b₁ ++ (b₂ ++ (b₃ ++ b₄))) ++ drop (a + 12) s)
-  four-put b₄ o₄ h l₁ l₂ l₃ l₄ e₁ e₂ e₃ e₄ =
-      let f₁ = front-more s a _ s (front-start s a (omega arith)) 4 b₁ o₁ l₁ (omega arith) e₁ in
-      let f₂ = front-at s _ (a + 8) _ o₂ (front-more s _ _ o₁ f₁ 4 b₂ o₂ l₂ (omega arith) e₂) (omega arith) in
-      let f₃ = front-at s _ (a + 10) _ o₃ (front-more s _ _ o₂ f₂ 2 b₃ o₃ l₃ (omega arith) e₃) (omega arith) in
-      let f₄ = front-at s _ (a + 12) _ o₄ (front-more s _ _ o₃ f₃ 2 b₄ o₄ l₄ (omega arith) e₄) (omega arith) in
-      f₄ .is ∙ simp append-assoc
+-- four stores one after the other are one: two of four bytes, and two of w bytes, the last of them at p
+pub four-put : (s : List ℕ) (a w p end : ℕ) (b₁ b₂ b₃ b₄ o₁ o₂ o₃ o₄ : List ℕ) → a + 8 + w ≡ p → p + w ≡ end → end ≤ length s →
+    length b₁ ≡ 4 → length b₂ ≡ 4 → length b₃ ≡ w → length b₄ ≡ w →
+    o₁ ≡ take a s ++ (b₁ ++ drop (a + 4) s) → o₂ ≡ take (a + 4) o₁ ++ (b₂ ++ drop (a + 4 + 4) o₁) →
+    o₃ ≡ take (a + 8) o₂ ++ (b₃ ++ drop (a + 8 + w) o₂) → o₄ ≡ take p o₃ ++ (b₄ ++ drop (p + w) o₃) →
+    o₄ ≡ take a s ++ ((b₁ ++ (b₂ ++ (b₃ ++ b₄))) ++ drop end s)
+four-put s a w p end b₁ b₂ b₃ b₄ o₁ o₂ o₃ o₄ at-p at-end h l₁ l₂ l₃ l₄ e₁ e₂ e₃ e₄ =
+    let f₁ = front-more s a _ s (front-start s a (omega arith)) 4 b₁ o₁ l₁ (omega arith) e₁ in
+    let f₂ = front-at s _ (a + 8) _ o₂ (front-more s _ _ o₁ f₁ 4 b₂ o₂ l₂ (omega arith) e₂) (omega arith) in
+    let f₃ = front-at s _ p _ o₃ (front-more s _ _ o₂ f₂ w b₃ o₃ l₃ (omega arith) e₃) at-p in
+    let f₄ = front-at s _ end _ o₄ (front-more s _ _ o₃ f₃ w b₄ o₄ l₄ (omega arith) e₄) at-end in
+    f₄ .is ∙ simp append-assoc

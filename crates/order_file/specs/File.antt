@@ -1,4 +1,5 @@
--- Document 01's order file: two lists in either order, and a trailer of 12 bytes that points back to them.
+-- Document 01's order file: two lists in either order, and a trailer of 12 bytes that points back to them. Document 02, §4, puts the
+-- maker at the end of each job.
 use Prim.Native.Nat.{ℕ, _+_, _-_, _*_}
 use mathlib.Core.Path.{_≡_}
 use mathlib.Core.Bool.{Bool, _&&_, _||_}
@@ -22,9 +23,9 @@ use Rattle.order.specs.Refusals.{
 }
 use Rattle.order_file.specs.Bytes.{number4, number2, bytes4, bytes2, signed, pattern}
 
--- a job is 12 bytes, and so is the trailer
+-- a job is 16 bytes, the trailer 12
 abbrev pub jobWidth : ℕ
-jobWidth = 12
+jobWidth = 16
 
 abbrev pub trailerWidth : ℕ
 trailerWidth = 12
@@ -60,7 +61,12 @@ goodFile f =
 
 -- the order of a file: the numbers at the places that its trailer gives
 abbrev pub jobIn : List ℕ → ℕ → Job
-jobIn f at = record { time = number4 f at; due = signed (number4 f (at + 4)); need = number4 f (at + 8) }
+jobIn f at = record {
+  time = number4 f at;
+  due = signed (number4 f (at + 4));
+  need = number4 f (at + 8);
+  maker = number4 f (at + 12);
+}
 
 unfoldable pub orderIn : List ℕ → Order
 orderIn f = record {
@@ -68,7 +74,7 @@ orderIn f = record {
   jobs = tabulate (jobsOf f) (λ j. jobIn f (jobPlace f + jobWidth * j));
 }
 
--- the reader judges 12, then 1 to 7
+-- the reader judges 12, then the rows of acceptance
 unfoldable pub readRows : List ℕ → List TableRow
 readRows f = fileRow (goodFile f) ∷ orderRows limits (orderIn f)
 
@@ -86,7 +92,7 @@ processorBytes [] = []
 processorBytes (m ∷ ms) = bytes4 m ++ processorBytes ms
 
 abbrev pub bytesOfJob : Job → List ℕ
-bytesOfJob job = bytes4 (job .time) ++ (bytes4 (pattern (job .due)) ++ bytes4 (job .need))
+bytesOfJob job = bytes4 (job .time) ++ (bytes4 (pattern (job .due)) ++ (bytes4 (job .need) ++ bytes4 (job .maker)))
 
 unfoldable pub jobBytes : List Job → List ℕ
 jobBytes [] = []
@@ -101,7 +107,7 @@ fileOf o = processorBytes (o .memories) ++ (jobBytes (o .jobs) ++ trailerBytes (
 abbrev pub fileLength : Order → ℕ
 fileLength o = 4 * processorCount o + jobWidth * jobCount o + trailerWidth
 
--- the writer judges 1 to 7, then 9
+-- the writer judges the rows of acceptance, then 9
 unfoldable pub writeRows : Order → ℕ → List TableRow
 writeRows o lent = orderRows limits o ++ (roomRow lent (fileLength o) ∷ [])
 

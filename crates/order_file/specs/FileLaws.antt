@@ -61,24 +61,28 @@ pub record JobFits (job : Job) : Type 0 where
   pub time : job .time < 4294967296
   pub due : mag (job .due) < 2147483648
   pub need : job .need < 4294967296
+  pub maker : job .maker < 4294967296
 
 -- past the first of two lists a job is one of the second
 pub jobIn-past : (p r : List ℕ) (n k : ℕ) → length p ≡ n → jobIn (p ++ r) (n + k) ≡ jobIn r k
 jobIn-past p r n k e =
     let e₄ : n + k + 4 ≡ n + (k + 4) = omega arith in
     let e₈ : n + k + 8 ≡ n + (k + 8) = omega arith in
-    same-job _ _ _ _ _ _
+    let e₁₂ : n + k + 12 ≡ n + (k + 12) = omega arith in
+    same-job _ _ _ _ _ _ _ _
     (number4-past p r n k e)
     (ap signed (ap (number4 (p ++ r)) e₄ ∙ number4-past p r n (k + 4) e))
     (ap (number4 (p ++ r)) e₈ ∙ number4-past p r n (k + 8) e)
+    (ap (number4 (p ++ r)) e₁₂ ∙ number4-past p r n (k + 12) e)
 
 -- a job is read where it was written
 jobIn-first : (job : Job) (rest : List ℕ) → JobFits job → jobIn (bytesOfJob job ++ rest) 0 ≡ job
 jobIn-first job rest h =
-    same-job _ _ _ _ _ _
+    same-job _ _ _ _ _ _ _ _
     (four-bytes (job .time) (h .time))
     (ap signed (four-bytes (pattern (job .due)) (pattern-small (job .due) (h .due))) ∙ signed-pattern (job .due) (h .due))
     (four-bytes (job .need) (h .need))
+    (four-bytes (job .maker) (h .maker))
 
 pub jobIn-jobBytes : (js : List Job) (rest : List ℕ) → All JobFits js → (j : ℕ) → j < length js →
     jobIn (jobBytes js ++ rest) (jobWidth * j) ≡ getD js j noJob

@@ -172,9 +172,11 @@ module _ (o : Order) (a : Accepted o) (b : Bounded o) where
       record {
         time = omega (arith, h .0 .0);
         due = omega (arith, mag-range 999999 1000000 (job .due) (h .1 .0));
-        need = h .1 .1;
+        need = h .1 .1 .0;
+        maker = omega (arith, h .1 .1 .1);
       })
-      (All-both _ _ (o .jobs) (good .times) (All-both _ _ (o .jobs) (dues-in-range o good) (b .needs)))
+      (All-both _ _ (o .jobs) (good .times)
+      (All-both _ _ (o .jobs) (dues-in-range o good) (All-both _ _ (o .jobs) (b .needs) (good .makers))))
 
   few-places : 4 * processorCount o + jobWidth * jobCount o ≤ longestFile - trailerWidth
   few-places = omega (arith, good .few-processors, good .few-jobs)

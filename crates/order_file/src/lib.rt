@@ -1,4 +1,4 @@
-// The order file (document 01, "Order and file"): reader and writer.
+// The order file (document 01, "Order and file"; the maker in it: document 02, §4): reader and writer.
 use order::Acceptance;
 use order::Order;
 use order::Refusal;
@@ -8,11 +8,11 @@ pub mod read; // read_order
 pub mod write; // write_order
 
 // The bytes of a job and of the trailer, and of the longest file.
-pub const JOB_WIDTH: usize = 12;
+pub const JOB_WIDTH: usize = 16;
 
 pub const TRAILER_WIDTH: usize = 12;
 
-pub const LONGEST_FILE: usize = 652;
+pub const LONGEST_FILE: usize = 844;
 
 // Where the lists lie, and how long they are.
 pub struct Lists {

@@ -1,4 +1,4 @@
-// The reader: refusal 12, then 1 to 7. Only `read_order` is a public entry point; the others serve it.
+// The reader: refusal 12, then 1 to 7 with 13 after 6. Only `read_order` is a public entry point; the others serve it.
 use super::JOB_WIDTH;
 use super::LONGEST_FILE;
 use super::Lists;
@@ -83,9 +83,9 @@ fn memories(list: &[u8], n: usize) -> [u32; 16]
     out
 }
 
-// The times or the needs of a job list: the numbers at `first` in each job, 0 beyond its end.
+// The times, the needs or the makers of a job list: the numbers at `first` in each job, 0 beyond its end.
 fn column(list: &[u8], n: usize, first: usize) -> [u32; 48]
-    requires { ⌜ (n ≤ 48) × (first ≤ 8) × (jobWidth * n ≤ length (now list)) ⌝ }
+    requires { ⌜ (n ≤ 48) × (first ≤ 12) × (jobWidth * n ≤ length (now list)) ⌝ }
     ensures { λ r. ⌜ r ≡ paddedTo 48 n 0 (λ (j : ℕ). number4 (now (list .entry)) (jobWidth * j + first)) ⌝ }
 {
     let mut out = [0u32; 48];
@@ -134,6 +134,7 @@ fn read_lists(
         times: column(job_list, jobs, 0),
         dues: dues(job_list, jobs),
         needs: column(job_list, jobs, 8),
+        makers: column(job_list, jobs, 12),
     }
 }
 
@@ -148,11 +149,12 @@ fn refuse(status: Acceptance) -> OrderRead
         times: [0u32; 48],
         dues: [0i32; 48],
         needs: [0u32; 48],
+        makers: [0u32; 48],
     };
     OrderRead { status, order }
 }
 
-// The order of a file: 12, then 1 to 7.
+// The order of a file: 12, then the rows of acceptance.
 pub fn read_order(file: &[u8]) -> OrderRead
     ensures { λ r. ⌜ readTold r ≡ answerBy (judge (readRows (now (file .entry)))) (orderIn (now (file .entry))) ⌝ }
     ensures { λ r. ⌜ r .order ≡ tableOf (orderBy (judge (readRows (now (file .entry)))) (orderIn (now (file .entry)))) ⌝ }

@@ -1,4 +1,4 @@
-// The writer: refusals 1 to 7, then 9. Only `write_order` is a public entry point; the others serve it.
+// The writer: refusals 1 to 7 with 13 after 6, then 9. Only `write_order` is a public entry point; the others serve it.
 use super::JOB_WIDTH;
 use super::OrderWritten;
 use super::TRAILER_WIDTH;
@@ -33,14 +33,15 @@ fn put_processors(order: Order, out: &mut [u8])
 }
 
 // One job is stored at a place.
-fn put_job(out: &mut [u8], at: usize, time: u32, due: i32, need: u32)
+fn put_job(out: &mut [u8], at: usize, time: u32, due: i32, need: u32, maker: u32)
     requires { ⌜ at + jobWidth ≤ length (now out) ⌝ }
     ensures { λ r. ⌜ now (out .exit) ≡ take at (now (out .entry))
-        ++ (bytesOfJob (record { time = time; due = due; need = need }) ++ drop (at + jobWidth) (now (out .entry))) ⌝ }
+        ++ (bytesOfJob (record { time = time; due = due; need = need; maker = maker }) ++ drop (at + jobWidth) (now (out .entry))) ⌝ }
 {
     put4(out, at, time);
     put4(out, at + 4, to_pattern(due));
     put4(out, at + 8, need);
+    put4(out, at + 12, maker);
 }
 
 // The job list is stored at a place.
@@ -58,6 +59,7 @@ fn put_jobs(order: Order, out: &mut [u8], at: usize)
             order.times[j],
             order.dues[j],
             order.needs[j],
+            order.makers[j],
         );
         j += 1;
     }
@@ -75,7 +77,7 @@ fn put_trailer(out: &mut [u8], at: usize, processors: u32, jobs: u32)
     put2(out, at + 10, jobs);
 }
 
-// The file of an order, processors first, in a lent buffer: 1 to 7, then 9.
+// The file of an order, processors first, in a lent buffer: the rows of acceptance, then 9.
 pub fn write_order(order: Order, out: &mut [u8]) -> OrderWritten
     ensures { λ r. ⌜ writtenTold r
         ≡ answerBy (judge (writeRows (orderOf order) (length (now (out .entry))))) (fileLength (orderOf order)) ⌝ }

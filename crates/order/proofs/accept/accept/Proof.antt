@@ -1,6 +1,6 @@
 use mathlib.Core.Path.{sym, _∙_}
 use Rattle.order.specs.Table.{orderOf}
-use Rattle.order.proofs.Judging.{counts-refuse, counts-few, jobs-decide, time-refused, due-refused, need-refused, all-accepted}
+use Rattle.order.proofs.Judging.{counts-refuse, counts-few, jobs-decide, time-refused, due-refused, maker-refused, need-refused, all-accepted}
 use borrow.Author.Needs.{needs}
 use Rattle.order.proofs.accept.accept.Statement.{statement}
 use Rattle.order.proofs.accept.accept.Tie as tie
@@ -8,6 +8,7 @@ use Rattle.order.proofs.accept.accept.Reads as reads
 use Rattle.order.proofs.accept.accept.Lts as lts
 use Rattle.order.proofs.accept.accept_counts.Reads as accept-counts-reads
 use Rattle.order.proofs.accept.first_bad_due.Reads as first-bad-due-reads
+use Rattle.order.proofs.accept.first_bad_maker.Reads as first-bad-maker-reads
 use Rattle.order.proofs.accept.first_bad_time.Reads as first-bad-time-reads
 use Rattle.order.proofs.accept.first_unfit.Reads as first-unfit-reads
 
@@ -29,8 +30,8 @@ first-bad-time-requires c κs = counts-few (c .before .before .before .args .ord
 
 returns-2 : tie.Need-returns-2
 returns-2 c = sym (jobs-decide (c .before .before .before .before .before .args .order) _
-    (c .before .before .before .before .accept-counts .ensures) (c .before .before .enum-told .given .1) ∙ time-refused
-    (orderOf (c .before .before .before .before .before .args .order)) _ 0 0 (c .before .first-bad-time .ensures) (c .if1 .taken))
+    (c .before .before .before .before .accept-counts .ensures) (c .before .before .enum-told .given .1)
+    ∙ time-refused (orderOf (c .before .before .before .before .before .args .order)) _ 0 0 0 (c .before .first-bad-time .ensures) (c .if1 .taken))
 
 first-bad-due-requires : tie.Need-first-bad-due-requires
 first-bad-due-requires c κs = counts-few (c .before .before .before .before .before .args .order) _
@@ -39,28 +40,39 @@ first-bad-due-requires c κs = counts-few (c .before .before .before .before .be
 returns-3 : tie.Need-returns-3
 returns-3 c = sym (jobs-decide (c .before .before .before .before .before .before .before .args .order) _
     (c .before .before .before .before .before .before .accept-counts .ensures) (c .before .before .before .before .enum-told .given .1)
-    ∙ due-refused (orderOf (c .before .before .before .before .before .before .before .args .order)) _ _ 0
+    ∙ due-refused (orderOf (c .before .before .before .before .before .before .before .args .order)) _ _ 0 0
     (c .before .before .before .first-bad-time .ensures) (c .before .before .if1 .left) (c .before .first-bad-due .ensures) (c .if2 .taken))
 
-first-unfit-requires : tie.Need-first-unfit-requires
-first-unfit-requires c κs = counts-few (c .before .before .before .before .before .before .before .args .order) _
-    (c .before .before .before .before .before .before .accept-counts .ensures) (c .before .before .before .before .enum-told .given .1)
+first-bad-maker-requires : tie.Need-first-bad-maker-requires
+first-bad-maker-requires c κs = counts-few (c .before .before .before .before .before .before .before .args .order) _
+    (c .before .before .before .before .before .before .accept-counts .ensures) (c .before .before .before .before .enum-told .given .1) .1
 
 returns-4 : tie.Need-returns-4
 returns-4 c = sym (jobs-decide (c .before .before .before .before .before .before .before .before .before .args .order) _
-    (c .before .before .before .before .before .before .before .before .accept-counts .ensures)
-    (c .before .before .before .before .before .before .enum-told .given .1) ∙ need-refused
-    (orderOf (c .before .before .before .before .before .before .before .before .before .args .order)) _ _ _
+    (c .before .before .before .before .before .before .before .before .accept-counts .ensures) (c .before .before .before .before .before .before .enum-told .given .1)
+    ∙ maker-refused (orderOf (c .before .before .before .before .before .before .before .before .before .args .order)) _ _ _ 0
     (c .before .before .before .before .before .first-bad-time .ensures) (c .before .before .before .before .if1 .left)
-    (c .before .before .before .first-bad-due .ensures) (c .before .before .if2 .left) (c .before .first-unfit .ensures) (c .if3 .taken))
+    (c .before .before .before .first-bad-due .ensures) (c .before .before .if2 .left) (c .before .first-bad-maker .ensures) (c .if3 .taken))
+
+first-unfit-requires : tie.Need-first-unfit-requires
+first-unfit-requires c κs = counts-few (c .before .before .before .before .before .before .before .before .before .args .order) _
+    (c .before .before .before .before .before .before .before .before .accept-counts .ensures) (c .before .before .before .before .before .before .enum-told .given .1)
 
 returns-5 : tie.Need-returns-5
-returns-5 c = sym (jobs-decide (c .before .before .before .before .before .before .before .before .before .args .order) _
-    (c .before .before .before .before .before .before .before .before .accept-counts .ensures)
-    (c .before .before .before .before .before .before .enum-told .given .1) ∙ all-accepted
-    (orderOf (c .before .before .before .before .before .before .before .before .before .args .order)) _ _ _
-    (c .before .before .before .before .before .first-bad-time .ensures) (c .before .before .before .before .if1 .left)
-    (c .before .before .before .first-bad-due .ensures) (c .before .before .if2 .left) (c .before .first-unfit .ensures) (c .if3 .left))
+returns-5 c = sym (jobs-decide (c .before .before .before .before .before .before .before .before .before .before .before .args .order) _
+    (c .before .before .before .before .before .before .before .before .before .before .accept-counts .ensures) (c .before .before .before .before .before .before .before .before .enum-told .given .1)
+    ∙ need-refused (orderOf (c .before .before .before .before .before .before .before .before .before .before .before .args .order)) _ _ _ _
+    (c .before .before .before .before .before .before .before .first-bad-time .ensures) (c .before .before .before .before .before .before .if1 .left)
+    (c .before .before .before .before .before .first-bad-due .ensures) (c .before .before .before .before .if2 .left)
+    (c .before .before .before .first-bad-maker .ensures) (c .before .before .if3 .left) (c .before .first-unfit .ensures) (c .if4 .taken))
+
+returns-6 : tie.Need-returns-6
+returns-6 c = sym (jobs-decide (c .before .before .before .before .before .before .before .before .before .before .before .args .order) _
+    (c .before .before .before .before .before .before .before .before .before .before .accept-counts .ensures) (c .before .before .before .before .before .before .before .before .enum-told .given .1)
+    ∙ all-accepted (orderOf (c .before .before .before .before .before .before .before .before .before .before .before .args .order)) _ _ _ _
+    (c .before .before .before .before .before .before .before .first-bad-time .ensures) (c .before .before .before .before .before .before .if1 .left)
+    (c .before .before .before .before .before .first-bad-due .ensures) (c .before .before .before .before .if2 .left)
+    (c .before .before .before .first-bad-maker .ensures) (c .before .before .if3 .left) (c .before .first-unfit .ensures) (c .if4 .left))
 
 pub accept-spec : {M : Type 1} → statement M
 accept-spec =
@@ -74,6 +86,8 @@ accept-spec =
     returns-2
     first-bad-due-requires
     returns-3
-    first-unfit-requires
+    first-bad-maker-requires
     returns-4
-    returns-5)
+    first-unfit-requires
+    returns-5
+    returns-6)

@@ -52,12 +52,15 @@ dues-requires c κs = search needs
 column-requires-2 : tie.Need-column-requires-2
 column-requires-2 c κs = search needs
 
+column-requires-3 : tie.Need-column-requires-3
+column-requires-3 c κs = search needs
+
 returns : tie.Need-returns
 returns c =
-    let start = c .before .before .before .before .before .before .before in
-    columns-read _ _ _ _ _ (start .pre .1) _ _ _ _
-    (c .before .before .before .memories .ensures) (c .before .before .column .ensures)
-    (c .before .dues .ensures) (c .column2 .ensures)
+    let start = c .before .before .before .before .before .before .before .before in
+    columns-read _ _ _ _ _ (start .pre .1) _ _ _ _ _
+    (c .before .before .before .before .memories .ensures) (c .before .before .before .column .ensures)
+    (c .before .before .dues .ensures) (c .before .column2 .ensures) (c .column3 .ensures)
 
 pub read-lists-spec : {M : Type 1} → statement M
 read-lists-spec =
@@ -79,4 +82,5 @@ read-lists-spec =
     column-requires
     dues-requires
     column-requires-2
+    column-requires-3
     returns)

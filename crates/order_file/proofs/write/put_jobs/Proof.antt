@@ -51,9 +51,15 @@ mul-put-job-4 c = search needs
 element-copy-out-put-job-3 : tie.Need-element-copy-out-put-job-3 Inv-loop μ-loop
 element-copy-out-put-job-3 c = search needs
 
+mul-put-job-5 : tie.Need-mul-put-job-5 Inv-loop μ-loop
+mul-put-job-5 c = search needs
+
+element-copy-out-put-job-4 : tie.Need-element-copy-out-put-job-4 Inv-loop μ-loop
+element-copy-out-put-job-4 c = search needs
+
 put-job-requires : tie.Need-put-job-requires Inv-loop μ-loop
 put-job-requires c κs =
-    let e = front-length _ _ _ _ (c .before .before .before .before .before .loop .inv .1) in
+    let e = front-length _ _ _ _ (c .before .before .before .before .before .before .loop .inv .1) in
     search needs
 
 add-j : tie.Need-add-j Inv-loop μ-loop
@@ -64,11 +70,11 @@ loop-less c = search needs
 
 loop-again : tie.Need-loop-again Inv-loop μ-loop
 loop-again c =
-    let l = c .before .before .before .before .before .before .before .before in
+    let l = c .before .before .before .before .before .before .before .before .before in
     let o = l .before .before .args .t1 in (
       search needs,
       one-job-more _ _ (jobAt o) _ _ _ _ (l .loop .inv .1) (omega arith)
-          (machine-back (getD (o .dues) (l .loop .j) (pos 0)) (c .before .before .before .before .put-job-arg3 .given))
+          (machine-back (getD (o .dues) (l .loop .j) (pos 0)) (c .before .before .before .before .before .put-job-arg3 .given))
           (c .before .before .put-job .ensures),
     )
 
@@ -97,6 +103,8 @@ put-jobs-spec =
     element-copy-out-put-job-2
     mul-put-job-4
     element-copy-out-put-job-3
+    mul-put-job-5
+    element-copy-out-put-job-4
     put-job-requires
     add-j
     loop-less

@@ -1,9 +1,10 @@
 -- `put_trailer`: four numbers stored one after the other are the trailer's twelve bytes.
-use Prim.Native.Nat.{_*_}
+use Prim.Native.Nat.{_+_, _*_}
 use mathlib.Core.Path.{refl}
 use Rattle.order_file.specs.Bytes.{bytes4, bytes2}
 use Rattle.order_file.proofs.Stores.{four-put}
 use borrow.Author.Needs.{needs}
+use native.Mathlib.Omega.{arith}
 use Rattle.order_file.proofs.write.put_trailer.Statement.{statement}
 use Rattle.order_file.proofs.write.put_trailer.Tie as tie
 
@@ -41,8 +42,8 @@ returns c =
     let first = second .before .before .before .before in
     let start = first .before .before .before in
     let a = start .args in
-    four-put (a .out .now) (a .at) (bytes4 0) (bytes4 (4 * a .processors)) (bytes2 (a .processors)) _ _ _ (bytes2 (a .jobs)) _
-    (start .pre .2) refl refl refl refl
+    four-put (a .out .now) (a .at) 2 (a .at + 10) (a .at + 12) (bytes4 0) (bytes4 (4 * a .processors)) (bytes2 (a .processors))
+    (bytes2 (a .jobs)) _ _ _ _ (omega arith) (omega arith) (start .pre .2) refl refl refl refl
     (first .put4 .ensures) (second .put42 .ensures) (third .put2 .ensures) (c .before .before .put22 .ensures)
 
 pub put-trailer-spec : {M : Type 1} → statement M

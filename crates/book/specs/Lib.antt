@@ -1,0 +1,5 @@
+pub mod Book
+pub mod BookLaws
+pub mod Told
+pub mod Calls
+pub mod CallLaws
