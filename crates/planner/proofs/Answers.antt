@@ -118,6 +118,12 @@ told-met o f w e h = met-none o f (sym (ap (λ (w : Why). w .tightness) e) ∙ h
 pub classes-few : (o : Order) {t : Table} → Tabled lastDue o t → length (classes o) ≤ 16
 classes-few o m = omega (arith, m .classed, m .few-classes)
 
+-- what an answer at a bound has to hold, by what the table answers
+abbrev pub EnsuredBy : Verdict → Order → ℤ → List ℕ → List ℕ → PlanAnswer → Type 0
+EnsuredBy v o bound entry exit r =
+    (plannedTold (r .planned) ≡ answerBy v (rowsOf (r .planned)))
+    × (ReasonTold o (reasonCarried v (reasonOf o bound)) r × BufferBy v o bound entry exit (rowsOf (r .planned)))
+
 -- the verdicts, row by row
 module _ (o : Order) (bound : ℤ) (n : ℕ) where
   pub refused-first : (rf : Refusal) → refusalTold rf ≡ judge (orderRows limits o) → refusalTold rf ≡ judge (planRows o bound n)
@@ -199,10 +205,7 @@ module _ (o : Order) (bound : ℤ) (n : ℕ) where
 
   -- what plan_at ensures
   abbrev pub Ensured : List ℕ → List ℕ → PlanAnswer → Type 0
-  Ensured entry exit r =
-      (plannedTold (r .planned) ≡ answerBy (judge (planRows o bound n)) (rowsOf (r .planned)))
-      × (ReasonTold o (reasonCarried (judge (planRows o bound n)) (reasonOf o bound)) r
-      × BufferBy (judge (planRows o bound n)) o bound entry exit (rowsOf (r .planned)))
+  Ensured entry exit r = EnsuredBy (judge (planRows o bound n)) o bound entry exit r
 
   module _ (r : BoundJudged) (judged : JudgedAt o bound n r) where
     -- the reason is handed on as it was judged
@@ -236,7 +239,7 @@ module _ (o : Order) (bound : ℤ) (n : ℕ) where
         )
 
     module _ (e : r .judgement ≡ Open) where
-      opened : judge (planRows o bound n) ≡ accepted
+      pub opened : judge (planRows o bound n) ≡ accepted
       opened = sym (judged .verdict) ∙ ap judgedTold e
 
       pub rows-ensured : (entry exit : List ℕ) (count : ℕ) → Written o bound entry exit count →
@@ -312,11 +315,13 @@ module _ (o : Order) (n : ℕ) where
         }
 
 -- what least_lateness ensures
+abbrev pub LeastEnsuredBy : Verdict → Order → List ℕ → List ℕ → Least → Type 0
+LeastEnsuredBy v o entry exit r =
+    (leastTold r ≡ answerBy v (leastLateness o)) × (LeastIn o r × BufferBy v o (leastLateness o) entry exit (leastCount r))
+
 module _ (o : Order) (n : ℕ) where
   abbrev pub LeastEnsured : List ℕ → List ℕ → Least → Type 0
-  LeastEnsured entry exit r =
-      (leastTold r ≡ answerBy (judge (leastRows o n)) (leastLateness o))
-      × (LeastIn o r × BufferBy (judge (leastRows o n)) o (leastLateness o) entry exit (leastCount r))
+  LeastEnsured entry exit r = LeastEnsuredBy (judge (leastRows o n)) o entry exit r
 
   module _ (r : LeastJudged) (judged : JudgedLeast o n r) where
     pub least-refused : (entry : List ℕ) (rf : Refusal) → r .status ≡ Refuses rf → LeastEnsured entry entry (LeastRefused rf)
@@ -331,7 +336,7 @@ module _ (o : Order) (n : ℕ) where
         )
 
     module _ (e : r .status ≡ Accepts) where
-      least-opened : judge (leastRows o n) ≡ accepted
+      pub least-opened : judge (leastRows o n) ≡ accepted
       least-opened = sym (judged .verdict) ∙ ap acceptanceTold e
 
       pub least-order-good : Accepted o

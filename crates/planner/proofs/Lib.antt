@@ -1,3 +1,4 @@
 mod SetupLaws
 mod PlanMade
 mod Answers
+mod Booked

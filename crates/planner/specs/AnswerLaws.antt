@@ -50,11 +50,36 @@ filled : (v : Verdict) → v ≡ accepted → (o : Order) (bound : ℤ) (rows ro
     BufferBy v o bound rows rows′ count → Written o bound rows rows′ count
 filled v e o bound rows rows′ count b = rw e at b
 
--- at a bound
+-- at a bound, by what a table answers
+abbrev pub PlanToldBy : Verdict → Order → ℤ → List ℕ → List ℕ → Planned → Type 0
+PlanToldBy v o bound rows rows′ p = (plannedTold p ≡ answerBy v (rowsOf p)) × BufferBy v o bound rows rows′ (rowsOf p)
+
+module _ (v : Verdict) (o : Order) (bound : ℤ) (rows rows′ : List ℕ) (p : Planned) (t : PlanToldBy v o bound rows rows′ p) where
+  told-as : (q : Planned) → p ≡ q → PlanToldBy v o bound rows rows′ q
+  told-as q e = subst (PlanToldBy v o bound rows rows′) e t
+
+  pub refused-by-plan : (why : Refusal) → p ≡ Refused why → (v ≡ refusalTold why) × (rows′ ≡ rows)
+  refused-by-plan why e =
+      let u = told-as (Refused why) e in
+      let w = verdict-refused v why 0 0 (u .0) in
+      let r = refused-told why in
+      (w, kept v (r .0) (r .1) (w ∙ r .2) o bound rows rows′ 0 (u .1))
+
+  pub tight-by-plan : (reason : Reason) → p ≡ Tight reason → (v ≡ refused 10 0) × (rows′ ≡ rows)
+  tight-by-plan reason e =
+      let u = told-as (Tight reason) e in
+      let w = refused-by v 10 0 0 (u .0) in
+      (w, kept v 10 0 w o bound rows rows′ 0 (u .1))
+
+  pub rows-by-plan : (count : ℕ) → p ≡ Rows count → (v ≡ accepted) × Written o bound rows rows′ count
+  rows-by-plan count e =
+      let u = told-as (Rows count) e in
+      let w = verdict-accepted v count count (u .0) .0 in
+      (w, filled v w o bound rows rows′ count (u .1))
+
+-- of the planner without a book
 abbrev pub PlanTold : Order → ℤ → List ℕ → List ℕ → Planned → Type 0
-PlanTold o bound rows rows′ p =
-    (plannedTold p ≡ answerBy (judge (planRows o bound (length rows))) (rowsOf p))
-    × BufferBy (judge (planRows o bound (length rows))) o bound rows rows′ (rowsOf p)
+PlanTold o bound rows rows′ p = PlanToldBy (judge (planRows o bound (length rows))) o bound rows rows′ p
 
 pub plan-moved : (o o′ : Order) (read bound : ℤ) (rows rows′ : List ℕ) (p : Planned) → o ≡ o′ → read ≡ bound →
     PlanTold o read rows rows′ p → PlanTold o′ bound rows rows′ p
@@ -65,33 +90,40 @@ module _ (o : Order) (bound : ℤ) (rows rows′ : List ℕ) (p : Planned) (t : 
   abbrev v : Verdict
   v = judge (planRows o bound (length rows))
 
-  told-as : (q : Planned) → p ≡ q → PlanTold o bound rows rows′ q
-  told-as q e = subst (PlanTold o bound rows rows′) e t
-
   pub planned-refused : (why : Refusal) → p ≡ Refused why → (v ≡ refusalTold why) × (rows′ ≡ rows)
-  planned-refused why e =
-      let u = told-as (Refused why) e in
-      let w = verdict-refused v why 0 0 (u .0) in
-      let r = refused-told why in
-      (w, kept v (r .0) (r .1) (w ∙ r .2) o bound rows rows′ 0 (u .1))
+  planned-refused = refused-by-plan v o bound rows rows′ p t
 
   pub planned-tight : (reason : Reason) → p ≡ Tight reason → (v ≡ refused 10 0) × (rows′ ≡ rows)
-  planned-tight reason e =
-      let u = told-as (Tight reason) e in
-      let w = refused-by v 10 0 0 (u .0) in
-      (w, kept v 10 0 w o bound rows rows′ 0 (u .1))
+  planned-tight = tight-by-plan v o bound rows rows′ p t
 
   pub planned-rows : (count : ℕ) → p ≡ Rows count → (v ≡ accepted) × Written o bound rows rows′ count
-  planned-rows count e =
-      let u = told-as (Rows count) e in
-      let w = verdict-accepted v count count (u .0) .0 in
-      (w, filled v w o bound rows rows′ count (u .1))
+  planned-rows = rows-by-plan v o bound rows rows′ p t
 
 -- at the least lateness
+abbrev pub LeastToldBy : Verdict → Order → List ℕ → List ℕ → Least → Type 0
+LeastToldBy v o rows rows′ l =
+    (leastTold l ≡ answerBy v (leastLateness o)) × BufferBy v o (leastLateness o) rows rows′ (leastCount l)
+
+module _ (v : Verdict) (o : Order) (rows rows′ : List ℕ) (l : Least) (t : LeastToldBy v o rows rows′ l) where
+  least-as : (k : Least) → l ≡ k → LeastToldBy v o rows rows′ k
+  least-as k e = subst (LeastToldBy v o rows rows′) e t
+
+  pub refused-by-least : (why : Refusal) → l ≡ LeastRefused why → (v ≡ refusalTold why) × (rows′ ≡ rows)
+  refused-by-least why e =
+      let u = least-as (LeastRefused why) e in
+      let x = verdict-refused v why _ _ (u .0) in
+      let r = refused-told why in
+      (x, kept v (r .0) (r .1) (x ∙ r .2) o _ rows rows′ 0 (u .1))
+
+  pub at-by-least : (z : ℤ) (count : ℕ) → l ≡ At z count →
+      (v ≡ accepted) × (z ≡ leastLateness o) × Written o (leastLateness o) rows rows′ count
+  at-by-least z count e =
+      let u = least-as (At z count) e in
+      let x = verdict-accepted v z (leastLateness o) (u .0) in
+      (x .0, x .1, filled v (x .0) o _ rows rows′ count (u .1))
+
 abbrev pub LeastTold : Order → List ℕ → List ℕ → Least → Type 0
-LeastTold o rows rows′ l =
-    (leastTold l ≡ answerBy (judge (leastRows o (length rows))) (leastLateness o))
-    × BufferBy (judge (leastRows o (length rows))) o (leastLateness o) rows rows′ (leastCount l)
+LeastTold o rows rows′ l = LeastToldBy (judge (leastRows o (length rows))) o rows rows′ l
 
 pub least-moved : (o o′ : Order) (rows rows′ : List ℕ) (l : Least) → o ≡ o′ → LeastTold o rows rows′ l → LeastTold o′ rows rows′ l
 least-moved o o′ rows rows′ l e t = subst (λ (x : Order). LeastTold x rows rows′ l) e t
@@ -100,19 +132,9 @@ module _ (o : Order) (rows rows′ : List ℕ) (l : Least) (t : LeastTold o rows
   abbrev w : Verdict
   w = judge (leastRows o (length rows))
 
-  least-as : (k : Least) → l ≡ k → LeastTold o rows rows′ k
-  least-as k e = subst (LeastTold o rows rows′) e t
-
   pub least-refused : (why : Refusal) → l ≡ LeastRefused why → (w ≡ refusalTold why) × (rows′ ≡ rows)
-  least-refused why e =
-      let u = least-as (LeastRefused why) e in
-      let x = verdict-refused w why _ _ (u .0) in
-      let r = refused-told why in
-      (x, kept w (r .0) (r .1) (x ∙ r .2) o _ rows rows′ 0 (u .1))
+  least-refused = refused-by-least w o rows rows′ l t
 
   pub least-at : (z : ℤ) (count : ℕ) → l ≡ At z count →
       (w ≡ accepted) × (z ≡ leastLateness o) × Written o (leastLateness o) rows rows′ count
-  least-at z count e =
-      let u = least-as (At z count) e in
-      let x = verdict-accepted w z (leastLateness o) (u .0) in
-      (x .0, x .1, filled w (x .0) o _ rows rows′ count (u .1))
+  least-at = at-by-least w o rows rows′ l t

@@ -1,4 +1,5 @@
 pub mod Rows
+pub mod Booked
 pub mod Written
 pub mod WrittenOne
 pub mod JoinedPlan

@@ -1,9 +1,11 @@
--- The rows of the refusal table that the planner uses: 1 to 7 and 9 for the least lateness, 1 to 10 at a bound.
+-- The rows of the refusal table that the planner uses: those of acceptance and 9 for the least lateness, 8 and 10 too at a bound, and
+-- 14 last of all where minutes are booked.
 use Prim.Native.Nat.{ℕ, _+_, _-_, _*_, _/_}
 use mathlib.Core.Bool.{Bool, true, false}
 use mathlib.Core.List.{List, [], _∷_, _++_}
 use lib.IntN.{ℤ}
 use Rattle.order.specs.Order.{Order, processorCount, jobCount}
+use Rattle.book.specs.Book.{bookRow}
 use Rattle.order.specs.Refusals.{limits, TableRow, orderRows, boundRow, roomRow, tightRow}
 use Rattle.profile.specs.Reason.{Reason}
 use Rattle.profile.specs.Search.{Found, nothing, found, reasonOf}
@@ -31,3 +33,10 @@ earlierRows o bound numbers = orderRows limits o ++ (boundRow bound ∷ bufferRo
 
 unfoldable pub planRows : Order → ℤ → ℕ → List TableRow
 planRows o bound numbers = earlierRows o bound numbers ++ (tightRow (isFound (reasonOf o bound)) ∷ [])
+
+-- with a book of these counts
+abbrev pub bookedLeastRows : Order → ℕ → List ℕ → List TableRow
+bookedLeastRows o numbers counts = leastRows o numbers ++ (bookRow o counts ∷ [])
+
+abbrev pub bookedPlanRows : Order → ℤ → ℕ → List ℕ → List TableRow
+bookedPlanRows o bound numbers counts = planRows o bound numbers ++ (bookRow o counts ∷ [])

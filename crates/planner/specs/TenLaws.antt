@@ -58,7 +58,7 @@ module _ (o : Order) (bound : ℤ) (numbers : ℕ) (ten : judge (planRows o boun
       decided (refused n c) h =
           let whole = judge-refused-append (earlierRows o bound numbers) (tightRow (isFound (reasonOf o bound)) ∷ []) n c h in
           absurd (never 10 0 (earlierRows o bound numbers)
-          (refl, (refl, (refl, (refl, (refl, (refl, (refl, (refl, (refl, tt))))))))) (h ∙ (sym whole ∙ ten)))
+          (refl, (refl, (refl, (refl, (refl, (refl, (refl, (refl, (refl, (refl, tt)))))))))) (h ∙ (sym whole ∙ ten)))
 
   pub ten-accepted : Accepted o
   unfolding earlierRows

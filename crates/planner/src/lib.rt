@@ -1,12 +1,16 @@
-// The planner (document 01): the least lateness of an order with a plan at it, and a plan at a given bound.
+// The planner (document 01): the least lateness of an order with a plan at it, and a plan at a given bound; and the same with the
+// minutes booked per maker (document 02, §4).
+use book::Book;
 use order::Acceptance;
 use order::Refusal;
 use reason::Reason;
 use table::Table;
 
 pub mod bound; // plan_at
+pub mod bound_booked; // plan_booked
 mod judging; // what is judged before any row is written
 pub mod lateness; // least_lateness
+pub mod lateness_booked; // least_booked
 mod making; // a plan where there is no reason against the bound
 pub mod room; // rows_asked
 
@@ -47,4 +51,15 @@ pub struct LeastJudged {
 pub struct PlanAnswer {
     pub planned: Planned,
     pub dues: [i32; 16],
+}
+
+// The same answers, with the book that is given back.
+pub struct PlanBooked {
+    pub answer: PlanAnswer,
+    pub book: Book,
+}
+
+pub struct LeastBooked {
+    pub least: Least,
+    pub book: Book,
 }
