@@ -34,7 +34,8 @@ use Rattle.reason.specs.declared.Why.{Why}
 use Rattle.sentence.specs.Handed.{handed}
 use Rattle.sentence.specs.Line.{composed}
 use Rattle.sentence.specs.Told.{composeRows, readRows as lineRows}
-use Rattle.planner.specs.Rows.{rowsAsked, isFound, leastRows, earlierRows, planRows}
+use Rattle.book.specs.Book.{booked, someOver}
+use Rattle.planner.specs.Rows.{rowsAsked, isFound, leastRows, earlierRows, planRows, bookedLeastRows, bookedPlanRows}
 
 -- a refusal carries what its verdict carries
 pub carried-few : (v w : Verdict) → v ≡ w → carriedBy v ≤ 48 → carriedBy w ≤ 16777215
@@ -64,7 +65,8 @@ job-carries : (o : Order) → jobCount o ≤ 48 → carriedBy (judge (jobRows o)
 unfolding judge
 job-carries o h =
     first-carries 5 0 48 _ (o .jobs) _ (omega arith)
-    (first-carries 6 0 48 _ (o .jobs) _ (omega arith) (first-carries 7 0 48 _ (o .jobs) _ (omega arith) (omega arith)))
+    (first-carries 6 0 48 _ (o .jobs) _ (omega arith)
+    (first-carries 13 0 48 _ (o .jobs) _ (omega arith) (first-carries 7 0 48 _ (o .jobs) _ (omega arith) (omega arith))))
 
 none-carries : carriedBy (judge []) ≤ 48
 unfolding judge
@@ -113,6 +115,14 @@ plan-carries o bound n =
     (append-carries (orderRows limits o) _ (order-carries o)
     (whole-carries 8 48 (not (boundInRange bound)) _ (whole-carries 9 48 (ltb (n / 4) (rowsAsked o)) [] none-carries)))
     (whole-carries 10 48 (isFound (reasonOf o bound)) [] none-carries)
+
+pub least-book-carries : (o : Order) (n : ℕ) (counts : List ℕ) → carriedBy (judge (bookedLeastRows o n counts)) ≤ 48
+least-book-carries o n counts =
+    append-carries (leastRows o n) _ (least-carries o n) (whole-carries 14 48 (someOver (booked o counts)) [] none-carries)
+
+pub plan-book-carries : (o : Order) (bound : ℤ) (n : ℕ) (counts : List ℕ) → carriedBy (judge (bookedPlanRows o bound n counts)) ≤ 48
+plan-book-carries o bound n counts =
+    append-carries (planRows o bound n) _ (plan-carries o bound n) (whole-carries 14 48 (someOver (booked o counts)) [] none-carries)
 
 pub check-carries : (o : Order) (bound : ℤ) (n : ℕ) → carriedBy (judge (checkRows o bound n)) ≤ 48
 unfolding checkRows

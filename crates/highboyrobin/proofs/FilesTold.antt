@@ -53,14 +53,14 @@ module _ (memories jobs : List ℕ) (lent answer : ℕ) where
   answer-short h = rw (lt-ltb answer 1 h)
 
   module _ (room : 1 ≤ answer) where
-    pub part-job : length jobs % 3 ≢ 0 → v ≡ refused 254 0
+    pub part-job : length jobs % 4 ≢ 0 → v ≡ refused 254 0
     unfolding judge writeCall
-    part-job h = rw (le-ltb answer 1 room, ne-eqb (length jobs % 3) 0 h)
+    part-job h = rw (le-ltb answer 1 room, ne-eqb (length jobs % 4) 0 h)
 
-    module _ (whole-jobs : length jobs % 3 ≡ 0) where
+    module _ (whole-jobs : length jobs % 4 ≡ 0) where
       pub writer-decides : v ≡ judge (writeRows (orderFrom memories jobs) lent)
       unfolding judge writeCall
-      writer-decides = rw (le-ltb answer 1 room, eq-eqb (length jobs % 3) 0 whole-jobs)
+      writer-decides = rw (le-ltb answer 1 room, eq-eqb (length jobs % 4) 0 whole-jobs)
 
       pub many-processors : 16 < length memories → v ≡ refused 2 0
       unfolding judge writeRows orderFrom
@@ -70,16 +70,16 @@ module _ (memories jobs : List ℕ) (lent answer : ℕ) where
       unfolding judge writeRows orderFrom
       no-processor h = writer-decides ∙ rw (eq-eqb (length memories) 0 h)
 
-      pub many-jobs : length memories ≢ 0 → length memories ≤ 16 → 144 < length jobs → v ≡ refused 4 0
+      pub many-jobs : length memories ≢ 0 → length memories ≤ 16 → 192 < length jobs → v ≡ refused 4 0
       unfolding judge writeRows orderFrom
       many-jobs some few h =
           writer-decides
           ∙ rw (
             ne-eqb (length memories) 0 some,
             le-ltb 16 (length memories) few,
-            length-tabulate (length jobs / 3) _,
-            ne-eqb (length jobs / 3) 0 (omega arith),
-            lt-ltb 48 (length jobs / 3) (omega arith),
+            length-tabulate (length jobs / 4) _,
+            ne-eqb (length jobs / 4) 0 (omega arith),
+            lt-ltb 48 (length jobs / 4) (omega arith),
           )
 
 -- what the writer's answer says, of the struct's order and of the lists'
@@ -110,7 +110,7 @@ module _ (o : Order) (file file′ : List ℕ) (w : OrderWritten) (t : WriteTold
       (x .0, x .1, u .1 .0, u .1 .1)
 
 -- a file that is written is short: its order is accepted
-pub file-few : (o : Order) (n : ℕ) → judge (writeRows o n) ≡ accepted → fileLength o ≤ 652
+pub file-few : (o : Order) (n : ℕ) → judge (writeRows o n) ≡ accepted → fileLength o ≤ 844
 unfolding writeRows
 file-few o n a =
     let h = judge-accepted (orderRows limits o ++ (roomRow n (fileLength o) ∷ [])) .0 a in

@@ -8,3 +8,4 @@ mod Handed
 mod ChecksTold
 mod FilesTold
 mod SentenceTold
+mod BooksTold

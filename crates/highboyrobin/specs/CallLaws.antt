@@ -11,6 +11,7 @@ use lib.IntN.{ℤ, pos}
 use lib.ListN.{length, getD, take, drop}
 use lib.Seq.{take-at}
 use Rattle.sums.specs.Lists.{All}
+use Rattle.sums.specs.Members.{All-append}
 use Rattle.order.specs.Order.{Order}
 use Rattle.order.specs.Refusals.{
   limits,
@@ -124,7 +125,7 @@ module _ (f : List ℕ) (bound : ℤ) (numbers lent : ℕ) where
       decided : (v : Verdict) → judge first ≡ v → (judge first ≡ accepted) × (judge tight ≡ refused 10 0)
       decided accepted h = (h, sym (judge-accepted-append first tight h) ∙ e)
       decided (refused n c) h =
-          absurd (never 10 0 first (refl, (refl, (refl, (refl, (refl, (refl, (refl, (refl, (refl, (refl, (refl, tt)))))))))))
+          absurd (never 10 0 first (refl, (refl, (refl, (refl, (refl, (refl, (refl, (refl, (refl, (refl, (refl, (refl, tt))))))))))))
           (h ∙ (sym (judge-refused-append first tight n c h) ∙ e)))
 
   -- where hbr_plan says 10 there is no right plan, whoever made it, in whatever equal parts of a minute
@@ -203,7 +204,7 @@ module _ (f : List ℕ) (bound : ℤ) (answer : List ℤ) (e : judge (reasonCall
           let r = tight-refused reason (last .1) in
           let clears = judge-accepted rows .0 (last .0) in (
             λ h. let z : _≡_ {A = ℕ} 0 1 = cc (sym (none-is .0 h) ∙ r .1) in omega arith,
-            ltb-false (numbers / 4) (rowsAsked (orderIn f)) (whole-clear _ (clears .1 .1 .1 .1 .1 .1 .1 .1 .1 .1 .0)),
+            ltb-false (numbers / 4) (rowsAsked (orderIn f)) (whole-clear _ (clears .1 .1 .1 .1 .1 .1 .1 .1 .1 .1 .1 .0)),
           )
 
       says : (¬ (kind ≡ pos 0)) × (rowsAsked (orderIn f) ≤ numbers / 4) → judge (planCall f bound numbers lent) ≡ refused 10 0
@@ -212,34 +213,8 @@ module _ (f : List ℕ) (bound : ℤ) (answer : List ℤ) (e : judge (reasonCall
           let clears : All (λ (r : TableRow). r .finding ≡ clear) rows
           = (
             ap whole (le-ltb lent 1 room),
-            (
-              c .1 .0,
-              (
-                c .1 .1 .0,
-                (
-                  c .1 .1 .1 .0,
-                  (
-                    c .1 .1 .1 .1 .0,
-                    (
-                      c .1 .1 .1 .1 .1 .0,
-                      (
-                        c .1 .1 .1 .1 .1 .1 .0,
-                        (
-                          c .1 .1 .1 .1 .1 .1 .1 .0,
-                          (
-                            c .1 .1 .1 .1 .1 .1 .1 .1 .0,
-                            (
-                              c .1 .1 .1 .1 .1 .1 .1 .1 .1 .0,
-                              (ap whole (le-ltb (numbers / 4) (rowsAsked (orderIn f)) (h .1)), tt),
-                            ),
-                          ),
-                        ),
-                      ),
-                    ),
-                  ),
-                ),
-              ),
-            ),
+            All-append (λ (r : TableRow). r .finding ≡ clear) (fileRow (goodFile f) ∷ (orderRows limits (orderIn f) ++ (boundRow bound ∷ [])))
+                (bufferRow (orderIn f) numbers ∷ []) (c .1) (ap whole (le-ltb (numbers / 4) (rowsAsked (orderIn f)) (h .1)), tt),
           ) in
           judge-clear rows (tightRow (isFound reason) ∷ []) clears ∙ tight-found reason (λ n. h .0 (none-is .1 n))
 

@@ -109,12 +109,17 @@ abbrev pub checkAnswer : List ℕ → ℤ → List ℕ → List ℤ → List ℤ
 checkAnswer file bound rows answer =
     answeredBy (judge (checkCall file bound (length rows) (length answer))) (yesOrNo (isRight (orderIn file) bound rows)) answer
 
--- hbr_write: the order of two lists of numbers, three to a job: time, due time as two's complement, need
+-- hbr_write: the order of two lists of numbers, four to a job: time, due time as two's complement, need, maker
 unfoldable pub orderFrom : List ℕ → List ℕ → Order
 orderFrom memories jobs = record {
   memories = memories;
-  jobs = tabulate (length jobs / 3)
-      (λ j. record { time = getD jobs (3 * j) 0; due = signed (getD jobs (3 * j + 1) 0); need = getD jobs (3 * j + 2) 0 });
+  jobs = tabulate (length jobs / 4)
+      (λ j. record {
+        time = getD jobs (4 * j) 0;
+        due = signed (getD jobs (4 * j + 1) 0);
+        need = getD jobs (4 * j + 2) 0;
+        maker = getD jobs (4 * j + 3) 0;
+      });
 }
 
 unfoldable pub writeCall : List ℕ → List ℕ → ℕ → ℕ → List TableRow

@@ -1,5 +1,7 @@
 pub mod Results
+pub mod Places
 pub mod Calls
+pub mod BookCalls
 pub mod CallLaws
 pub mod LineCallLaws
 pub mod Inside

@@ -10,9 +10,8 @@ use borrow.Author.Tests.{eqb-true}
 use lib.Dec.{eqb}
 use lib.IntN.{ℤ, pos, negsuc}
 use lib.ListN.{length, getD, take, drop}
-use lib.Seq.{take-at, getD-take, length-take-le}
+use lib.Seq.{take-at}
 use Rattle.sums.specs.Lists.{tabulate}
-use Rattle.sums.specs.Places.{tabulate-getD, tabulate-cong}
 use Rattle.order.specs.Order.{Order}
 use Rattle.order.specs.Refusals.{accepted, judge, Accepted}
 use Rattle.order.specs.RefusalLaws.{both-true}
@@ -33,14 +32,8 @@ use Rattle.sentence.specs.Line.{lineOf, composed, readBack}
 use Rattle.sentence.specs.LineLaws.{composed-line, composed-stands, reads-to}
 use Rattle.highboyrobin.specs.Calls.{reasonNumbers, tightnessFrom, whyFrom, lineFrom, parseCall, parseAnswer}
 use Rattle.highboyrobin.specs.CallLaws.{numbers-count}
+use Rattle.highboyrobin.specs.Places.{take-places}
 use Rattle.highboyrobin.specs.Inside.{kindOf, whichOf, timeOf}
-
--- the first n members, by their places
-take-places : (n : ℕ) (xs : List ℤ) → n ≤ length xs → take n xs ≡ tabulate n (λ i. getD xs i (pos 0))
-take-places n xs l =
-    sym (tabulate-getD (take n xs) (pos 0))
-    ∙ (ap (λ (k : ℕ). tabulate k (λ i. getD (take n xs) i (pos 0))) (length-take-le n xs l)
-    ∙ tabulate-cong n _ _ (λ i h. getD-take n xs i (pos 0) h))
 
 -- numbers of a kind are those of the reason that they tell
 from-kind : (kind : ℤ) (n m : ℕ) (r : CodeReason) → tightnessFrom kind (pos n) (pos m) ≡ Tight r →
@@ -76,7 +69,7 @@ from-numbers kind (negsuc n) time r e = let w : _≡_ {A = ℕ} 0 1 = cc in absu
 
 module _ (o : Order) (numbers : List ℤ) (enough : 19 ≤ length numbers) where
   nineteen : take 19 numbers ≡ tabulate 19 (λ i. getD numbers i (pos 0))
-  nineteen = take-places 19 numbers enough
+  nineteen = take-places 19 numbers (pos 0) enough
 
   told : (r : Reason) → handed o (whyFrom numbers) ≡ found r → take 19 numbers ≡ reasonNumbers o (found r)
   unfolding whyFrom

@@ -5,7 +5,7 @@ use mathlib.Core.List.{List, _∷_, _++_}
 use lib.Dec.{ltb, eqb}
 use lib.IntN.{ℤ}
 use lib.ListN.{length, drop}
-use Rattle.order.specs.Refusals.{TableRow, Verdict, accepted, refused, row, whole, fileRow}
+use Rattle.order.specs.Refusals.{mostMakers, TableRow, Verdict, accepted, refused, row, whole, fileRow}
 use Rattle.order.specs.Table.{numberBy, carriedBy}
 use Rattle.order_file.specs.File.{goodFile}
 
@@ -18,16 +18,19 @@ abbrev pub answeredBy : Verdict → List ℤ → List ℤ → List ℤ
 answeredBy accepted numbers entry = numbers ++ drop (length numbers) entry
 answeredBy (refused number job) numbers entry = entry
 
--- three rows that stand before document 01's table, with numbers that no paper gives: the answer is too short; the jobs' numbers
--- are not three to a job; a reason has fewer numbers than hbr_reason answers
+-- four rows that stand before document 01's table, with numbers that no paper gives: the answer is too short; the jobs' numbers are
+-- not four to a job; a reason has fewer numbers than hbr_reason answers; a book has fewer than there are makers
 abbrev pub answerRow : ℕ → ℕ → TableRow
 answerRow lent asked = row 255 (whole (ltb lent asked))
 
 abbrev pub partJobRow : ℕ → TableRow
-partJobRow numbers = row 254 (whole (not (eqb (numbers % 3) 0)))
+partJobRow numbers = row 254 (whole (not (eqb (numbers % 4) 0)))
 
 abbrev pub shortReasonRow : ℕ → TableRow
 shortReasonRow numbers = row 253 (whole (ltb numbers 19))
+
+abbrev pub shortBookRow : ℕ → TableRow
+shortBookRow numbers = row 253 (whole (ltb numbers mostMakers))
 
 -- the table of a call that takes a file: the answer's room, 12, then the rows of the entry point
 unfoldable pub fileCall : ℕ → ℕ → List ℕ → List TableRow → List TableRow

@@ -1,4 +1,4 @@
-// An order from lists of numbers, three to a job. Each function serves hbr_write alone and has a `requires`.
+// An order from lists of numbers, four to a job. Each function serves hbr_write alone and has a `requires`.
 use order::Order;
 use order_file::bytes::to_signed;
 ghost use mathlib.Core.Path.{_≡_};
@@ -24,15 +24,15 @@ fn memories_of(numbers: &[u32], n: usize) -> [u32; 16]
     out
 }
 
-// The times or the needs of n jobs: the number at `first` of each.
+// The times, the needs or the makers of n jobs: the number at `first` of each.
 fn column_of(numbers: &[u32], n: usize, first: usize) -> [u32; 48]
-    requires { ⌜ (n ≤ 48) × (first ≤ 2) × (3 * n ≤ length (now numbers)) ⌝ }
-    ensures { λ r. ⌜ r ≡ paddedTo 48 n 0 (λ (j : ℕ). getD (now (numbers .entry)) (3 * j + first) 0) ⌝ }
+    requires { ⌜ (n ≤ 48) × (first ≤ 3) × (4 * n ≤ length (now numbers)) ⌝ }
+    ensures { λ r. ⌜ r ≡ paddedTo 48 n 0 (λ (j : ℕ). getD (now (numbers .entry)) (4 * j + first) 0) ⌝ }
 {
     let mut out = [0u32; 48];
     let mut j: usize = 0;
     while j < n {
-        out[j] = numbers[3 * j + first];
+        out[j] = numbers[4 * j + first];
         j += 1;
     }
     out
@@ -40,13 +40,13 @@ fn column_of(numbers: &[u32], n: usize, first: usize) -> [u32; 48]
 
 // The due times of n jobs.
 fn dues_of(numbers: &[u32], n: usize) -> [i32; 48]
-    requires { ⌜ (n ≤ 48) × (3 * n ≤ length (now numbers)) ⌝ }
-    ensures { λ r. ⌜ r ≡ paddedTo 48 n (pos 0) (λ (j : ℕ). signed (getD (now (numbers .entry)) (3 * j + 1) 0)) ⌝ }
+    requires { ⌜ (n ≤ 48) × (4 * n ≤ length (now numbers)) ⌝ }
+    ensures { λ r. ⌜ r ≡ paddedTo 48 n (pos 0) (λ (j : ℕ). signed (getD (now (numbers .entry)) (4 * j + 1) 0)) ⌝ }
 {
     let mut out = [0i32; 48];
     let mut j: usize = 0;
     while j < n {
-        out[j] = to_signed(numbers[3 * j + 1]);
+        out[j] = to_signed(numbers[4 * j + 1]);
         j += 1;
     }
     out
@@ -54,11 +54,11 @@ fn dues_of(numbers: &[u32], n: usize) -> [i32; 48]
 
 // The order of two lists.
 pub fn order_from(memories: &[u32], jobs: &[u32]) -> Order
-    requires { ⌜ (length (now memories) ≤ 16) × (length (now jobs) ≤ 144) ⌝ }
+    requires { ⌜ (length (now memories) ≤ 16) × (length (now jobs) ≤ 192) ⌝ }
     ensures { λ r. ⌜ orderOf r ≡ orderFrom (now (memories .entry)) (now (jobs .entry)) ⌝ }
 {
     let m = memories.len();
-    let n = jobs.len() / 3;
+    let n = jobs.len() / 4;
     Order {
         processors: m as u32,
         memories: memories_of(memories, m),
@@ -66,5 +66,6 @@ pub fn order_from(memories: &[u32], jobs: &[u32]) -> Order
         times: column_of(jobs, n, 0),
         dues: dues_of(jobs, n),
         needs: column_of(jobs, n, 2),
+        makers: column_of(jobs, n, 3),
     }
 }

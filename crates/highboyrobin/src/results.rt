@@ -7,13 +7,15 @@ ghost use Prim.Native.Nat.{_≤_};
 ghost use Rattle.order.specs.Table.{refusalTold, carriedBy};
 ghost use Rattle.highboyrobin.specs.Results.{resultOf};
 
-// The result where an answer is too short; where the jobs' numbers are not three to a job; where a reason has under 19 numbers. No
-// refusal has these numbers.
+// The result where an answer is too short; where the jobs' numbers are not four to a job; where a reason has under 19 numbers, or a
+// book under 16. No refusal has these numbers.
 pub const SHORT_ANSWER: u32 = 255;
 
 pub const PART_JOB: u32 = 254;
 
 pub const SHORT_REASON: u32 = 253;
+
+pub const SHORT_BOOK: u32 = 253;
 
 // The result where no plan can meet the bound.
 pub const TOO_TIGHT: u32 = 10;

@@ -37,13 +37,13 @@ pub extern "C" fn hbr_write(
     if answer.len() < 1 {
         return SHORT_ANSWER;
     }
-    if jobs.len() % 3 != 0 {
+    if jobs.len() % 4 != 0 {
         return PART_JOB;
     }
     if 16 < memories.len() {
         return result_of(Refusal::TooManyProcessors);
     }
-    if 144 < jobs.len() {
+    if 192 < jobs.len() {
         if memories.len() == 0 {
             return result_of(Refusal::NoProcessor);
         }

@@ -20,7 +20,7 @@ fn answer(file: &[u8]) {
 
 // One byte more than the longest file is read, so that a longer one is refused.
 fn main() {
-    let mut file = [0u8; 653];
+    let mut file = [0u8; 845];
     let input = read_input(&mut file);
     let Input::Bytes(n) = input else {
         tell_failure(b"plan-order: reading standard input");

@@ -8,14 +8,15 @@ use lib.Dec.{eqb}
 use lib.IntN.{ℤ}
 use lib.ListN.{length}
 use Rattle.order.specs.Order.{Order}
-use Rattle.order.specs.Refusals.{limits, Verdict, accepted, refused, judge, answerBy, orderRows, boundRow, tightRow}
+use Rattle.order.specs.Refusals.{limits, TableRow, Verdict, accepted, refused, judge, answerBy, orderRows, boundRow, tightRow}
 use Rattle.order.specs.Table.{refusalTold, numberBy}
 use Rattle.order.specs.TableLaws.{refused-told, not-ten, refused-by, verdict-refused, verdict-accepted}
 use Rattle.order.specs.declared.Refusal.{Refusal}
 use Rattle.profile.specs.Least.{leastLateness}
 use Rattle.profile.specs.Reason.{Reason as TightReason}
 use Rattle.profile.specs.Search.{Found, nothing, reasonOf}
-use Rattle.planner.specs.Rows.{bufferRow, isFound, leastRows, earlierRows, planRows}
+use Rattle.book.specs.Book.{bookRow}
+use Rattle.planner.specs.Rows.{bufferRow, isFound, leastRows, earlierRows, planRows, bookedLeastRows, bookedPlanRows}
 use Rattle.planner.specs.Told.{plannedTold, rowsOf, reasonCarried, leastTold, leastCount}
 use Rattle.planner.specs.Written.{Written, BufferBy}
 use Rattle.planner.specs.declared.Least.{Least}
@@ -41,6 +42,19 @@ pub plan-begins : (o : Order) (bound : ℤ) (n : ℕ) →
 unfolding planRows earlierRows
 plan-begins o bound n =
     append-assoc (orderRows limits o) (boundRow bound ∷ bufferRow o n ∷ []) (tightRow (isFound (reasonOf o bound)) ∷ [])
+
+-- and so do the booked ones
+pub booked-least-begins : (o : Order) (n : ℕ) (counts : List ℕ) →
+    bookedLeastRows o n counts ≡ orderRows limits o ++ (bufferRow o n ∷ bookRow o counts ∷ [])
+unfolding leastRows
+booked-least-begins o n counts = append-assoc (orderRows limits o) (bufferRow o n ∷ []) (bookRow o counts ∷ [])
+
+pub booked-plan-begins : (o : Order) (bound : ℤ) (n : ℕ) (counts : List ℕ) →
+    bookedPlanRows o bound n counts
+    ≡ orderRows limits o ++ (boundRow bound ∷ bufferRow o n ∷ tightRow (isFound (reasonOf o bound)) ∷ bookRow o counts ∷ [])
+booked-plan-begins o bound n counts =
+    ap (λ (rows : List TableRow). rows ++ (bookRow o counts ∷ [])) (plan-begins o bound n)
+    ∙ append-assoc (orderRows limits o) (boundRow bound ∷ bufferRow o n ∷ tightRow (isFound (reasonOf o bound)) ∷ []) (bookRow o counts ∷ [])
 
 kept : (v : Verdict) (number job : ℕ) → v ≡ refused number job → (o : Order) (bound : ℤ) (rows rows′ : List ℕ) (count : ℕ) →
     BufferBy v o bound rows rows′ count → rows′ ≡ rows

@@ -21,7 +21,7 @@ fn answer(given: &[u8]) {
 
 // One byte more than a bound and the longest file is read, so that a longer one is refused.
 fn main() {
-    let mut given = [0u8; 657];
+    let mut given = [0u8; 849];
     let input = read_input(&mut given);
     let Input::Bytes(n) = input else {
         tell_failure(b"try-bound: reading standard input");

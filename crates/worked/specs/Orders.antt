@@ -1,11 +1,11 @@
--- Document 01, "Orders to try": jobs are (time, due, need).
+-- Document 01, "Orders to try": jobs are (time, due, need). Document 02, §4: "In document 01's cases the maker is 1."
 use Prim.Native.Nat.{ℕ}
 use mathlib.Core.List.{List, [], _∷_}
 use lib.IntN.{ℤ, pos, negsuc}
 use Rattle.order.specs.Order.{Job, Order}
 
 abbrev job : ℕ → ℤ → ℕ → Job
-job time due need = record { time = time; due = due; need = need }
+job time due need = record { time = time; due = due; need = need; maker = 1 }
 
 abbrev order : List ℕ → List Job → Order
 order memories jobs = record { memories = memories; jobs = jobs }

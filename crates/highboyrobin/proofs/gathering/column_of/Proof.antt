@@ -11,7 +11,7 @@ use Rattle.highboyrobin.proofs.gathering.column_of.Reads as reads
 use Rattle.highboyrobin.proofs.gathering.column_of.Lts as lts
 
 abbrev Inv-loop : tie.InvT-loop
-Inv-loop numbers n first out₀ j₀ out j = (j ≤ n) × (out ≡ paddedTo 48 j 0 (λ k. getD numbers (3 * k + first) 0))
+Inv-loop numbers n first out₀ j₀ out j = (j ≤ n) × (out ≡ paddedTo 48 j 0 (λ k. getD numbers (4 * k + first) 0))
 
 abbrev μ-loop : tie.MeasureT-loop
 μ-loop numbers n first out₀ j₀ out j = n - j

@@ -15,7 +15,7 @@ use Rattle.highboyrobin.proofs.gathering.dues_of.Lts as lts
 use Rattle.order_file.proofs.bytes.to_signed.Reads as to-signed-reads
 
 abbrev Inv-loop : tie.InvT-loop
-Inv-loop numbers n out₀ j₀ out j = (j ≤ n) × (out ≡ paddedTo 48 j (pos 0) (λ k. signed (getD numbers (3 * k + 1) 0)))
+Inv-loop numbers n out₀ j₀ out j = (j ≤ n) × (out ≡ paddedTo 48 j (pos 0) (λ k. signed (getD numbers (4 * k + 1) 0)))
 
 abbrev μ-loop : tie.MeasureT-loop
 μ-loop numbers n out₀ j₀ out j = n - j

@@ -28,13 +28,16 @@ dues-of-requires c κs = search needs
 column-of-requires-2 : tie.Need-column-of-requires-2
 column-of-requires-2 c κs = search needs
 
+column-of-requires-3 : tie.Need-column-of-requires-3
+column-of-requires-3 c κs = search needs
+
 returns : tie.Need-returns
 returns c =
-    let s = c .before .before .before .before .before .before .args in
-    gathered (s .memories .now) (s .jobs .now) _ _ _ (c .before .before .before .before .before .before .pre .0)
-    (omega (arith, c .before .before .before .before .before .before .pre .1)) refl refl refl refl
-    (c .before .before .before .memories-of .ensures) (c .before .before .column-of .ensures) (c .before .dues-of .ensures)
-    (c .column-of2 .ensures)
+    let s = c .before .before .before .before .before .before .before .args in
+    gathered (s .memories .now) (s .jobs .now) _ _ _ (c .before .before .before .before .before .before .before .pre .0)
+    (omega (arith, c .before .before .before .before .before .before .before .pre .1)) refl refl refl refl
+    (c .before .before .before .before .memories-of .ensures) (c .before .before .before .column-of .ensures)
+    (c .before .before .dues-of .ensures) (c .before .column-of2 .ensures) (c .column-of3 .ensures)
 
 pub order-from-spec : {M : Type 1} → statement M
 order-from-spec =
@@ -46,4 +49,5 @@ order-from-spec =
     column-of-requires
     dues-of-requires
     column-of-requires-2
+    column-of-requires-3
     returns)
