@@ -53,7 +53,7 @@ book-counts calls zero n = absurd (omega arith)
 book-counts calls (suc i) n = omega (arith, count-after calls opened i (n .1), opened-at i (n .1))
 
 -- sixteen counts stay sixteen
-book-length : (calls : List Call) (book : List ℕ) → length book ≡ mostMakers → length (bookAfter calls book) ≡ mostMakers
+pub book-length : (calls : List Call) (book : List ℕ) → length book ≡ mostMakers → length (bookAfter calls book) ≡ mostMakers
 unfolding bookAfter
 book-length [] book e = e
 book-length (call ∷ calls) book e = book-length calls (givenBack call book) (by (judgedWith call book))

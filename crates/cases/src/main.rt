@@ -1,8 +1,9 @@
 // Runs cases through the entry points and prints what they answer. The cases and the expected lines are made by tests/plain,
 // which says the form of the stream (stream_form.py).
+mod books; // booked calls, one after the other
 mod print; // words, numbers and answers on standard output
 mod sentences; // the cases of a reason's line, composed and read back
-mod stream; // numbers, orders, reasons and files of the stream
+mod stream; // numbers, orders, reasons, books and files of the stream
 
 use libc::STDOUT_FILENO;
 use order::Acceptance;
@@ -12,7 +13,7 @@ use planner::Least;
 
 // A file through the reader: the order, or the refusal.
 fn read_case() {
-    let mut file = [0u8; 700];
+    let mut file = [0u8; 900];
     let n = stream::bytes(&mut file);
     let got = order_file::read::read_order(&file[..n]);
     let status = got.status;
@@ -48,6 +49,7 @@ fn print_jobs(order: order::Order) {
             print::number(order.times[j]);
             print::signed(order.dues[j]);
             print::number(order.needs[j]);
+            print::number(order.makers[j]);
             print::text(b"\n");
         }
     }
@@ -70,10 +72,10 @@ fn check_case() {
 fn write_case() {
     let order = stream::order();
     let room = stream::number() as usize;
-    if 700 < room {
+    if 900 < room {
         return;
     }
-    let mut out = [170u8; 700];
+    let mut out = [170u8; 900];
     let mut written: usize = 0;
     match order_file::write::write_order(order, &mut out[..room]) {
         OrderWritten::Bytes(n) => {
@@ -85,11 +87,11 @@ fn write_case() {
     print_changes(out, written);
 }
 
-fn print_file(out: [u8; 700], n: usize) {
+fn print_file(out: [u8; 900], n: usize) {
     print::text(b"file");
     print::number((n % 4294967296) as u32);
     print::text(b" ");
-    for i in 0..700usize {
+    for i in 0..900usize {
         if i < n {
             io::print_hex(STDOUT_FILENO, out[i] as u64, 2);
         }
@@ -98,8 +100,8 @@ fn print_file(out: [u8; 700], n: usize) {
 }
 
 // A line for each byte that is changed beyond what was written: there is none.
-fn print_changes(out: [u8; 700], written: usize) {
-    for i in 0..700usize {
+fn print_changes(out: [u8; 900], written: usize) {
+    for i in 0..900usize {
         if written <= i {
             if out[i] != 170 {
                 print::text(b"changed\n");
@@ -116,7 +118,12 @@ fn least_case() {
         return;
     }
     let mut rows = [0u32; 12104];
-    match planner::lateness::least_lateness(order, &mut rows[..room]) {
+    print_least(planner::lateness::least_lateness(order, &mut rows[..room]));
+}
+
+// The line of a least lateness.
+fn print_least(least: Least) {
+    match least {
         Least::Refused(refusal) => print::refused(refusal),
         Least::At(lateness, _) => {
             print::text(b"least");
@@ -148,6 +155,7 @@ fn main() {
             5 => write_case(),
             6 => sentences::compose_case(),
             7 => sentences::parse_case(),
+            8 => books::book_case(),
             _ => return,
         }
     }

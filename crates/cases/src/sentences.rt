@@ -14,10 +14,10 @@ pub fn compose_case() {
     let bound = order_file::bytes::to_signed(stream::number());
     let why = stream::why();
     let room = stream::number() as usize;
-    if 700 < room {
+    if 900 < room {
         return;
     }
-    let mut out = [170u8; 700];
+    let mut out = [170u8; 900];
     let mut written: usize = 0;
     match sentence::compose::compose(order, bound, why, &mut out[..room]) {
         Composed::Length(n) => {
@@ -30,12 +30,12 @@ pub fn compose_case() {
 }
 
 // A line of this length; nothing stands behind the length 0.
-fn print_line(out: [u8; 700], n: u32) {
+fn print_line(out: [u8; 900], n: u32) {
     print::text(b"line");
     print::number(n);
     let length = n as usize;
     if 0 < length {
-        if length <= 700 {
+        if length <= 900 {
             print::text(b" ");
             print::text(&out[..length]);
         }
@@ -47,7 +47,7 @@ fn print_line(out: [u8; 700], n: u32) {
 pub fn parse_case() {
     let order = stream::order();
     let bound = order_file::bytes::to_signed(stream::number());
-    let mut line = [0u8; 700];
+    let mut line = [0u8; 900];
     let n = stream::bytes(&mut line);
     let got = sentence::recover::read_back(order, bound, &line[..n]);
     let status = got.status;

@@ -1,4 +1,5 @@
-// What the stream of cases holds: numbers of four bytes, orders, reasons, files, rows. At its end every number reads 0.
+// What the stream of cases holds: numbers of four bytes, orders, reasons, books, files, rows. At its end every number reads 0.
+use book::Book;
 use libc::STDIN_FILENO;
 use order::Order;
 use reason::Reason;
@@ -62,11 +63,13 @@ pub fn order() -> Order {
     let mut times = [0u32; 48];
     let mut dues = [0i32; 48];
     let mut needs = [0u32; 48];
+    let mut makers = [0u32; 48];
     for j in 0..48usize {
         let wanted = (j as u32) < jobs;
         times[j] = number_if(wanted);
         dues[j] = order_file::bytes::to_signed(number_if(wanted));
         needs[j] = number_if(wanted);
+        makers[j] = number_if(wanted);
     }
     Order {
         processors,
@@ -75,7 +78,17 @@ pub fn order() -> Order {
         times,
         dues,
         needs,
+        makers,
     }
+}
+
+// A book: sixteen counts.
+pub fn book() -> Book {
+    let mut counts = [0u32; 16];
+    for i in 0..16usize {
+        counts[i] = number();
+    }
+    Book { counts }
 }
 
 // The due times of a reason.

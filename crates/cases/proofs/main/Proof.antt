@@ -2,16 +2,6 @@ use Prim.Native.Nat.{_≤_, _-_}
 use borrow.Author.Needs.{needs}
 use Rattle.cases.proofs.main.Statement.{statement}
 use Rattle.cases.proofs.main.Tie as tie
-use Rattle.cases.proofs.main.Reads as reads
-use Rattle.cases.proofs.main.Lts as lts
-use Rattle.cases.proofs.check_case.Reads as check-case-reads
-use Rattle.cases.proofs.least_case.Reads as least-case-reads
-use Rattle.cases.proofs.plan_case.Reads as plan-case-reads
-use Rattle.cases.proofs.read_case.Reads as read-case-reads
-use Rattle.cases.proofs.sentences.compose_case.Reads as compose-case-reads
-use Rattle.cases.proofs.sentences.parse_case.Reads as parse-case-reads
-use Rattle.cases.proofs.stream.number.Reads as number-reads
-use Rattle.cases.proofs.write_case.Reads as write-case-reads
 
 abbrev Inv-loop : tie.InvT-loop
 Inv-loop k₀ k = k ≤ 1000000
@@ -46,6 +36,9 @@ compose-case-requires c κs = search needs
 parse-case-requires : tie.Need-parse-case-requires Inv-loop μ-loop
 parse-case-requires c κs = search needs
 
+book-case-requires : tie.Need-book-case-requires Inv-loop μ-loop
+book-case-requires c κs = search needs
+
 returns : tie.Need-returns Inv-loop μ-loop
 returns c = search needs
 
@@ -76,6 +69,7 @@ main-spec =
     write-case-requires
     compose-case-requires
     parse-case-requires
+    book-case-requires
     returns
     add-k
     loop-less

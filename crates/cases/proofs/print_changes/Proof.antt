@@ -7,10 +7,10 @@ use Rattle.cases.proofs.print_changes.Lts as lts
 use Rattle.cases.proofs.print.text.Reads as text-reads
 
 abbrev Inv-loop : tie.InvT-loop
-Inv-loop written out i₀ t5 i = i ≤ 700
+Inv-loop written out i₀ t5 i = i ≤ 900
 
 abbrev μ-loop : tie.MeasureT-loop
-μ-loop written out i₀ t5 i = 700 - i
+μ-loop written out i₀ t5 i = 900 - i
 
 loop-holds : tie.Need-loop-holds Inv-loop μ-loop
 loop-holds c = search needs

@@ -9,10 +9,10 @@ use Rattle.cases.proofs.print.number.Reads as number-reads
 use Rattle.cases.proofs.print.text.Reads as text-reads
 
 abbrev Inv-loop : tie.InvT-loop
-Inv-loop n out i₀ t7 i = i ≤ 700
+Inv-loop n out i₀ t7 i = i ≤ 900
 
 abbrev μ-loop : tie.MeasureT-loop
-μ-loop n out i₀ t7 i = 700 - i
+μ-loop n out i₀ t7 i = 900 - i
 
 slice-aggregate-text : tie.Need-slice-aggregate-text Inv-loop μ-loop
 slice-aggregate-text c = search needs

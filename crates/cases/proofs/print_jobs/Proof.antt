@@ -2,11 +2,6 @@ use Prim.Native.Nat.{_≤_, _-_}
 use borrow.Author.Needs.{needs}
 use Rattle.cases.proofs.print_jobs.Statement.{statement}
 use Rattle.cases.proofs.print_jobs.Tie as tie
-use Rattle.cases.proofs.print_jobs.Reads as reads
-use Rattle.cases.proofs.print_jobs.Lts as lts
-use Rattle.cases.proofs.print.number.Reads as number-reads
-use Rattle.cases.proofs.print.signed.Reads as signed-reads
-use Rattle.cases.proofs.print.text.Reads as text-reads
 
 abbrev Inv-loop : tie.InvT-loop
 Inv-loop order j₀ t4 t5 j = j ≤ 48
@@ -53,6 +48,15 @@ element-copy-out-number-2 c = search needs
 number-requires-2 : tie.Need-number-requires-2 Inv-loop μ-loop
 number-requires-2 c κs = search needs
 
+mul-number-3 : tie.Need-mul-number-3 Inv-loop μ-loop
+mul-number-3 c = search needs
+
+element-copy-out-number-3 : tie.Need-element-copy-out-number-3 Inv-loop μ-loop
+element-copy-out-number-3 c = search needs
+
+number-requires-3 : tie.Need-number-requires-3 Inv-loop μ-loop
+number-requires-3 c κs = search needs
+
 slice-aggregate-text-2 : tie.Need-slice-aggregate-text-2 Inv-loop μ-loop
 slice-aggregate-text-2 c = search needs
 
@@ -90,6 +94,9 @@ print-jobs-spec =
     mul-number-2
     element-copy-out-number-2
     number-requires-2
+    mul-number-3
+    element-copy-out-number-3
+    number-requires-3
     slice-aggregate-text-2
     text-requires-2
     add-j

@@ -12,11 +12,11 @@ use Rattle.cases.proofs.stream.number_if.Reads as number-if-reads
 use Rattle.order_file.proofs.bytes.to_signed.Reads as to-signed-reads
 
 abbrev Inv-loop : tie.InvT-loop
-Inv-loop processors jobs memories times₀ dues₀ needs₀ j₀ times dues needs j = (j ≤ 48) × (length times ≡ 48) × (length dues ≡ 48) ×
-    (length needs ≡ 48)
+Inv-loop processors jobs memories times₀ dues₀ needs₀ makers₀ j₀ times dues needs makers j = (j ≤ 48) × (length times ≡ 48) ×
+    (length dues ≡ 48) × (length needs ≡ 48) × (length makers ≡ 48)
 
 abbrev μ-loop : tie.MeasureT-loop
-μ-loop processors jobs memories times₀ dues₀ needs₀ j₀ times dues needs j = 48 - j
+μ-loop processors jobs memories times₀ dues₀ needs₀ makers₀ j₀ times dues needs makers j = 48 - j
 
 number-requires : tie.Need-number-requires Inv-loop μ-loop
 number-requires c κs = search needs
@@ -63,6 +63,15 @@ mul-needs c = search needs
 array-write-needs : tie.Need-array-write-needs Inv-loop μ-loop
 array-write-needs c = search needs
 
+number-if-requires-4 : tie.Need-number-if-requires-4 Inv-loop μ-loop
+number-if-requires-4 c κs = search needs
+
+mul-makers : tie.Need-mul-makers Inv-loop μ-loop
+mul-makers c = search needs
+
+array-write-makers : tie.Need-array-write-makers Inv-loop μ-loop
+array-write-makers c = search needs
+
 add-j : tie.Need-add-j Inv-loop μ-loop
 add-j c = search needs
 
@@ -70,7 +79,7 @@ loop-less : tie.Need-loop-less Inv-loop μ-loop
 loop-less c = search needs
 
 loop-again : tie.Need-loop-again Inv-loop μ-loop
-loop-again c = search needs
+loop-again c = (search needs, search needs, search needs, search needs, search needs)
 
 returns : tie.Need-returns Inv-loop μ-loop
 returns c = search needs
@@ -96,6 +105,9 @@ order-spec =
     number-if-requires-3
     mul-needs
     array-write-needs
+    number-if-requires-4
+    mul-makers
+    array-write-makers
     add-j
     loop-less
     loop-again

@@ -1,0 +1,64 @@
+// Booked calls: a book goes through a list of calls, each given the book that the last one gave back.
+use super::print;
+use super::print_least;
+use super::stream;
+use book::Book;
+
+// A book, how many calls there are, and the calls.
+pub fn book_case() {
+    let mut book = stream::book();
+    let calls = stream::number();
+    for k in 0..calls {
+        book = book_call(book);
+    }
+}
+
+// One call: what it answers, and the book that it gives back.
+fn book_call(book: Book) -> Book {
+    if stream::number() == 1 {
+        return least_call(book);
+    }
+    plan_call(book)
+}
+
+// At the least lateness: the bound is not looked at.
+fn least_call(book: Book) -> Book {
+    let order = stream::order();
+    stream::number();
+    let room = stream::number() as usize;
+    if 12104 < room {
+        return book;
+    }
+    let mut rows = [0u32; 12104];
+    let told = planner::lateness_booked::least_booked(order, &mut rows[..room], book);
+    let least = told.least;
+    let after = told.book;
+    print_least(least);
+    print_book(after);
+    after
+}
+
+// At a bound.
+fn plan_call(book: Book) -> Book {
+    let order = stream::order();
+    let bound = order_file::bytes::to_signed(stream::number());
+    let room = stream::number() as usize;
+    if 12104 < room {
+        return book;
+    }
+    let mut rows = [0u32; 12104];
+    let told = planner::bound_booked::plan_booked(order, bound, &mut rows[..room], book);
+    let answer = told.answer;
+    let after = told.book;
+    print::planned(answer);
+    print_book(after);
+    after
+}
+
+fn print_book(book: Book) {
+    print::text(b"book");
+    for i in 0..16usize {
+        print::number(book.counts[i]);
+    }
+    print::text(b"\n");
+}
