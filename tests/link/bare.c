@@ -17,15 +17,19 @@ void *memset(void *to, int value, size_t count) {
 /* 0 where all is as it should be */
 int begin(void) {
   const uint32_t memories[] = {4};
-  const uint32_t jobs[] = {3, 10, 4};
+  const uint32_t jobs[] = {3, 10, 4, 1};
   static uint8_t file[HBR_MOST_BYTES];
-  static uint32_t rows[4];
+  static uint32_t rows[4], book[HBR_MOST_MAKERS];
   int32_t length[HBR_WRITE_ANSWER], least[HBR_LEAST_ANSWER];
-  if (hbr_write(memories, 1, jobs, 3, file, sizeof file, length, HBR_WRITE_ANSWER) != 0)
+  if (hbr_write(memories, 1, jobs, 4, file, sizeof file, length, HBR_WRITE_ANSWER) != 0)
     return 1;
   if (hbr_least(file, (size_t)length[0], rows, 4, least, HBR_LEAST_ANSWER) != 0)
     return 2;
-  return least[0] == -8 && least[1] == 1 && rows[3] == 3 ? 0 : 3;
+  if (least[0] != -8 || least[1] != 1 || rows[3] != 3)
+    return 3;
+  if (hbr_book_least(file, (size_t)length[0], rows, 4, book, HBR_MOST_MAKERS, least, HBR_BOOK_LEAST_ANSWER) != 0)
+    return 4;
+  return least[0] == -8 && book[0] == 3 && book[1] == 0 ? 0 : 5;
 }
 
 /* the stack is aligned to 16 bytes here; 60 leaves the program */

@@ -10,13 +10,23 @@ static uint32_t rows[4 * (HBR_MOST_ROWS + 1)];
 static uint8_t line[HBR_MOST_LINE];
 static uint8_t file[HBR_MOST_BYTES];
 static uint32_t memories[HBR_MOST_PROCESSORS + 1];
-static uint32_t jobs[3 * (HBR_MOST_JOBS + 1)];
+static uint32_t jobs[4 * (HBR_MOST_JOBS + 1)];
+static uint32_t book[HBR_MOST_MAKERS + 1];
+static uint32_t kept_book[HBR_MOST_MAKERS + 1];
 static int wrong;
 
 static void fill(void) {
   memset(answer, KEPT, sizeof answer);
   memset(rows, KEPT, sizeof rows);
   memset(line, KEPT, sizeof line);
+}
+
+/* every count of the book is this one, but for that of one maker; the number after the sixteenth is not a count */
+static void fill_book(uint32_t count, uint32_t maker, uint32_t other) {
+  for (uint32_t i = 0; i < HBR_MOST_MAKERS; i++)
+    book[i] = i + 1 == maker ? other : count;
+  book[HBR_MOST_MAKERS] = KEPT;
+  memcpy(kept_book, book, sizeof book);
 }
 
 /* every byte is as fill left it */
@@ -27,9 +37,10 @@ static int as_filled(const void *buffer, size_t size) {
   return 1;
 }
 
-/* the result is this refusal of this job, and answer, rows and line are as fill left them */
+/* the result is this refusal of this job, and answer, rows, line and book are as they were filled */
 static void refused(uint32_t result, uint32_t number, uint32_t job) {
-  int kept = as_filled(answer, sizeof answer) && as_filled(rows, sizeof rows) && as_filled(line, sizeof line);
+  int kept = as_filled(answer, sizeof answer) && as_filled(rows, sizeof rows) && as_filled(line, sizeof line) &&
+             memcmp(book, kept_book, sizeof book) == 0;
   if (hbr_number(result) != number || hbr_job(result) != job || !kept) {
     printf("refusal %u of job %u: got %u of job %u, %s\n", number, job, hbr_number(result), hbr_job(result),
            kept ? "nothing written" : "something written");
@@ -38,16 +49,22 @@ static void refused(uint32_t result, uint32_t number, uint32_t job) {
 }
 
 /* writes the order of m memories of this size and n jobs like this one */
-static uint32_t write(uint32_t m, uint32_t memory, uint32_t n, uint32_t time, int32_t due, uint32_t need) {
+static uint32_t write_made(uint32_t m, uint32_t memory, uint32_t n, uint32_t time, int32_t due, uint32_t need, uint32_t maker) {
   fill();
   for (uint32_t i = 0; i < m; i++)
     memories[i] = memory;
   for (uint32_t j = 0; j < n; j++) {
-    jobs[3 * j] = time;
-    jobs[3 * j + 1] = (uint32_t)due;
-    jobs[3 * j + 2] = need;
+    jobs[4 * j] = time;
+    jobs[4 * j + 1] = (uint32_t)due;
+    jobs[4 * j + 2] = need;
+    jobs[4 * j + 3] = maker;
   }
-  return hbr_write(memories, m, jobs, 3 * n, file, sizeof file, answer, HBR_WRITE_ANSWER);
+  return hbr_write(memories, m, jobs, 4 * n, file, sizeof file, answer, HBR_WRITE_ANSWER);
+}
+
+/* the same with maker 1 */
+static uint32_t write(uint32_t m, uint32_t memory, uint32_t n, uint32_t time, int32_t due, uint32_t need) {
+  return write_made(m, memory, n, time, due, need, 1);
 }
 
 /* the refusals of the writer, which are those of an order */
@@ -58,10 +75,13 @@ static void of_orders(void) {
   refused(write(1, 4, 49, 1, 99, 0), HBR_TOO_MANY_JOBS, 0);
   refused(write(1, 4, 1, 0, 5, 1), HBR_TIME_OUT_OF_RANGE, 1);
   refused(write(1, 4, 1, 1, 1000001, 1), HBR_DUE_OUT_OF_RANGE, 1);
+  refused(write_made(1, 4, 1, 1, 1000001, 5, 0), HBR_DUE_OUT_OF_RANGE, 1);
+  refused(write_made(1, 4, 1, 1, 5, 5, 0), HBR_MAKER_OUT_OF_RANGE, 1);
+  refused(write_made(1, 4, 3, 1, 5, 1, HBR_MOST_MAKERS + 1), HBR_MAKER_OUT_OF_RANGE, 1);
   refused(write(1, 8, 1, 1, 5, 9), HBR_FITS_NO_PROCESSOR, 1);
-  refused(hbr_write(memories, 1, jobs, 4, file, sizeof file, answer, HBR_WRITE_ANSWER), HBR_PART_JOB, 0);
+  refused(hbr_write(memories, 1, jobs, 3, file, sizeof file, answer, HBR_WRITE_ANSWER), HBR_PART_JOB, 0);
   jobs[2] = 8;
-  refused(hbr_write(memories, 1, jobs, 3, file, 27, answer, HBR_WRITE_ANSWER), HBR_BUFFER_TOO_SHORT, 0);
+  refused(hbr_write(memories, 1, jobs, 4, file, 31, answer, HBR_WRITE_ANSWER), HBR_BUFFER_TOO_SHORT, 0);
   if (!as_filled(file, sizeof file)) {
     printf("a refused hbr_write wrote to the file\n");
     wrong++;
@@ -82,6 +102,32 @@ static void of_lines(size_t length) {
   refused(hbr_parse(file, length, -10000001, line, 39, answer, HBR_PARSE_ANSWER), HBR_BOUND_OUT_OF_RANGE, 0);
 }
 
+/* the refusals of the booked calls on the same order, and what they book */
+static void of_books(size_t length) {
+  fill_book(0, 16, HBR_MOST_BOOKED + 1u);
+  refused(hbr_book_least(file, 11, rows, 0, book, 15, answer, HBR_BOOK_LEAST_ANSWER - 1), HBR_SHORT_ANSWER, 0);
+  refused(hbr_book_least(file, 11, rows, 0, book, 15, answer, HBR_BOOK_LEAST_ANSWER), HBR_SHORT_BOOK, 0);
+  refused(hbr_book_least(file, 11, rows, 0, book, HBR_MOST_MAKERS, answer, HBR_BOOK_LEAST_ANSWER), HBR_BAD_FILE, 0);
+  refused(hbr_book_least(file, length, rows, 0, book, HBR_MOST_MAKERS, answer, HBR_BOOK_LEAST_ANSWER), HBR_BUFFER_TOO_SHORT, 0);
+  refused(hbr_book_least(file, length, rows, 4, book, HBR_MOST_MAKERS, answer, HBR_BOOK_LEAST_ANSWER), HBR_BOOK_FULL, 0);
+  refused(hbr_book_plan(file, 11, 10000001, rows, 0, book, 15, answer, HBR_BOOK_PLAN_ANSWER - 1), HBR_SHORT_ANSWER, 0);
+  refused(hbr_book_plan(file, 11, 10000001, rows, 0, book, 15, answer, HBR_BOOK_PLAN_ANSWER), HBR_SHORT_BOOK, 0);
+  refused(hbr_book_plan(file, 11, 10000001, rows, 0, book, HBR_MOST_MAKERS, answer, HBR_BOOK_PLAN_ANSWER), HBR_BAD_FILE, 0);
+  refused(hbr_book_plan(file, length, 10000001, rows, 0, book, HBR_MOST_MAKERS, answer, HBR_BOOK_PLAN_ANSWER),
+          HBR_BOUND_OUT_OF_RANGE, 0);
+  refused(hbr_book_plan(file, length, -9, rows, 0, book, HBR_MOST_MAKERS, answer, HBR_BOOK_PLAN_ANSWER), HBR_BUFFER_TOO_SHORT, 0);
+  refused(hbr_book_plan(file, length, -9, rows, 4, book, HBR_MOST_MAKERS, answer, HBR_BOOK_PLAN_ANSWER), HBR_BOUND_TOO_TIGHT, 0);
+  refused(hbr_book_plan(file, length, -8, rows, 4, book, HBR_MOST_MAKERS, answer, HBR_BOOK_PLAN_ANSWER), HBR_BOOK_FULL, 0);
+  fill_book(HBR_MOST_BOOKED, 1, HBR_MOST_BOOKED - 2u);
+  refused(hbr_book_plan(file, length, -8, rows, 4, book, HBR_MOST_MAKERS, answer, HBR_BOOK_PLAN_ANSWER), HBR_BOOK_FULL, 0);
+  fill_book(HBR_MOST_BOOKED, 1, HBR_MOST_BOOKED - 3u);
+  if (hbr_book_plan(file, length, -8, rows, 4, book, HBR_MOST_MAKERS + 1, answer, HBR_BOOK_PLAN_ANSWER) != 0)
+    wrong++;
+  fill();
+  kept_book[0] = HBR_MOST_BOOKED;
+  refused(hbr_book_least(file, length, rows, 4, book, HBR_MOST_MAKERS + 1, answer, HBR_BOOK_LEAST_ANSWER), HBR_BOOK_FULL, 0);
+}
+
 /* the refusals of a call on an accepted order: memory 4, job (3, 10, 4) */
 static void of_calls(void) {
   if (write(1, 4, 1, 3, 10, 4) != 0)
@@ -95,6 +141,7 @@ static void of_calls(void) {
   refused(hbr_judge(file, length, answer, HBR_JUDGE_ANSWER - 1), HBR_SHORT_ANSWER, 0);
   refused(hbr_reason(file, length, -1, answer, HBR_REASON_ANSWER - 1), HBR_SHORT_ANSWER, 0);
   of_lines(length);
+  of_books(length);
   memset(file, 0, 11);
   refused(hbr_judge(file, 11, answer, HBR_JUDGE_ANSWER), HBR_BAD_FILE, 0);
   refused(hbr_parse(file, 11, -1, line, 0, answer, HBR_PARSE_ANSWER), HBR_BAD_FILE, 0);

@@ -3,8 +3,11 @@
 #[allow(dead_code)]
 #[path = "../../link/highboyrobin.rs"]
 mod highboyrobin;
-use highboyrobin::{check, judge, least, parse, plan, reason, sentence, write};
-use highboyrobin::{Job, Least, Reason, Refused, Row, Sizes, MOST_BYTES, MOST_LINE};
+use highboyrobin::{
+    book_least, book_plan, check, judge, least, parse, plan, reason, sentence, write,
+};
+use highboyrobin::{Book, Job, Least, Reason, Refused, Row, Sizes};
+use highboyrobin::{MOST_BOOKED, MOST_BYTES, MOST_LINE, MOST_MAKERS};
 
 const KEPT: Row = Row {
     job: 7,
@@ -17,18 +20,25 @@ fn refused(number: u32, job: u32) -> Refused {
     Refused { number, job }
 }
 
+// a job of maker 1
+fn job((time, due, need): (u32, i32, u32)) -> Job {
+    let maker = 1;
+    Job {
+        time,
+        due,
+        need,
+        maker,
+    }
+}
+
 // memory 4; job (3, 10, 4)
 fn order_c() {
-    let job = Job {
-        time: 3,
-        due: 10,
-        need: 4,
-    };
     let mut bytes = [7; MOST_BYTES];
-    assert_eq!(write(&[4], &[job], &mut bytes), Ok(28));
+    assert_eq!(write(&[4], &[job((3, 10, 4))], &mut bytes), Ok(32));
     assert_eq!(bytes[..4], [4, 0, 0, 0]);
-    assert_eq!(bytes[28..], [7; MOST_BYTES - 28]);
-    let file = &bytes[..28];
+    assert_eq!(bytes[16..20], [1, 0, 0, 0]);
+    assert_eq!(bytes[32..], [7; MOST_BYTES - 32]);
+    let file = &bytes[..32];
     assert_eq!(
         judge(file),
         Ok(Sizes {
@@ -62,32 +72,30 @@ fn order_c() {
 }
 
 fn refusals() {
-    let late = Job {
-        time: 1,
-        due: 1_000_001,
-        need: 0,
+    let late = job((1, 1_000_001, 0));
+    let nobody = Job {
+        maker: 17,
+        ..job((1, 1, 9))
     };
     let mut bytes = [7; MOST_BYTES];
     assert_eq!(write(&[4], &[late], &mut bytes), Err(refused(6, 1)));
+    assert_eq!(write(&[4], &[nobody], &mut bytes), Err(refused(13, 1)));
     assert_eq!(bytes, [7; MOST_BYTES]);
     let mut rows = [KEPT; 1];
     assert_eq!(least(&[0; 11], &mut rows), Err(refused(12, 0)));
-    let job = Job {
-        time: 3,
-        due: 10,
-        need: 4,
-    };
-    assert_eq!(write(&[4], &[job], &mut bytes), Ok(28));
-    assert_eq!(plan(&bytes[..28], -9, &mut rows), Err(refused(10, 0)));
-    assert_eq!(least(&bytes[..28], &mut []), Err(refused(9, 0)));
+    let job = job((3, 10, 4));
+    assert_eq!(write(&[4], &[job], &mut bytes), Ok(32));
+    assert_eq!(plan(&bytes[..32], -9, &mut rows), Err(refused(10, 0)));
+    assert_eq!(least(&bytes[..32], &mut []), Err(refused(9, 0)));
     assert_eq!(rows, [KEPT]);
 }
 
 // memories 8, 4; jobs (3, 3, 8), (3, 3, 4), (2, 4, 2)
 fn order_a() {
-    let jobs = [(3, 3, 8), (3, 3, 4), (2, 4, 2)].map(|(time, due, need)| Job { time, due, need });
+    let jobs = [(3, 3, 8), (3, 3, 4), (2, 4, 2)].map(job);
     let mut bytes = [0; MOST_BYTES];
     let length = write(&[8, 4], &jobs, &mut bytes).unwrap();
+    assert_eq!(length, 68);
     let Ok(Some(Reason::Stairs { classes, dues })) = reason(&bytes[..length], -1) else {
         panic!("A at -1 has no staircase");
     };
@@ -109,9 +117,8 @@ fn composes(file: &[u8], bound: i32, reason: Reason, line: &str) {
 
 // document 02's line of C at -9
 fn line_of_c() {
-    let c = [(3, 10, 4)].map(|(time, due, need)| Job { time, due, need });
     let mut bytes = [0; MOST_BYTES];
-    let length = write(&[4], &c, &mut bytes).unwrap();
+    let length = write(&[4], &[job((3, 10, 4))], &mut bytes).unwrap();
     let file = &bytes[..length];
     let late = Reason::Job { job: 1, time: 3 };
     composes(file, -9, late, "job 1: time 3, end 2: owed 3, on hand 2");
@@ -128,7 +135,7 @@ fn line_of_c() {
 // document 02's line of B at -1: memories 8, 4; jobs (2, 4, 8) twice, (2, 2, 4) twice
 fn line_of_b() {
     let b = [(2, 4, 8), (2, 4, 8), (2, 2, 4), (2, 2, 4)];
-    let b = b.map(|(time, due, need)| Job { time, due, need });
+    let b = b.map(job);
     let mut bytes = [0; MOST_BYTES];
     let length = write(&[8, 4], &b, &mut bytes).unwrap();
     let file = &bytes[..length];
@@ -145,6 +152,57 @@ fn line_of_b() {
     assert_eq!(parse(file, 0, line.as_bytes()), Ok(None));
     let told = sentence(&[0; 11], -1, &stairs, &mut []);
     assert_eq!(told, Err(refused(12, 0)));
+}
+
+// a book from opening on: A with makers 16, 2 and 16, then C with maker 1, accepted and refused; and a book that is full
+fn books() {
+    let jobs = [(3, 3, 8, 16), (3, 3, 4, 2), (2, 4, 2, 16)];
+    let jobs = jobs.map(|(time, due, need, maker)| Job {
+        maker,
+        ..job((time, due, need))
+    });
+    let (mut of_a, mut of_c) = ([0; MOST_BYTES], [0; MOST_BYTES]);
+    let length = write(&[8, 4], &jobs, &mut of_a).unwrap();
+    let a = &of_a[..length];
+    let length = write(&[4], &[job((3, 10, 4))], &mut of_c).unwrap();
+    let c = &of_c[..length];
+
+    let mut rows = [KEPT; 8];
+    let mut book = Book::open();
+    assert_eq!(book.counts, [0; MOST_MAKERS]);
+    let told = book_least(a, &mut rows, &mut book);
+    assert_eq!(told.map(|told| told.lateness), Ok(0));
+    let mut unbooked = [KEPT; 8];
+    assert_eq!(least(a, &mut unbooked), told);
+    assert_eq!(rows, unbooked);
+    let counted = |book: &Book| [1, 2, 3, 16].map(|maker| book.minutes(maker));
+    assert_eq!(counted(&book), [Some(0), Some(3), Some(0), Some(5)]);
+
+    rows = [KEPT; 8];
+    let before = book;
+    assert_eq!(book_plan(c, -9, &mut rows, &mut book), Err(refused(10, 0)));
+    assert_eq!(book_plan(c, -8, &mut [], &mut book), Err(refused(9, 0)));
+    assert_eq!(
+        book_least(&[0; 11], &mut rows, &mut book),
+        Err(refused(12, 0))
+    );
+    assert_eq!((book, rows), (before, [KEPT; 8]));
+    assert_eq!(book_plan(c, -8, &mut rows, &mut book), Ok(1));
+    assert_eq!(counted(&book), [Some(3), Some(3), Some(0), Some(5)]);
+    assert_eq!(
+        [0, 17, u32::MAX].map(|maker| book.minutes(maker)),
+        [None; 3]
+    );
+
+    rows = [KEPT; 8];
+    book.counts[0] = MOST_BOOKED - 2;
+    let before = book;
+    assert_eq!(book_least(c, &mut rows, &mut book), Err(refused(14, 0)));
+    assert_eq!(book_plan(c, -8, &mut rows, &mut book), Err(refused(14, 0)));
+    assert_eq!((book, rows), (before, [KEPT; 8]));
+    book.counts[0] = MOST_BOOKED - 3;
+    assert_eq!(book_plan(c, -8, &mut rows, &mut book), Ok(1));
+    assert_eq!(book.minutes(1), Some(MOST_BOOKED));
 }
 
 // number and words of each row of the table of refusals
@@ -165,8 +223,9 @@ fn table() -> Vec<(u32, &'static str)> {
 
 fn words() {
     let table = table();
-    let numbers: Vec<u32> = table.iter().map(|row| row.0).collect();
-    let all = [1, 2, 3, 4, 5, 6, 7, 8, 9, 10, 11, 12, 253, 254, 255];
+    let mut numbers: Vec<u32> = table.iter().map(|row| row.0).collect();
+    numbers.sort();
+    let all = (1..=14).chain([253, 254, 255]).collect::<Vec<u32>>();
     assert_eq!(numbers, all);
     for (number, words) in table {
         let plain: Box<dyn std::error::Error> = refused(number, 0).into();
@@ -174,19 +233,15 @@ fn words() {
         let of_job = refused(number, 48).to_string();
         assert_eq!(of_job, format!("refusal {number} of job 48: {words}"));
     }
-    let empty = Job {
-        time: 0,
-        due: 5,
-        need: 1,
-    };
+    let empty = job((0, 5, 1));
     let told = write(&[4], &[empty], &mut [0; MOST_BYTES]).unwrap_err();
     assert_eq!(
         told.to_string(),
         "refusal 5 of job 1: a job's time is not 1 to 100,000"
     );
     assert_eq!(
-        refused(13, 0).to_string(),
-        "refusal 13: no refusal has this number"
+        refused(15, 0).to_string(),
+        "refusal 15: no refusal has this number"
     );
 }
 
@@ -196,6 +251,7 @@ fn main() {
     order_a();
     line_of_c();
     line_of_b();
+    books();
     words();
     println!("wrapper: every function answers as it should");
 }

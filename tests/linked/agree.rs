@@ -1,8 +1,10 @@
 //! Holds the independent implementation against itself before anything else is held against it: the
 //! flow against the staircases, the table of completions against trying each, tiny orders against a
 //! search minute by minute, its plans against the four rules, its joined rows against its rows as
-//! laid out, its files against their reader, its two readers of lines against each other.
+//! laid out, its files against their reader, its two readers of lines against each other, its books
+//! against the orders.
 
+mod books;
 mod joins;
 
 use crate::draw::lines::changed;
@@ -55,7 +57,7 @@ fn agrees(order: &Order) -> Result<(), String> {
     for away in [0, 1, 100] {
         joins::agree(order, i64::from(least + away))?;
     }
-    Ok(())
+    books::agree(order)
 }
 
 /// An order at a bound that is met or not: the flow, the staircases and both ways to find them

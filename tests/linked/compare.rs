@@ -33,7 +33,11 @@ pub fn wrong(
             should.line.put(line.as_bytes());
             should.answer.put(&[line.len() as i32]);
         }
-        Expected::Plan { bound, lateness } => {
+        Expected::Plan {
+            bound,
+            lateness,
+            book,
+        } => {
             let rows = match planned(&order(), *bound, lateness.is_some().into(), after) {
                 Ok(rows) => rows,
                 Err(wrong) => return Some(wrong),
@@ -41,6 +45,9 @@ pub fn wrong(
             should.rows.put(rows);
             let numbers = lateness.iter().copied().chain([rows.len() as i32 / 4]);
             should.answer.put(&numbers.collect::<Vec<i32>>());
+            if let Some(book) = book {
+                should.book.put(book);
+            }
         }
     }
     unequal(&should, after)
@@ -86,6 +93,7 @@ fn unequal(should: &Call, is: &Call) -> Option<String> {
         ("memories", is.memories.unequal_at(&should.memories)),
         ("jobs", is.jobs.unequal_at(&should.jobs)),
         ("rows", is.rows.unequal_at(&should.rows)),
+        ("book", is.book.unequal_at(&should.book)),
         ("reason", is.reason.unequal_at(&should.reason)),
         ("line", is.line.unequal_at(&should.line)),
         ("answer", is.answer.unequal_at(&should.answer)),

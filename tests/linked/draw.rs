@@ -1,12 +1,14 @@
-//! Seeded draws: the same seed gives the same orders, files, row lists, reasons, lines and buffers
-//! on every machine.
+//! Seeded draws: the same seed gives the same orders, files, row lists, reasons, lines, books and
+//! buffers on every machine.
 
+pub mod books;
 pub mod bounds;
 pub mod damage;
 pub mod files;
 pub mod lengths;
 pub mod lines;
 pub mod lists;
+pub mod makers;
 pub mod orders;
 mod packed;
 pub mod reasons;

@@ -1,7 +1,8 @@
 //! What a call must answer, wholly by the independent implementation. "Of several refusals that
-//! apply the first is told": 255, 254 or 253, 12, then 1 to 11 upwards.
+//! apply the first is told": 255, 254 or 253, 12, then 1 to 11 upwards with 13 right after 6, and 14
+//! last of all.
 
-use crate::independent::{self, Job, Order, Reason, Refusal, MOST_ROWS};
+use crate::independent::{self, Job, Order, Reason, Refusal, MAKERS, MOST_ROWS};
 use crate::lent::Call;
 use crate::library::{Function, REASON_NUMBERS};
 use std::ops::RangeInclusive;
@@ -14,10 +15,11 @@ pub enum Expected {
     /// These numbers in the answer, and nothing else written.
     Answer(Vec<i32>),
     /// The rows of a plan at this bound; the answer is the lateness, if asked for, and the row
-    /// count.
+    /// count; these counts in the book, if it is booked.
     Plan {
         bound: i32,
         lateness: Option<i32>,
+        book: Option<Vec<u32>>,
     },
     /// These bytes in the file, and their count in the answer.
     File(Vec<u8>),
@@ -73,6 +75,9 @@ pub fn expected(function: Function, call: &Call, known: &mut Known) -> Expected 
     if function == Function::Sentence && call.reason.len() < REASON_NUMBERS {
         return refused(253, 0);
     }
+    if function.books() && call.book.len() < MAKERS {
+        return refused(253, 0);
+    }
     known.turn_to(call.file.content());
     match refusal(function, call, known) {
         Some(refusal) => Expected::Refused(refusal),
@@ -85,7 +90,7 @@ fn refused(number: u32, job: u32) -> Expected {
 }
 
 fn written(call: &Call) -> Expected {
-    if call.jobs.len() % 3 != 0 {
+    if call.jobs.len() % 4 != 0 {
         return refused(254, 0);
     }
     let order = listed(call);
@@ -101,19 +106,20 @@ fn written(call: &Call) -> Expected {
 
 /// The order of the lists lent to hbr_write.
 pub fn listed(call: &Call) -> Order {
-    let job = |three: &[u32]| Job {
-        time: three[0],
-        due: three[1] as i32,
-        need: three[2],
+    let job = |four: &[u32]| Job {
+        time: four[0],
+        due: four[1] as i32,
+        need: four[2],
+        maker: four[3],
     };
     Order {
         memories: call.memories.content().to_vec(),
-        jobs: call.jobs.content().chunks_exact(3).map(job).collect(),
+        jobs: call.jobs.content().chunks_exact(4).map(job).collect(),
     }
 }
 
-/// The refusal of a function that reads a file: 12, then 1 to 11 upwards, but for a line that is
-/// too long.
+/// The refusal of a function that reads a file: 12, those of an order, 8 to 11 upwards, but for a
+/// line that is too long, then 14.
 fn refusal(function: Function, call: &Call, known: &mut Known) -> Option<Refusal> {
     let order = match &known.order {
         Err(refusal) => return Some(*refusal),
@@ -124,14 +130,21 @@ fn refusal(function: Function, call: &Call, known: &mut Known) -> Option<Refusal
         8
     } else if function.plans() && call.rows.len() / 4 < asked {
         9
-    } else if function == Function::Plan && call.bound < known.least() {
+    } else if function.plans() && function.takes_bound() && call.bound < known.least() {
         10
     } else if function == Function::Check && call.rows.len().div_ceil(4) > MOST_ROWS {
         11
+    } else if function.books() && booked(call, known).is_none() {
+        14
     } else {
         return None;
     };
     Some(Refusal { number, job: 0 })
+}
+
+/// The book once the plan is written, or none where a count would be over the most.
+fn booked(call: &Call, known: &Known) -> Option<Vec<u32>> {
+    independent::booked(call.book.content(), known.order())
 }
 
 /// The answer of a function that reads a file.
@@ -139,13 +152,15 @@ fn answer(function: Function, call: &Call, known: &mut Known) -> Expected {
     let bound = call.bound;
     match function {
         Function::Judge => Expected::Answer(counts(known.order())),
-        Function::Least => Expected::Plan {
+        Function::Least | Function::BookLeast => Expected::Plan {
             bound: known.least(),
             lateness: Some(known.least()),
+            book: function.books().then(|| booked(call, known)).flatten(),
         },
-        Function::Plan => Expected::Plan {
+        Function::Plan | Function::BookPlan => Expected::Plan {
             bound,
             lateness: None,
+            book: function.books().then(|| booked(call, known)).flatten(),
         },
         Function::Reason => {
             Expected::Answer(reason_numbers(independent::reason(known.order(), bound)))

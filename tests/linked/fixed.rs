@@ -1,26 +1,43 @@
 //! Document 01's "Orders to try", the small examples of its refusal table and its order file of C,
 //! with the values that stand there, the leasts and the bounds one lower as document 02's §3 has
-//! them; the lines, the joined rows and the ends of document 02 in `fixed/`.
+//! them, each job of maker 1 as its §4 has it; the lines, the joined rows, the ends, the makers and
+//! the books of document 02 in `fixed/`.
 
+mod books;
 mod ends;
 mod joins;
 mod lines;
+mod makers;
 mod others;
 
 use crate::draw::Random;
-use crate::independent::{write, Job, Order};
+use crate::independent::{write, Job, Order, MAKERS};
 use crate::lent::{job_numbers, Call};
 use crate::library::{Function, READERS, REASON_NUMBERS};
 use crate::trial::Trial;
 
-const C_FILE: [u8; 28] = [
-    0x04, 0, 0, 0, 0x03, 0, 0, 0, 0x0A, 0, 0, 0, 0x04, 0, 0, 0, 0, 0, 0, 0, 0x04, 0, 0, 0, 1, 0, 1,
-    0,
+const C_FILE: [u8; 32] = [
+    0x04, 0, 0, 0, 0x03, 0, 0, 0, 0x0A, 0, 0, 0, 0x04, 0, 0, 0, 0x01, 0, 0, 0, 0, 0, 0, 0, 0x04, 0,
+    0, 0, 1, 0, 1, 0,
 ];
+const MOST_BYTES: usize = 844;
 const ENOUGH: usize = 12_096;
+const FEW: usize = 200;
 
+/// "In document 01's cases the maker is 1."
 fn order(memories: &[u32], jobs: &[(u32, i32, u32)]) -> Order {
-    let job = |&(time, due, need): &(u32, i32, u32)| Job { time, due, need };
+    let job = |&(time, due, need): &(u32, i32, u32)| (time, due, need, 1);
+    made(memories, &jobs.iter().map(job).collect::<Vec<_>>())
+}
+
+/// An order whose jobs have makers.
+fn made(memories: &[u32], jobs: &[(u32, i32, u32, u32)]) -> Order {
+    let job = |&(time, due, need, maker): &(u32, i32, u32, u32)| Job {
+        time,
+        due,
+        need,
+        maker,
+    };
     Order {
         memories: memories.to_vec(),
         jobs: jobs.iter().map(job).collect(),
@@ -53,16 +70,28 @@ pub fn run(trial: &mut Trial) {
     other_refusals(trial);
     accepted(trial);
     trial.begin("document 02", 0);
+    makers::run(trial);
+    books::run(trial);
     lines::run(trial);
     others::run(trial);
     joins::run(trial);
     ends::run(trial);
 }
 
-/// A call on the order's file, all of whose buffers are long enough.
+/// A call on the order's file, all of whose buffers are long enough, with a book just opened.
 fn on(random: &mut Random, order: &Order) -> Call {
+    on_with_room(random, order, ENOUGH)
+}
+
+/// The same with room for few rows, which is quicker.
+fn on_few(random: &mut Random, order: &Order) -> Call {
+    on_with_room(random, order, FEW)
+}
+
+fn on_with_room(random: &mut Random, order: &Order, numbers: usize) -> Call {
     Call::with_file(random, &write(order), 19)
-        .with_room(random, ENOUGH)
+        .with_room(random, numbers)
+        .with_book(random, &[0; MAKERS])
         .with_reason(random, &[0; REASON_NUMBERS])
 }
 
@@ -91,8 +120,10 @@ fn lateness(trial: &mut Trial) {
         (order(&[1], &[(1, -5, 1)]), 5),
     ];
     for (order, least) in cases {
-        let call = on(&mut trial.random, &order);
-        case(trial, Function::Least, call, 0, &[least]);
+        for function in [Function::Least, Function::BookLeast] {
+            let call = on(&mut trial.random, &order);
+            case(trial, function, call, 0, &[least]);
+        }
     }
 }
 
@@ -120,7 +151,7 @@ fn checks(trial: &mut Trial) {
     }
 }
 
-/// Rows 1 to 7 of the table, to each function that reads a file, and to the writer.
+/// Rows 1 to 7 of the table, and 13, to each function that reads a file, and to the writer.
 fn refused_orders(trial: &mut Trial) {
     let cases = [
         (order(&[], &[(1, 1, 0)]), 1, 0),
@@ -130,16 +161,23 @@ fn refused_orders(trial: &mut Trial) {
         (order(&[4], &[(0, 5, 1)]), 5, 1),
         (order(&[4], &[(1, 1_000_001, 1)]), 6, 1),
         (order(&[8], &[(1, 5, 9)]), 7, 1),
+        (made(&[4], &[(1, 5, 1, 0)]), 13, 1),
+        (made(&[4], &[(1, 5, 1, 17)]), 13, 1),
     ];
     for (order, number, job) in cases {
-        for function in READERS {
-            let call = on(&mut trial.random, &order);
-            case(trial, function, call, number + 256 * job, &[]);
-        }
-        let jobs = job_numbers(&order.jobs);
-        let call = Call::with_lists(&mut trial.random, &order.memories, &jobs, 652, 1);
-        case(trial, Function::Write, call, number + 256 * job, &[]);
+        refused(trial, &order, ENOUGH, number + 256 * job);
     }
+}
+
+/// The order is refused by all functions, with room for so many numbers of rows.
+fn refused(trial: &mut Trial, order: &Order, room: usize, result: u32) {
+    for function in READERS {
+        let call = on_with_room(&mut trial.random, order, room);
+        case(trial, function, call, result, &[]);
+    }
+    let jobs = job_numbers(&order.jobs);
+    let call = Call::with_lists(&mut trial.random, &order.memories, &jobs, MOST_BYTES, 1);
+    case(trial, Function::Write, call, result, &[]);
 }
 
 /// Rows 8 to 12 of the table.
@@ -158,16 +196,21 @@ fn other_refusals(trial: &mut Trial) {
     case(trial, Function::Judge, call, 1, &[]);
 }
 
-/// "16 processors, 48 jobs: accepted. C with room for 1 row: accepted." And the file of C.
+/// "16 processors, 48 jobs: accepted. C with room for 1 row: accepted." And the files of C and of the
+/// largest order.
 fn accepted(trial: &mut Trial) {
     let largest = order(&[4; 16], &[(1, 99, 0); 48]);
     let call = on(&mut trial.random, &largest);
     case(trial, Function::Judge, call, 0, &[16, 48, 63]);
     let call = on(&mut trial.random, &c()).with_room(&mut trial.random, 4);
     case(trial, Function::Least, call, 0, &[-8, 1]);
-    let call = Call::with_lists(&mut trial.random, &[4], &[3, 10, 4], 28, 1);
-    case(trial, Function::Write, call, 0, &[28]);
+    let call = Call::with_lists(&mut trial.random, &[4], &[3, 10, 4, 1], 32, 1);
+    case(trial, Function::Write, call, 0, &[32]);
     if write(&c()) != C_FILE {
-        trial.differs("the independent writer's file of C is not document 01's".to_string());
+        trial.differs("the independent writer's file of C is not the documents'".to_string());
+    }
+    let lengths = [write(&a()).len(), write(&largest).len()];
+    if lengths != [68, MOST_BYTES] {
+        trial.differs(format!("files of {lengths:?} bytes, not of 68 and 844"));
     }
 }

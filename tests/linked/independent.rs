@@ -1,7 +1,7 @@
 //! Documents 01 and 02 in plain Rust, made apart from the proved code and from their text alone:
-//! orders, order files, right plans and their joining, the least lateness, reasons and their lines.
-//! Whether a bound is met is decided by a maximum flow, never by the staircase sums, so that each of
-//! the two can be held against the other.
+//! orders, order files, right plans and their joining, the least lateness, reasons and their lines,
+//! books. Whether a bound is met is decided by a maximum flow, never by the staircase sums, so that
+//! each of the two can be held against the other.
 
 // a program that takes this module in may use only a part of it
 #![allow(dead_code, unused_imports)]
@@ -10,6 +10,8 @@
 mod accept;
 #[path = "independent/amounts.rs"]
 mod amounts;
+#[path = "independent/book.rs"]
+mod book;
 #[path = "independent/classes.rs"]
 mod classes;
 #[path = "independent/clip.rs"]
@@ -35,9 +37,10 @@ mod wrap;
 
 pub use accept::judge;
 pub use amounts::{amounts, least, least_between, meets, plan};
+pub use book::{booked, minutes_of, MAKERS, MOST_BOOKED};
 pub use clip::{clipped, joins};
 pub use join::{join, joined};
-pub use order_file::{read, write};
+pub use order_file::{lists, read, write};
 pub use pairs::{join_pairs, left_to_join};
 pub use reading::{read_back, read_by_form, read_by_trying, taken_apart, true_of, Said, Sentence};
 pub use reasons::{overfull, reason, reason_by_table, reason_by_trying, staircases};
@@ -48,12 +51,13 @@ pub use wrap::{layout, rows_asked, stretches};
 /// The most rows of a plan, and the most that the check takes.
 pub const MOST_ROWS: usize = 3_024;
 
-/// A job: minutes of work, due time, memory need.
+/// A job: minutes of work, due time, memory need, the number of its maker.
 #[derive(Clone, Copy, Debug, PartialEq)]
 pub struct Job {
     pub time: u32,
     pub due: i32,
     pub need: u32,
+    pub maker: u32,
 }
 
 impl Job {
@@ -78,7 +82,7 @@ pub struct Order {
 /// A row of a plan: job, processor, from, to.
 pub type Row = [u32; 4];
 
-/// A refusal: its number in document 01's table, and the job that it is about or 0.
+/// A refusal: its number in document 01's table or in document 02, and the job that it is about or 0.
 #[derive(Clone, Copy, Debug, PartialEq)]
 pub struct Refusal {
     pub number: u32,

@@ -85,6 +85,7 @@ pub struct Call {
     pub jobs: Lent<u32>,
     pub bound: i32,
     pub rows: Lent<u32>,
+    pub book: Lent<u32>,
     pub reason: Lent<i32>,
     pub line: Lent<u8>,
     pub answer: Lent<i32>,
@@ -99,6 +100,7 @@ impl Call {
             jobs: Lent::filled(0, random, number),
             bound: 0,
             rows: Lent::filled(0, random, number),
+            book: Lent::filled(0, random, number),
             reason: Lent::filled(0, random, signed),
             line: Lent::filled(0, random, byte),
             answer: Lent::filled(answer, random, signed),
@@ -138,6 +140,12 @@ impl Call {
         Call { rows, ..self }
     }
 
+    /// The same with these numbers for a book.
+    pub fn with_book(self, random: &mut Random, numbers: &[u32]) -> Call {
+        let book = Lent::holding(numbers, random, number);
+        Call { book, ..self }
+    }
+
     /// The same with these numbers for a reason.
     pub fn with_reason(self, random: &mut Random, numbers: &[i32]) -> Call {
         let reason = Lent::holding(numbers, random, signed);
@@ -157,10 +165,10 @@ impl Call {
     }
 }
 
-/// Jobs as hbr_write takes them, three numbers to a job.
+/// Jobs as hbr_write takes them, four numbers to a job.
 pub fn job_numbers(jobs: &[Job]) -> Vec<u32> {
-    let three = |job: &Job| [job.time, job.due as u32, job.need];
-    jobs.iter().flat_map(three).collect()
+    let four = |job: &Job| [job.time, job.due as u32, job.need, job.maker];
+    jobs.iter().flat_map(four).collect()
 }
 
 /// Rows as they are lent, four numbers to a row; numbers left over are none.

@@ -1,5 +1,5 @@
-//! The eight functions of the header: what they are called, how long their answers are, which
-//! refusals each can give, and a library as eight entries of one form.
+//! The ten functions of the header: what they are called, how long their answers are, which
+//! refusals each can give, and a library as ten entries of one form.
 
 use crate::lent::Call;
 
@@ -8,6 +8,8 @@ pub enum Function {
     Judge,
     Least,
     Plan,
+    BookLeast,
+    BookPlan,
     Reason,
     Sentence,
     Parse,
@@ -15,10 +17,12 @@ pub enum Function {
     Write,
 }
 
-pub const FUNCTIONS: [Function; 8] = [
+pub const FUNCTIONS: [Function; 10] = [
     Function::Judge,
     Function::Least,
     Function::Plan,
+    Function::BookLeast,
+    Function::BookPlan,
     Function::Reason,
     Function::Sentence,
     Function::Parse,
@@ -27,10 +31,12 @@ pub const FUNCTIONS: [Function; 8] = [
 ];
 
 /// Those that read an order file.
-pub const READERS: [Function; 7] = [
+pub const READERS: [Function; 9] = [
     Function::Judge,
     Function::Least,
     Function::Plan,
+    Function::BookLeast,
+    Function::BookPlan,
     Function::Reason,
     Function::Sentence,
     Function::Parse,
@@ -46,6 +52,8 @@ impl Function {
             Function::Judge => "hbr_judge",
             Function::Least => "hbr_least",
             Function::Plan => "hbr_plan",
+            Function::BookLeast => "hbr_book_least",
+            Function::BookPlan => "hbr_book_plan",
             Function::Reason => "hbr_reason",
             Function::Sentence => "hbr_sentence",
             Function::Parse => "hbr_parse",
@@ -58,28 +66,40 @@ impl Function {
     pub fn answer_length(self) -> usize {
         match self {
             Function::Judge => 3,
-            Function::Least => 2,
+            Function::Least | Function::BookLeast => 2,
             Function::Reason | Function::Parse => REASON_NUMBERS,
-            Function::Plan | Function::Sentence | Function::Check | Function::Write => 1,
+            _ => 1,
         }
     }
 
     /// The refusals that the header names for it.
     pub fn refusals(self) -> &'static [u32] {
         match self {
-            Function::Judge => &[1, 2, 3, 4, 5, 6, 7, 12, 255],
-            Function::Least => &[1, 2, 3, 4, 5, 6, 7, 9, 12, 255],
-            Function::Plan => &[1, 2, 3, 4, 5, 6, 7, 8, 9, 10, 12, 255],
-            Function::Reason | Function::Parse => &[1, 2, 3, 4, 5, 6, 7, 8, 12, 255],
-            Function::Sentence => &[1, 2, 3, 4, 5, 6, 7, 8, 9, 12, 253, 255],
-            Function::Check => &[1, 2, 3, 4, 5, 6, 7, 8, 11, 12, 255],
-            Function::Write => &[1, 2, 3, 4, 5, 6, 7, 9, 254, 255],
+            Function::Judge => &[1, 2, 3, 4, 5, 6, 13, 7, 12, 255],
+            Function::Least => &[1, 2, 3, 4, 5, 6, 13, 7, 9, 12, 255],
+            Function::Plan => &[1, 2, 3, 4, 5, 6, 13, 7, 8, 9, 10, 12, 255],
+            Function::BookLeast => &[1, 2, 3, 4, 5, 6, 13, 7, 9, 14, 12, 253, 255],
+            Function::BookPlan => &[1, 2, 3, 4, 5, 6, 13, 7, 8, 9, 10, 14, 12, 253, 255],
+            Function::Reason | Function::Parse => &[1, 2, 3, 4, 5, 6, 13, 7, 8, 12, 255],
+            Function::Sentence => &[1, 2, 3, 4, 5, 6, 13, 7, 8, 9, 12, 253, 255],
+            Function::Check => &[1, 2, 3, 4, 5, 6, 13, 7, 8, 11, 12, 255],
+            Function::Write => &[1, 2, 3, 4, 5, 6, 13, 7, 9, 254, 255],
         }
     }
 
     /// Whether it writes rows: then a short buffer is refused.
     pub fn plans(self) -> bool {
-        matches!(self, Function::Least | Function::Plan)
+        self.books() || matches!(self, Function::Least | Function::Plan)
+    }
+
+    /// Whether it books what it plans: then a short book and a full one are refused.
+    pub fn books(self) -> bool {
+        matches!(self, Function::BookLeast | Function::BookPlan)
+    }
+
+    /// Whether it plans at the least lateness, which it answers before the row count.
+    pub fn finds_least(self) -> bool {
+        matches!(self, Function::Least | Function::BookLeast)
     }
 
     /// Whether it writes or reads a line.
@@ -88,7 +108,7 @@ impl Function {
     }
 
     pub fn takes_bound(self) -> bool {
-        !matches!(self, Function::Judge | Function::Least | Function::Write)
+        !self.finds_least() && !matches!(self, Function::Judge | Function::Write)
     }
 }
 
@@ -100,6 +120,8 @@ pub struct Library {
     pub judge: Entry,
     pub least: Entry,
     pub plan: Entry,
+    pub book_least: Entry,
+    pub book_plan: Entry,
     pub reason: Entry,
     pub sentence: Entry,
     pub parse: Entry,
@@ -113,6 +135,8 @@ impl Library {
             Function::Judge => self.judge,
             Function::Least => self.least,
             Function::Plan => self.plan,
+            Function::BookLeast => self.book_least,
+            Function::BookPlan => self.book_plan,
             Function::Reason => self.reason,
             Function::Sentence => self.sentence,
             Function::Parse => self.parse,
@@ -127,6 +151,8 @@ impl Library {
             Function::Judge => &mut self.judge,
             Function::Least => &mut self.least,
             Function::Plan => &mut self.plan,
+            Function::BookLeast => &mut self.book_least,
+            Function::BookPlan => &mut self.book_plan,
             Function::Reason => &mut self.reason,
             Function::Sentence => &mut self.sentence,
             Function::Parse => &mut self.parse,

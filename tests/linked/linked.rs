@@ -9,6 +9,8 @@ pub const LINKED: Library = Library {
     judge,
     least,
     plan,
+    book_least,
+    book_plan,
     reason,
     sentence,
     parse,
@@ -41,6 +43,46 @@ fn plan(call: &mut Call) -> u32 {
             bound,
             rows,
             rows_length,
+            answer,
+            answer_length,
+        )
+    }
+}
+
+fn book_least(call: &mut Call) -> u32 {
+    let (file, file_length) = (call.file.pointer(), call.file.len());
+    let (rows, rows_length) = (call.rows.pointer_mut(), call.rows.len());
+    let (book, book_length) = (call.book.pointer_mut(), call.book.len());
+    let (answer, answer_length) = (call.answer.pointer_mut(), call.answer.len());
+    unsafe {
+        raw::hbr_book_least(
+            file,
+            file_length,
+            rows,
+            rows_length,
+            book,
+            book_length,
+            answer,
+            answer_length,
+        )
+    }
+}
+
+fn book_plan(call: &mut Call) -> u32 {
+    let (file, file_length) = (call.file.pointer(), call.file.len());
+    let (rows, rows_length) = (call.rows.pointer_mut(), call.rows.len());
+    let (book, book_length) = (call.book.pointer_mut(), call.book.len());
+    let (answer, answer_length) = (call.answer.pointer_mut(), call.answer.len());
+    let bound = call.bound;
+    unsafe {
+        raw::hbr_book_plan(
+            file,
+            file_length,
+            bound,
+            rows,
+            rows_length,
+            book,
+            book_length,
             answer,
             answer_length,
         )

@@ -61,9 +61,10 @@ fn compare_linked(times: u64) -> Result<String, String> {
     let rounds = Rounds {
         small: 2_340 * times,
         large: 660 * times,
-        refused: 1_400 * times,
-        files: 2_400 * times,
+        refused: 2_200 * times,
+        files: 2_800 * times,
         lists: 1_000 * times,
+        books: 400 * times,
     };
     rounds::run(&mut trial, &rounds);
     if let Some(difference) = trial.difference {

@@ -1,4 +1,4 @@
-//! The independent implementation as a library of eight functions: what a linked library would do
+//! The independent implementation as a library of ten functions: what a linked library would do
 //! that does just what is expected. The wrong libraries are made from it.
 
 use crate::expect::{expected, Expected, Known};
@@ -10,6 +10,8 @@ pub const MODEL: Library = Library {
     judge: |call| run(Function::Judge, call),
     least: |call| run(Function::Least, call),
     plan: |call| run(Function::Plan, call),
+    book_least: |call| run(Function::BookLeast, call),
+    book_plan: |call| run(Function::BookPlan, call),
     reason: |call| run(Function::Reason, call),
     sentence: |call| run(Function::Sentence, call),
     parse: |call| run(Function::Parse, call),
@@ -22,11 +24,18 @@ fn run(function: Function, call: &mut Call) -> u32 {
     match expected(function, call, &mut known) {
         Expected::Refused(refusal) => return refusal.number + 256 * refusal.job,
         Expected::Answer(numbers) => call.answer.put(&numbers),
-        Expected::Plan { bound, lateness } => {
+        Expected::Plan {
+            bound,
+            lateness,
+            book,
+        } => {
             let rows = plan(known.order(), bound).expect("the bound is met");
             call.rows.put(&rows.concat());
             let answer: Vec<i32> = lateness.into_iter().chain([rows.len() as i32]).collect();
             call.answer.put(&answer);
+            if let Some(book) = book {
+                call.book.put(&book);
+            }
         }
         Expected::File(bytes) => {
             call.file.put(&bytes);

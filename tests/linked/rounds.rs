@@ -1,13 +1,16 @@
-//! The drawn calls: accepted orders with bounds, row lists, reasons and lines around their least
-//! lateness, orders that are refused, doubtful files, and lists for the writer.
+//! The drawn calls: accepted orders with bounds, row lists, reasons, lines and books around their
+//! least lateness, orders that are refused, doubtful files, lists for the writer, and books that go
+//! through many calls.
+
+mod books;
 
 use crate::draw::bounds::Around;
-use crate::draw::damage::damaged;
+use crate::draw::damage::{damaged, OF_ORDERS};
 use crate::draw::files::{doubtful, file_of};
-use crate::draw::lengths::{answer_length, file_room, line_room, reason_length, room};
+use crate::draw::lengths::{answer_length, book_length, file_room, line_room, reason_length, room};
 use crate::draw::orders::{tiny, Family, LARGE_FAMILIES, SMALL_FAMILIES};
 use crate::draw::Random;
-use crate::draw::{lines, lists, reasons, sharp};
+use crate::draw::{books as drawn_books, lines, lists, reasons, sharp};
 use crate::expect::reason_named;
 use crate::independent::{composed, plan, rows_asked, write, Order, MOST_ROWS};
 use crate::lent::{job_numbers, Call};
@@ -21,16 +24,18 @@ pub struct Rounds {
     pub refused: u64,
     pub files: u64,
     pub lists: u64,
+    pub books: u64,
 }
 
 /// Runs all parts, up to the first difference.
 pub fn run(trial: &mut Trial, rounds: &Rounds) {
-    let parts: [(&str, u64, fn(&mut Trial, u64)); 5] = [
+    let parts: [(&str, u64, fn(&mut Trial, u64)); 6] = [
         ("small orders", rounds.small, small_order),
         ("large orders", rounds.large, large_order),
         ("refused orders", rounds.refused, refused_order),
         ("files", rounds.files, doubtful_file),
         ("lists", rounds.lists, any_lists),
+        ("books", rounds.books, books::sequence),
     ];
     for (part, times, round) in parts {
         for seed in 0..times {
@@ -80,6 +85,18 @@ fn accepted_order(trial: &mut Trial, families: &[Family], seed: u64) {
             Call::with_file(random, &file, answer).at(bound)
         });
     }
+    for function in [Function::BookLeast, Function::BookPlan] {
+        for _ in 0..3 {
+            trial_of(trial, function, |random, answer| {
+                let (room, bound) = (room(random, asked), around.bound(random));
+                let book = book(random, &order);
+                Call::with_file(random, &file, answer)
+                    .with_room(random, room)
+                    .with_book(random, &book)
+                    .at(bound)
+            });
+        }
+    }
     sentences(trial, &order, &file, around);
     checks(trial, &order, &file, around);
     for _ in 0..2 {
@@ -92,6 +109,13 @@ fn trial_of(trial: &mut Trial, function: Function, make: impl FnOnce(&mut Random
     let answer = answer_length(&mut trial.random, function);
     let call = make(&mut trial.random, answer);
     trial.call(function, call);
+}
+
+/// A book before a plan of this order, of a drawn length.
+fn book(random: &mut Random, order: &Order) -> Vec<u32> {
+    let mut book = drawn_books::drawn(random, order);
+    book.resize_with(book_length(random), || random.number() as u32);
+    book
 }
 
 /// Reasons before hbr_sentence and lines before hbr_parse.
@@ -175,7 +199,9 @@ fn write_lists(trial: &mut Trial, memories: &[u32], jobs: &[u32], length: usize)
 fn refused_order(trial: &mut Trial, seed: u64) {
     let (_, family) = SMALL_FAMILIES[seed as usize % SMALL_FAMILIES.len()];
     let order = family(&mut trial.random);
-    let number = 1 + seed as u32 % 7;
+    // each family meets each number, though both counts are even
+    let turn = seed as usize + seed as usize / SMALL_FAMILIES.len();
+    let number = OF_ORDERS[turn % OF_ORDERS.len()];
     let order = damaged(&mut trial.random, &order, number);
     let file = file_of(&mut trial.random, &order);
     read_all(trial, &file);
@@ -190,6 +216,11 @@ fn doubtful_file(trial: &mut Trial, seed: u64) {
     read_all(trial, &file);
 }
 
+const NO_ORDER: Order = Order {
+    memories: Vec::new(),
+    jobs: Vec::new(),
+};
+
 fn read_all(trial: &mut Trial, file: &[u8]) {
     for function in READERS {
         trial_of(trial, function, |random, answer| {
@@ -203,7 +234,12 @@ fn read_all(trial: &mut Trial, file: &[u8]) {
                     .with_line_room(random, line);
             }
             let room = random.pick(&[0, 3, 4, 200, 4 * MOST_ROWS, 4 * MOST_ROWS + 1]);
-            call.with_room(random, room)
+            let call = call.with_room(random, room);
+            if function.books() {
+                let book = book(random, &NO_ORDER);
+                return call.with_book(random, &book);
+            }
+            call
         });
     }
 }
@@ -217,11 +253,12 @@ fn any_lists(trial: &mut Trial, seed: u64) {
     let memories = repeated(random, &order.memories, 19, far);
     let mut jobs = repeated(random, &order.jobs, 52, far);
     if random.once_in(4) {
-        jobs.extend(damaged(random, &order, 5 + seed as u32 % 3).jobs);
+        let number = [5, 6, 13, 7][seed as usize % 4];
+        jobs.extend(damaged(random, &order, number).jobs);
     }
     let mut numbers = job_numbers(&jobs);
     if random.once_in(4) {
-        numbers.truncate(numbers.len().saturating_sub(1 + random.below(2)));
+        numbers.truncate(numbers.len().saturating_sub(1 + random.below(3)));
     }
     let length = 12 + 4 * memories.len() + 4 * numbers.len();
     write_lists(trial, &memories, &numbers, length);

@@ -1,5 +1,6 @@
 //! Counts the calls by function and by what they had to do, so that a reader sees that every
-//! refusal and every kind of answer was met; and the joins of the plans that were written.
+//! refusal and every kind of answer was met; the joins of the plans that were written; and the books
+//! that went through many calls.
 
 use crate::expect::Expected;
 use crate::library::{Function, FUNCTIONS};
@@ -20,6 +21,8 @@ pub struct Tally {
     pub calls: u64,
     counts: BTreeMap<(&'static str, String), u64>,
     joined: BTreeMap<&'static str, Joined>,
+    opened: Sequences,
+    drawn: Sequences,
 }
 
 /// How many plans had a join, and how many joins there were in all.
@@ -27,6 +30,14 @@ pub struct Tally {
 struct Joined {
     plans: u64,
     joins: u64,
+}
+
+/// Books that went through calls, and how many of these calls wrote a plan with them.
+#[derive(Clone, Copy, Default)]
+struct Sequences {
+    books: u64,
+    calls: u64,
+    plans: u64,
 }
 
 impl Tally {
@@ -48,6 +59,18 @@ impl Tally {
         joined.joins += joins as u64;
     }
 
+    /// Counts a book, from opening on or not, that so many calls were given and so many plans were
+    /// written with.
+    pub fn count_sequence(&mut self, opened: bool, calls: usize, plans: usize) {
+        let sequences = match opened {
+            true => &mut self.opened,
+            false => &mut self.drawn,
+        };
+        sequences.books += 1;
+        sequences.calls += calls as u64;
+        sequences.plans += plans as u64;
+    }
+
     fn joined(&self, function: Function) -> Joined {
         let joined = self.joined.get(function.name());
         joined.copied().unwrap_or_default()
@@ -58,9 +81,21 @@ impl Tally {
         self.counts.get(&key).copied().unwrap_or(0)
     }
 
-    /// A line for each function.
+    /// A line for each function, and one for the books.
     pub fn lines(&self) -> Vec<String> {
-        FUNCTIONS.map(|function| self.line(function)).to_vec()
+        let functions = FUNCTIONS.iter().map(|function| self.line(*function));
+        let told = |sequences: Sequences, from: &str| {
+            let Sequences {
+                books,
+                calls,
+                plans,
+            } = sequences;
+            format!("{books} {from}, {plans} plans written in {calls} calls")
+        };
+        let opened = told(self.opened, "from opening on");
+        let drawn = told(self.drawn, "from drawn counts on");
+        let books = format!("books through many calls: {opened}; {drawn}");
+        functions.chain([books]).collect()
     }
 
     fn line(&self, function: Function) -> String {
@@ -81,7 +116,7 @@ impl Tally {
         let (answered, refused) = (answered.join(", "), refused.join(", "));
         let all: u64 = self.of(function);
         format!(
-            "{:<12} {all} calls; {answered}; refused {refused}",
+            "{:<14} {all} calls; {answered}; refused {refused}",
             function.name()
         )
     }
@@ -106,6 +141,11 @@ impl Tally {
             never.extend(unmet.map(|what| format!("{}: {what}", function.name())));
             if function.plans() && self.joined(function).plans == 0 {
                 never.push(format!("{}: a join", function.name()));
+            }
+        }
+        for (sequences, from) in [(self.opened, "opening"), (self.drawn, "drawn counts")] {
+            if sequences.plans == 0 {
+                never.push(format!("a plan with a book from {from} on"));
             }
         }
         never

@@ -77,7 +77,10 @@ impl Trial {
 
     /// Counts the joins of a plan that was written.
     fn count_joins(&mut self, function: Function, expected: &Expected, after: &Call) {
-        if let Expected::Plan { bound, lateness } = *expected {
+        if let Expected::Plan {
+            bound, lateness, ..
+        } = *expected
+        {
             let count = after.answer.content()[usize::from(lateness.is_some())] as usize;
             let rows = rows_of(&after.rows.content()[..4 * count]);
             let joins = joins(self.known.order(), bound.into(), &rows);
@@ -102,6 +105,7 @@ fn told(what: &str, call: &Call) -> String {
         ),
         ("jobs", call.jobs.len(), shown(&call.jobs.content())),
         ("rows", call.rows.len(), shown(&call.rows.content())),
+        ("book", call.book.len(), shown(&call.book.content())),
         ("reason", call.reason.len(), shown(&call.reason.content())),
         ("line", call.line.len(), shown(&text(call.line.content()))),
         ("answer", call.answer.len(), shown(&call.answer.content())),

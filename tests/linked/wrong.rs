@@ -1,12 +1,46 @@
 //! Shows that the comparison has teeth: libraries that are each wrong in one thing, made from the
 //! independent implementation. The unbroken one must pass, and each wrong one must be caught.
 
+/// A wrong thing of both functions that book, made by a helper that takes the function, the call and
+/// how it is wrong.
+macro_rules! of_both {
+    ($with:ident: $($what:literal => $how:expr,)*) => {
+        &[$(
+            (Function::BookLeast, $what, |call| $with(Function::BookLeast, call, $how)),
+            (Function::BookPlan, $what, |call| $with(Function::BookPlan, call, $how)),
+        )*]
+    };
+}
+
+/// A wrong thing of each of the ten functions, made likewise.
+macro_rules! of_all {
+    ($with:ident: $($what:literal => $how:expr,)*) => {
+        &[$(
+            (Function::Judge, $what, |call| $with(Function::Judge, call, $how)),
+            (Function::Least, $what, |call| $with(Function::Least, call, $how)),
+            (Function::Plan, $what, |call| $with(Function::Plan, call, $how)),
+            (Function::BookLeast, $what, |call| $with(Function::BookLeast, call, $how)),
+            (Function::BookPlan, $what, |call| $with(Function::BookPlan, call, $how)),
+            (Function::Reason, $what, |call| $with(Function::Reason, call, $how)),
+            (Function::Sentence, $what, |call| $with(Function::Sentence, call, $how)),
+            (Function::Parse, $what, |call| $with(Function::Parse, call, $how)),
+            (Function::Check, $what, |call| $with(Function::Check, call, $how)),
+            (Function::Write, $what, |call| $with(Function::Write, call, $how)),
+        )*]
+    };
+}
+
+mod booked;
+mod books;
 mod buffers;
 mod checks;
 mod ends;
 mod files;
+mod forms;
+mod full;
 mod joins;
 mod lines;
+mod makers;
 mod meeting;
 mod plans;
 mod ranges;
@@ -31,9 +65,10 @@ type Wrong = (Function, &'static str, Entry);
 const ROUNDS: Rounds = Rounds {
     small: 450,
     large: 0,
-    refused: 420,
-    files: 450,
+    refused: 480,
+    files: 490,
     lists: 150,
+    books: 60,
 };
 
 /// Puts the unbroken library and all wrong ones before the comparison; answers the last line.
@@ -77,11 +112,21 @@ fn libraries() -> Vec<(String, Library)> {
         checks::WRONG,
         ends::WRONG,
     ];
+    let parts = [
+        &parts,
+        makers::PARTS,
+        forms::PARTS,
+        books::PARTS,
+        booked::PARTS,
+        full::PARTS,
+    ]
+    .concat();
     let in_one = parts.concat().into_iter().map(|(function, what, entry)| {
         let name = format!("{} {what}", function.name());
         (name, MODEL.with(function, entry))
     });
-    let in_several = ends::LIBRARIES.iter().map(|&(what, library)| {
+    let in_several = [ends::LIBRARIES, books::LIBRARIES].concat();
+    let in_several = in_several.into_iter().map(|(what, library)| {
         let name = format!("the library {what}");
         (name, library)
     });
@@ -126,9 +171,9 @@ fn plan_of(function: Function, call: &Call) -> Plan {
     let count = call.answer.content()[count_at(function)] as usize;
     Plan {
         order: accepted(call).expect("the call was answered"),
-        bound: match function {
-            Function::Least => call.answer.content()[0],
-            _ => call.bound,
+        bound: match function.finds_least() {
+            true => call.answer.content()[0],
+            false => call.bound,
         },
         rows: rows_of(&call.rows.content()[..4 * count]),
     }
@@ -136,7 +181,7 @@ fn plan_of(function: Function, call: &Call) -> Plan {
 
 /// Where the answer of a planner has the row count.
 fn count_at(function: Function) -> usize {
-    usize::from(function == Function::Least)
+    usize::from(function.finds_least())
 }
 
 /// The unbroken call of a planner, but with other rows where it succeeded and there is room for

@@ -5,12 +5,13 @@ Document 01: "The planner uses 1 to 10 (least lateness: not 8 and 10), the check
 applicable number is given". Row 9 for the planner: "lent buffer too short:
 below q × (n + m - 1) rows"; one to three numbers left over are "in the planner
 no further row of the buffer".
+Document 02, §4: "A maker number out of range is 13, right after 6 in the
+order": 13 belongs to every entry point that is given an order.
 Document 02, §1: "`try-bound` prints this line after its `tight` line".
 """
 
 import least
 import order_file
-import order_text
 import orders
 import plan_check
 import reason
@@ -26,7 +27,10 @@ def read(data):
     answer = order_file.read(data)
     if isinstance(answer, orders.Refusal):
         return refused(answer)
-    return [f"order {answer.m} {answer.n}"] + order_text.lines(answer)
+    return [f"order {answer.m} {answer.n}",
+            *(f"processor {memory}" for memory in answer.memories),
+            *(f"job {job.time} {job.due} {job.need} {job.maker}"
+              for job in answer.jobs)]
 
 
 def check(order, bound, numbers):
@@ -44,7 +48,7 @@ def write(order, room):
 
 
 def planner_refusal(order, room, bound=None):
-    """Rows 1 to 7, then 8 (if there is a bound), then 9."""
+    """Rows 1 to 7 and 13, then 8 (if there is a bound), then 9."""
     refusal = orders.refusal(order)
     if refusal:
         return refusal

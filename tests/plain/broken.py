@@ -2,7 +2,8 @@
 
 Document 01, "Errors that a planner of this kind invites", names many of these;
 document 02's sentences of the reason give those of its lines, those of fewer
-hand-overs those of joined rows, those of the due minute those of ends.
+hand-overs those of joined rows, those of the due minute those of ends; makers and
+the book stand in broken_makers.py.
 Each variant replaces one name of one module while one test runs.
 
     broken.py          runs all variants; exits 1 if one of them is not caught
@@ -17,6 +18,7 @@ import unittest
 from collections import namedtuple
 
 import answers
+import broken_makers
 import flow
 import join
 import judge
@@ -212,7 +214,7 @@ REFUSALS = [
             (orders.ROWS[2], orders.ROWS[0], orders.ROWS[1]) + orders.ROWS[3:],
             "test_orders.Refusals.test_table"),
     Variant("refusal 7 before 5", orders, "ROWS",
-            orders.ROWS[:4] + (orders.ROWS[6],) + orders.ROWS[4:6],
+            orders.ROWS[:4] + (orders.ROWS[7],) + orders.ROWS[4:7],
             "test_orders.Refusals.test_table"),
     Variant("every order refused", orders, "refusal",
             lambda order: orders.Refusal(1, 0),
@@ -590,15 +592,15 @@ SEARCHES = [
 
 def any_place_for_an_empty_list(data):
     _, _, m, n = order_file.TRAILER.unpack(data[-12:])
-    return right_agree(data) or (0 in (m, n) and len(data) == 4 * m + 12 * n + 12)
+    return right_agree(data) or (0 in (m, n) and len(data) == 4 * m + 16 * n + 12)
 
 
 def places_only(data):
     """The lists' lengths in 32 bits: a place near 2^32 wraps round."""
     processors_at, jobs_at, m, n = order_file.TRAILER.unpack(data[-12:])
-    return (len(data) == 4 * m + 12 * n + 12
+    return (len(data) == 4 * m + 16 * n + 12
             and (processors_at + 4 * m == jobs_at
-                 or (jobs_at + 12 * n) % 4294967296 == processors_at))
+                 or (jobs_at + 16 * n) % 4294967296 == processors_at))
 
 
 right_agree = order_file.agree
@@ -612,14 +614,14 @@ FILES = [
     Variant("files of processors first only", order_file, "agree",
             lambda data: right_agree(data) and data[-12:-8] == bytes(4),
             "test_order_file.File.test_round_trip"),
-    Variant("a file of 656 bytes", order_file, "FILE_MOST", 656,
-            "test_order_file.File.test_656_bytes_that_agree"),
+    Variant("a file of 848 bytes", order_file, "FILE_MOST", 848,
+            "test_order_file.File.test_848_bytes_that_agree"),
     Variant("a writer that is content with one byte less", order_file, "length",
-            lambda order: 4 * order.m + 12 * order.n + 11,
+            lambda order: 4 * order.m + 16 * order.n + 11,
             "test_order_file.File.test_writer"),
     Variant("jobs backwards in the text", order_text, "lines",
             lambda order: [f"processor {memory}" for memory in order.memories]
-            + [f"job {a} {b} {c}" for a, b, c in reversed(order.jobs)],
+            + [order_text.job_line(job) for job in reversed(order.jobs)],
             "test_order_text.Text.test_there_and_back"),
 ]
 
@@ -901,8 +903,9 @@ ENDS = [
             "test_orders.Refusals.test_accepted"),
 ]
 
+MAKERS = [Variant(*variant) for variant in broken_makers.VARIANTS]
 VARIANTS = (LATENESS + REASONS + REFUSALS + PLANS + LAYOUTS + JOININGS + SEARCHES
-            + FILES + SENTENCES + ENDS)
+            + FILES + SENTENCES + ENDS + MAKERS)
 
 
 def caught(variant):

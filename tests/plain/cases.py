@@ -12,6 +12,8 @@ import pathlib
 import sys
 
 import answers
+import book
+import cases_book
 import cases_check
 import cases_join
 import cases_planner
@@ -24,23 +26,34 @@ import stream_form
 HERE = pathlib.Path(__file__).resolve().parent
 PROGRAM = HERE.parent.parent / "crates" / "cases"
 PARTS = (cases_read, cases_check, cases_write, cases_planner, cases_sentence,
-         cases_join)
+         cases_join, cases_book)
 # What the program reads, what it has to print, and what each case shows.
 STORED = {"stdin": PROGRAM / "stdin", "stdout": PROGRAM / "stdout",
           "list": HERE / "streams" / "cases.list"}
 ANSWER = {"read": answers.read, "check": answers.check, "write": answers.write,
           "least": answers.least_lateness, "plan": answers.plan,
-          "compose": answers.compose, "parse": answers.parse}
-BYTES_MOST = 800000
+          "compose": answers.compose, "parse": answers.parse, "book": book.told}
+BYTES_MOST = 1000000
+
+
+def planned(record, lines):
+    """The orders and bounds that a case plans at, with what is told of each."""
+    if record.kind == "plan":
+        order, bound, _ = record.values
+        yield order, bound, lines[0]
+    elif record.kind == "book":
+        for call, line in zip(record.values[1], lines[::2]):
+            if call.which == stream_form.PLAN:
+                yield call.order, call.bound, line
 
 
 def expected(record):
     """The lines of one case. A planner's answer is given by the staircases and
     has to agree with the flow."""
     lines = ANSWER[record.kind](*record.values)
-    if record.kind == "plan" and not lines[0].startswith("refused"):
-        order, bound, _ = record.values
-        if flow.meets(order, bound) != (lines == ["meets"]):
+    for order, bound, line in planned(record, lines):
+        if (not line.startswith("refused")
+                and flow.meets(order, bound) != (line == "meets")):
             raise AssertionError(f"flow and staircases differ: {order} {bound}")
     return lines
 

@@ -154,12 +154,12 @@ def drawn(count):
         yield from around(of, f"drawn order {number}", order)
 
 
-def drawn_steep(seed, count, story, maker, wanted):
+def drawn_steep(seed, count, story, family, wanted):
     """Drawn orders with a wanted first staircase at one below the least."""
     of = draw.Draw(seed)
     for number in range(count):
         while True:
-            order = maker(of)
+            order = family(of)
             why = reason.reason(order, least.least(order) - 1)
             if why.kind == "stairs" and wanted(why.values):
                 break

@@ -20,7 +20,7 @@ from reason import Reason
 from sentence import JOB, STAIRS, Handed
 from stream_form import Record
 
-BYTES_MOST = 700
+BYTES_MOST = 900
 WORD = 4294967296
 NONE = Handed(0, 0, 0, (0,) * sentence.DUES)
 # A at -1, B at -1, C at -9.
@@ -263,9 +263,9 @@ def other_lines():
             ("`tight stairs 4 2`", b"tight stairs 4 2")):
         for name, order, bound in (("C", C, -9), ("B", B, -1)):
             yield parse_case(f"{story}, {name}", order, bound, data)
-    yield parse_case("700 digits, C", C, -9, b"7" * BYTES_MOST)
+    yield parse_case("900 digits, C", C, -9, b"7" * BYTES_MOST)
     yield parse_case("a job number of 600 digits, C", C, -9, b"job " + b"1" * 600)
-    yield parse_case("B's line made 700 bytes by spaces, B", B, -1,
+    yield parse_case("B's line made 900 bytes by spaces, B", B, -1,
                      of_b.ljust(BYTES_MOST))
 
 

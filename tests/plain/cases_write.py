@@ -1,8 +1,8 @@
 """Cases of the writer.
 
 Document 01: "The writer puts processors first and leaves its buffer beyond the
-file unchanged." Row 9: "lent buffer too short: below [..] the file's length".
-Each case is (what it shows, record).
+file unchanged." Row 9: "lent buffer too short: below [..] the file's length", which
+by document 02, §4, is at most 844. Each case is (what it shows, record).
 """
 
 import draw
@@ -10,7 +10,7 @@ import known_orders
 import order_file
 from stream_form import Record
 
-ROOM_MOST = 700
+ROOM_MOST = 900
 
 
 def case(story, order, room):

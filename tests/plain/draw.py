@@ -2,13 +2,16 @@
 
 Document 01: "compared with a plain search over small orders". The orders have
 equal memories, equal jobs, ties in need, needs of 0 and of 4,294,967,295,
-negative due times and due times that are all equal.
+negative due times and due times that are all equal. Document 02, §4: "Each job
+gains a maker number, 1 to 16": they have jobs of one maker and of several.
 """
 
 import orders
 
 MEMORIES = ((4,), (0,), (4294967295,), (4, 8), (0, 4294967295), (1, 2, 3),
             (0, 1, 4294967295), (2, 4, 8), (4294967294, 4294967295))
+MAKERS = ((1,), (1, 2), (1, 16), (2, 3), (15, 16), (5, 9, 12), tuple(range(1, 17)))
+NO_MAKERS = (0, 17, 18, 32, 256, 257, 65537, 2147483649, 4294967295)
 
 
 class Draw:
@@ -43,6 +46,23 @@ def need(draw, memories):
     return min(max(near, 0), max(memories))
 
 
+def by_makers(draw, memories, jobs):
+    """The order of these jobs, each with a drawn maker. Makers are drawn beside the
+    rest: no other number, of this order or a later one, hangs on them."""
+    beside = Draw(draw.state + 1)
+    palette = beside.one_of(MAKERS)
+    return orders.order(memories, [(*job, beside.one_of(palette)) for job in jobs])
+
+
+def out_of_range(draw, order):
+    """The order with one or two maker numbers out of range."""
+    jobs = list(order.jobs)
+    for _ in range(draw.between(1, 2)):
+        place = draw.below(order.n)
+        jobs[place] = jobs[place]._replace(maker=draw.one_of(NO_MAKERS))
+    return orders.order(order.memories, jobs)
+
+
 def accepted(draw, m, n, time_most, due_span):
     """An accepted order of m processors and n jobs."""
     palette = draw.one_of(MEMORIES)
@@ -56,7 +76,7 @@ def accepted(draw, m, n, time_most, due_span):
             continue
         jobs.append((draw.between(1, time_most), first + draw.between(0, span),
                      need(draw, memories)))
-    return orders.order(memories, jobs)
+    return by_makers(draw, memories, jobs)
 
 
 def tiny(draw):
@@ -76,7 +96,7 @@ def stepped(draw):
     for _ in range(4):
         memory = draw.one_of(memories)
         jobs.append((draw.between(1, 3), memory // 2 + draw.between(-1, 1), memory))
-    return orders.order(memories, jobs)
+    return by_makers(draw, memories, jobs)
 
 
 def middle(draw):
@@ -89,7 +109,7 @@ def steep(draw):
     count = draw.between(3, 4)
     memories = draw.shuffled(range(1, count + 1))
     needs = [draw.between(1, count) for _ in range(draw.between(count, 8))]
-    return orders.order(memories, [
+    return by_makers(draw, memories, [
         (draw.between(1, 6), 3 * need + draw.between(0, 2), need)
         for need in needs])
 
@@ -99,4 +119,4 @@ def wide(draw, m, n, time_most, due_most):
     memories = [draw.between(0, 4294967295) for _ in range(m)]
     jobs = [(draw.between(1, time_most), draw.between(-due_most, due_most),
              draw.between(0, max(memories))) for _ in range(n)]
-    return orders.order(memories, jobs)
+    return by_makers(draw, memories, jobs)

@@ -1,6 +1,7 @@
 """The examples: each text and its file agree.
 
-Document 01, "Orders to try", and the refusal table's row 12.
+Document 01, "Orders to try", and the refusal table's row 12. Document 02, §4: "In
+document 01's cases the maker is 1."
 
     examples.py --compare       compare the files with the texts
     examples.py --write         make the files anew from the texts

@@ -1,8 +1,9 @@
 """The orders that document 01 names, small orders for each refusal, and orders for
-the lines of document 02, §1, and for its joined rows, §2.
+the lines of document 02, §1, for its joined rows, §2, and for its makers, §4.
 
 Document 01, "Orders to try": "Jobs are (time, due, need)." And the refusal
-table's column "Small example".
+table's column "Small example". Document 02, §4: "In document 01's cases the maker
+is 1." So a job of three numbers is of maker 1; a fourth number is its maker.
 """
 
 from orders import order
@@ -22,6 +23,8 @@ FULL = order(
     [(20 + 37 * i % 90, 30 + 31 * i % 48 * 4, 4096 >> 29 * i % 8)
      for i in range(48)])
 FULL_EQUAL = order([4] * 16, [(1, 99, 0)] * 48)
+# Jobs of makers 1, 2, 2 and 16: 3, 4 and 1 minutes.
+MAKERS = order([8, 4], [(3, 4, 8, 1), (2, 2, 4, 2), (2, 4, 4, 2), (1, 4, 8, 16)])
 
 
 def long_stairs(count):
@@ -82,10 +85,11 @@ JOINED = [
      [(1, 2, 0, 4), (2, 1, 0, 1), (3, 1, 1, 4)]),
 ]
 
-NAMED = {"A": A, "B": B, "C": C, "D": D, "full": FULL}
+NAMED = {"A": A, "B": B, "C": C, "D": D, "full": FULL, "makers": MAKERS}
 
 GOOD = (1, 5, 1)
 BAD_TIME, BAD_DUE, BAD_NEED = (0, 5, 1), (1, 1000001, 1), (1, 5, 9)
+BAD_MAKER, HIGH_MAKER = (1, 5, 1, 0), (1, 5, 1, 17)
 
 
 def at(places, count=9):
@@ -131,6 +135,30 @@ REFUSED = [
     ("need 4294967295, memory 4294967294",
      order([4294967294], [(1, 5, 4294967295)]), 7, 1),
     ("memory 0, need 1", order([0], [(1, 5, 1)]), 7, 1),
+    ("row 13: maker 0", order([8], [BAD_MAKER]), 13, 1),
+    ("row 13: maker 17", order([8], [HIGH_MAKER]), 13, 1),
+    ("maker 257", order([8], [(1, 5, 1, 257)]), 13, 1),
+    ("maker 65537", order([8], [(1, 5, 1, 65537)]), 13, 1),
+    ("maker 2147483649", order([8], [(1, 5, 1, 2147483649)]), 13, 1),
+    ("maker 4294967295 is no -1", order([8], [(1, 5, 1, 4294967295)]), 13, 1),
+    ("1 precedes 13", order([], [BAD_MAKER]), 1, 0),
+    ("2 precedes 13", order([4] * 17, [BAD_MAKER]), 2, 0),
+    ("4 precedes 13 at job 1", order([4], at({1: HIGH_MAKER}, 49)), 4, 0),
+    ("5 at job 9 precedes 13 at job 1",
+     order([8], at({1: BAD_MAKER, 9: BAD_TIME})), 5, 9),
+    ("6 at job 9 precedes 13 at job 1",
+     order([8], at({1: BAD_MAKER, 9: BAD_DUE})), 6, 9),
+    ("13 at job 9 precedes 7 at job 1",
+     order([8], at({1: BAD_NEED, 9: BAD_MAKER})), 13, 9),
+    ("6, 13 and 7 in one job", order([8], at({4: (1, 1000001, 9, 17)})), 6, 4),
+    ("13 and 7 in one job", order([8], at({4: (1, 5, 9, 17)})), 13, 4),
+    ("the first of two jobs in 13, maker 0 and 17",
+     order([8], at({3: BAD_MAKER, 7: HIGH_MAKER})), 13, 3),
+    ("the first of two jobs in 13, maker 17 and 0",
+     order([8], at({3: HIGH_MAKER, 7: BAD_MAKER})), 13, 3),
+    ("the last of 48 jobs in 13", order([8], at({48: HIGH_MAKER}, 48)), 13, 48),
+    ("13 at job 9 among jobs of makers 2 to 16",
+     order([8], [(1, 5, 1, 2 * i if i < 9 else 0) for i in range(1, 10)]), 13, 9),
 ]
 
 # Counts beyond the arrays, which no file can hold.
@@ -163,4 +191,6 @@ LIMITS = [
     ("16 processors, 48 jobs, 48 due times", FULL),
     ("48 jobs of the greatest time, due time earliest",
      order([4], [(100000, -1000000, 4)] * 48)),
+    ("maker 16", order([8], [(1, 5, 1, 16)])),
+    ("a job of each maker", order([8], [(1, 5, 1, i) for i in range(1, 17)])),
 ]

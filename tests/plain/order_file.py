@@ -2,12 +2,15 @@
 
 Document 01: "The order file ends in a trailer of 12 bytes that points back:
 place of the processor list (4 bytes), place of the job list (4), processor
-count (2), job count (2). A processor is 4 bytes; a job is 12: time, due time,
+count (2), job count (2). A processor is 4 bytes; a job is [..] time, due time,
 need, 4 bytes each. All are little-endian; the due time is two's complement.
 Places count from byte 0. The two lists lie in either order, the first from
 byte 0, the second from where the first ends up to the trailer exactly; this
 holds for an empty list too." "The writer puts processors first".
-Row 12: "file under 12 or over 652 bytes, or lists and trailer disagree".
+Document 02, §4: "Each job gains a maker number, 1 to 16, in the record and as 4
+further bytes at the end of each job in the file, whose longest length becomes
+844." So a job is 16 bytes, and row 12 is: file under 12 or over 844 bytes, "or
+lists and trailer disagree".
 """
 
 import struct
@@ -16,8 +19,9 @@ import orders
 
 TRAILER = struct.Struct("<IIHH")
 PROCESSOR = struct.Struct("<I")
-JOB = struct.Struct("<IiI")
-FILE_LEAST, FILE_MOST = 12, 652
+# Time, due time, need, maker.
+JOB = struct.Struct("<IiII")
+FILE_LEAST, FILE_MOST = 12, 844
 REFUSED_12 = orders.Refusal(12, 0)
 
 
@@ -37,6 +41,11 @@ def encode(order, jobs_first=False):
     return lists + TRAILER.pack(*places, order.m, order.n)
 
 
+def of_a_length(count):
+    """Can a file have so many bytes?"""
+    return FILE_LEAST <= count <= FILE_MOST
+
+
 def agree(data):
     """Do lists and trailer agree?"""
     processors_at, jobs_at, m, n = TRAILER.unpack(data[-TRAILER.size:])
@@ -50,7 +59,7 @@ def agree(data):
 
 def lists(data):
     """The order that a file holds, accepted or not, or None where row 12 holds."""
-    if not FILE_LEAST <= len(data) <= FILE_MOST or not agree(data):
+    if not of_a_length(len(data)) or not agree(data):
         return None
     processors_at, jobs_at, m, n = TRAILER.unpack(data[-TRAILER.size:])
     memories = [PROCESSOR.unpack_from(data, processors_at + PROCESSOR.size * i)[0]
@@ -69,7 +78,7 @@ def read(data):
 
 def write(order, room):
     """The writer with a lent buffer of so many bytes: a file or a refusal.
-    It uses rows 1 to 7 and 9; row 9: below "the file's length"."""
+    It uses rows 1 to 7, 13 and 9; row 9: below "the file's length"."""
     refused = orders.refusal(order)
     if refused:
         return refused

@@ -1,9 +1,11 @@
 """An order as text written by a person: one line a processor, one a job.
 
     processor MEMORY
-    job TIME DUE NEED
+    job TIME DUE NEED [MAKER]
 
-Blank lines, and everything from `#` to the end of a line, say nothing.
+Blank lines, and everything from `#` to the end of a line, say nothing. A job
+without MAKER has maker 1, and where the maker is 1 it is left out: document 02,
+§4: "In document 01's cases the maker is 1."
 Document 01: "Jobs and processors carry numbers from 1 in input order." Numbers
 may be out of the order's ranges, so that refused orders can be written too;
 they have to fit the bytes of the order file. "Base ten is meant".
@@ -17,8 +19,13 @@ WORD = (0, orders.WORD_MOST)
 SIGNED = (-2147483648, 2147483647)
 FIELDS = {
     "processor": (("memory", WORD),),
-    "job": (("time", WORD), ("due time", SIGNED), ("need", WORD)),
+    "job": (("time", WORD), ("due time", SIGNED), ("need", WORD),
+            ("maker", WORD)),
 }
+# How many numbers a line may have: the maker of a job may be left out. Then it
+# is the one named here.
+COUNTS = {"processor": (1,), "job": (3, 4)}
+MAKER_LEFT_OUT = orders.MAKER_OF_DOCUMENT_01
 COUNT_MOST = 65535
 
 
@@ -44,12 +51,19 @@ def numbers(words, line):
         raise TextError(f"line {line}: a line begins with 'processor' or 'job', "
                         f"not '{kind}'")
     fields = FIELDS[kind]
-    if len(given) != len(fields):
+    if len(given) not in COUNTS[kind]:
         wanted = ", ".join(name for name, _ in fields)
-        raise TextError(f"line {line}: after '{kind}' stand {len(fields)} "
+        told = " or ".join(map(str, COUNTS[kind]))
+        raise TextError(f"line {line}: after '{kind}' stand {told} "
                         f"({wanted}), not {len(given)}")
     return [number(word, name, limits, line)
             for word, (name, limits) in zip(given, fields)]
+
+
+def job(time, due, need, maker=None):
+    if maker is None:
+        maker = MAKER_LEFT_OUT
+    return orders.Job(time, due, need, maker)
 
 
 def parse(text):
@@ -63,7 +77,7 @@ def parse(text):
         if words[0] == "processor":
             memories.append(values[0])
         else:
-            jobs.append(values)
+            jobs.append(job(*values))
     for name, items in (("processors", memories), ("jobs", jobs)):
         if len(items) > COUNT_MOST:
             raise TextError(f"{len(items)} {name} do not fit the file: "
@@ -71,10 +85,15 @@ def parse(text):
     return orders.order(memories, jobs)
 
 
+def job_line(one):
+    numbers = one[:3] if one.maker == MAKER_LEFT_OUT else one
+    return " ".join(map(str, ("job", *numbers)))
+
+
 def lines(order):
     """The lines of an order, processors first."""
     return ([f"processor {memory}" for memory in order.memories]
-            + [f"job {job.time} {job.due} {job.need}" for job in order.jobs])
+            + [job_line(one) for one in order.jobs])
 
 
 def text(order):

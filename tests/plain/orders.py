@@ -1,4 +1,4 @@
-"""An order, its limits, the end of a job, and refusals 1 to 7.
+"""An order, its limits, the end of a job, and refusals 1 to 7 and 13.
 
 Document 01: "A processor has a memory, 0 to 4,294,967,295. There are 1 to 16."
 "A job has a time of 1 to 100,000, a due time of -1,000,000 to 1,000,000 and a
@@ -7,6 +7,9 @@ memory is at least its need." "A bound is a whole number of -10,000,000 to
 10,000,000." "Jobs and processors carry numbers from 1 in input order."
 Document 02, §3: "The due minute is included." "A job's end is due time plus
 bound plus 1 from here on, in plans, checks and staircases alike."
+Document 02, §4: "Each job gains a maker number, 1 to 16, in the record". "In
+document 01's cases the maker is 1. A maker number out of range is 13, right
+after 6 in the order".
 """
 
 from collections import namedtuple
@@ -17,8 +20,13 @@ JOBS_MOST = 48
 TIME_LEAST, TIME_MOST = 1, 100000
 DUE_LEAST, DUE_MOST = -1000000, 1000000
 BOUND_LEAST, BOUND_MOST = -10000000, 10000000
+MAKER_LEAST, MAKER_MOST = 1, 16
+# "In document 01's cases the maker is 1": so it is of a job given as (time, due,
+# need).
+MAKER_OF_DOCUMENT_01 = 1
 
-Job = namedtuple("Job", "time due need")
+Job = namedtuple("Job", "time due need maker",
+                 defaults=(MAKER_OF_DOCUMENT_01,))
 Order = namedtuple("Order", "memories jobs m n")
 Refusal = namedtuple("Refusal", "number carried")
 
@@ -87,13 +95,19 @@ def due_not_in_range(an_order):
         an_order, lambda job: not DUE_LEAST <= job.due <= DUE_MOST)
 
 
+def maker_not_in_range(an_order):
+    return first_job(
+        an_order, lambda job: not MAKER_LEAST <= job.maker <= MAKER_MOST)
+
+
 def fits_no_processor(an_order):
     return first_job(an_order, lambda job: not any(
         fits(job, memory) for memory in an_order.memories))
 
 
-# Rows 1 to 7 of the refusal table, each with its condition. A condition gives
-# the number that the refusal carries (a job's, else 0), or None.
+# The rows of the refusal table that are about an order, each with its
+# condition, in the order in which they are judged: 13 stands "right after 6". A
+# condition gives the number that the refusal carries (a job's, else 0), or None.
 ROWS = (
     (1, no_processor),
     (2, over_16_processors),
@@ -101,12 +115,13 @@ ROWS = (
     (4, over_48_jobs),
     (5, time_not_in_range),
     (6, due_not_in_range),
+    (13, maker_not_in_range),
     (7, fits_no_processor),
 )
 
 
 def refusal(an_order):
-    """None if the order is accepted, else "the lowest applicable number"."""
+    """None if the order is accepted, else the first row that applies."""
     for number, condition in ROWS:
         carried = condition(an_order)
         if carried is not None:

@@ -4,7 +4,7 @@ Document 01: "The plan check takes rows in any order and answers yes or no; a
 malformed row gives no." "It takes at most 3,024 rows; an empty list is
 answered no. Rows are lent as numbers, four to a row: one to three left over at
 the end are, in the check, one more row and a malformed one". The check uses
-rows 1 to 8 and 11 of the refusal table.
+rows 1 to 8 and 11 of the refusal table, with document 02's 13 right after 6.
 """
 
 import orders
@@ -19,7 +19,7 @@ def rows(numbers):
 
 
 def refusal(order, bound, numbers):
-    """Rows 1 to 7, then 8, then 11."""
+    """Rows 1 to 7 and 13, then 8, then 11."""
     refused = orders.refusal(order)
     if refused:
         return refused

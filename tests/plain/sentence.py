@@ -109,7 +109,7 @@ def composed(order, bound, given):
 
 
 def refusal(order, bound):
-    """Rows 1 to 7, then 8."""
+    """Rows 1 to 7 and 13, then 8."""
     refused = orders.refusal(order)
     if refused:
         return refused

@@ -11,14 +11,21 @@ A stream is a sequence of records; every number takes 4 bytes, little-endian
     5  write    ORDER, room (bytes of the lent buffer)
     6  compose  ORDER, bound, REASON, room (bytes of the lent buffer)
     7  parse    ORDER, bound, F, then the F bytes of a line
+    8  book     BOOK, K (from 1), then K calls
 
-ORDER is m, n, then min(m, 16) memories, then min(n, 48) jobs as time, due, need.
-A count beyond its array stands for the list of that many: the given ones, then
-zeros. Document 01: "All are little-endian; the due time is two's complement."
+ORDER is m, n, then min(m, 16) memories, then min(n, 48) jobs as time, due, need,
+maker. A count beyond its array stands for the list of that many: the given ones,
+then zeros. Document 01: "All are little-endian; the due time is two's
+complement."
 
 REASON is kind, which, time, then 16 due times. Kind 1 is a job (which is its
 number, time its time), 2 a staircase (which is its count, time is not looked at),
 any other none.
+
+BOOK is sixteen numbers, the counts of makers 1 to 16. A call is which (1 least
+lateness, 2 planning at a bound), ORDER, bound (not looked at by the least
+lateness), room (numbers). Document 02, §4: "each call being given the book that
+the last one gave back"; the first is given BOOK.
 """
 
 import struct
@@ -27,13 +34,18 @@ from collections import namedtuple
 import orders
 
 KINDS = {"read": 1, "check": 2, "least": 3, "plan": 4, "write": 5, "compose": 6,
-         "parse": 7}
+         "parse": 7, "book": 8}
 # One for each class that there can be.
 DUES = orders.PROCESSORS_MOST
+# One count for each maker.
+COUNTS = orders.MAKER_MOST
 WORD_COUNT = 4294967296
 
-# `values` are the arguments of the entry point, as answers.py takes them.
+# `values` are the arguments of the entry point, as answers.py takes them; of
+# `book` they are the book and its calls, as book.told takes them.
 Record = namedtuple("Record", "kind values")
+Call = namedtuple("Call", "which order bound room")
+LEAST, PLAN = 1, 2
 
 
 def words(*numbers):
@@ -49,12 +61,23 @@ def pack_order(order):
     return words(order.m, order.n, *memories, *(x for job in jobs for x in job))
 
 
+def pack_call(call):
+    assert call.which in (LEAST, PLAN)
+    return (words(call.which) + pack_order(call.order)
+            + words(call.bound, call.room))
+
+
 def pack(record):
     """The bytes of one record."""
     head = words(KINDS[record.kind])
     if record.kind == "read":
         data, = record.values
         return head + words(len(data)) + data
+    if record.kind == "book":
+        book, calls = record.values
+        assert len(book) == COUNTS and calls
+        return (head + words(*book, len(calls))
+                + b"".join(pack_call(call) for call in calls))
     order, *numbers = record.values
     if record.kind == "check":
         bound, rows = numbers
@@ -92,9 +115,12 @@ class Source:
     def order(self):
         m, n = self.word(), self.word()
         memories = [self.word() for _ in range(min(m, orders.PROCESSORS_MOST))]
-        jobs = [(self.word(), self.signed(), self.word())
+        jobs = [(self.word(), self.signed(), self.word(), self.word())
                 for _ in range(min(n, orders.JOBS_MOST))]
         return orders.order(memories, jobs, m, n)
+
+    def call(self):
+        return Call(self.word(), self.order(), self.signed(), self.word())
 
     def data_of_length(self):
         length = self.word()
@@ -104,6 +130,9 @@ class Source:
     def values(self, kind):
         if kind == "read":
             return (self.data_of_length(),)
+        if kind == "book":
+            book = tuple(self.word() for _ in range(COUNTS))
+            return book, tuple(self.call() for _ in range(self.word()))
         order = self.order()
         if kind == "check":
             bound, count = self.signed(), self.word()

@@ -3,11 +3,18 @@
 import unittest
 
 import answers
+import draw
+import flow
+import join
 import known_orders
+import least
+import order_file
 import orders
 
 A, B, C = known_orders.A, known_orders.B, known_orders.C
 BAD = orders.order([8], [known_orders.BAD_NEED])
+# 13 at job 2, and 7 at job 1.
+NO_MAKER = orders.order([8], [known_orders.BAD_NEED, known_orders.HIGH_MAKER])
 
 
 class Answers(unittest.TestCase):
@@ -56,10 +63,44 @@ class Answers(unittest.TestCase):
     def test_forms(self):
         self.assertEqual(answers.check(C, -1, [1, 1, 0, 3]), ["yes"])
         self.assertEqual(answers.check(C, -1, []), ["no"])
-        self.assertEqual(answers.write(C, 28), [
-            "file 28 04000000030000000a00000004000000000000000400000001000100"])
-        self.assertEqual(answers.read(bytes.fromhex(answers.write(C, 28)[0][8:])),
-                         ["order 1 1", "processor 4", "job 3 10 4"])
+        self.assertEqual(answers.write(C, 31), ["refused 9 0"])
+        self.assertEqual(answers.write(C, 32), [
+            "file 32 04000000030000000a0000000400000001000000"
+            "000000000400000001000100"])
+        self.assertEqual(answers.read(bytes.fromhex(answers.write(C, 32)[0][8:])),
+                         ["order 1 1", "processor 4", "job 3 10 4 1"])
+        data = bytes.fromhex(answers.write(known_orders.MAKERS, 84)[0][8:])
+        self.assertEqual(answers.read(data), [
+            "order 2 4", "processor 8", "processor 4", "job 3 4 8 1", "job 2 2 4 2",
+            "job 2 4 4 2", "job 1 4 8 16"])
+
+    def test_13_by_every_entry_point(self):
+        data = order_file.encode(NO_MAKER)
+        for lines in (answers.read(data), answers.check(NO_MAKER, -1, [1, 1, 0, 1]),
+                      answers.write(NO_MAKER, 900), answers.write(NO_MAKER, 0),
+                      answers.least_lateness(NO_MAKER, 40),
+                      answers.least_lateness(NO_MAKER, 0),
+                      answers.plan(NO_MAKER, 5, 40),
+                      answers.plan(NO_MAKER, 10000001, 0),
+                      answers.try_bound(NO_MAKER, 5),
+                      answers.compose(NO_MAKER, 5, 0, 0, 0, (0,) * 16, 0),
+                      answers.parse(NO_MAKER, 5, b"")):
+            self.assertEqual(lines, ["refused 13 2"])
+
+    def test_makers_change_no_plan(self):
+        of = draw.Draw(81)
+        for _ in range(200):
+            order = of.one_of((draw.tiny, draw.crowded, draw.stepped))(of)
+            other = orders.order(order.memories, [
+                job._replace(maker=of.between(1, 16)) for job in order.jobs])
+            bound = least.least(order) - of.below(2)
+            self.assertEqual(answers.least_lateness(other, 400),
+                             answers.least_lateness(order, 400))
+            self.assertEqual(answers.try_bound(other, bound),
+                             answers.try_bound(order, bound))
+            if flow.meets(order, bound):
+                self.assertEqual(join.plan(other, bound, flow.amounts(other, bound)),
+                                 join.plan(order, bound, flow.amounts(order, bound)))
 
     def test_try_bound(self):
         for order, bound, lines in (

@@ -44,7 +44,8 @@ class Wrap(unittest.TestCase):
             (4, 3, 10, 12)])
 
     def test_ties_in_input_order(self):
-        order = orders.order([4, 4], [(1, 4, 2), (1, 4, 3), (1, 4, 3), (1, 4, 2)])
+        order = orders.order([4, 4], [(1, 4, 2, 3), (1, 4, 3, 2), (1, 4, 3, 1),
+                                      (1, 4, 2, 1)])
         self.assertEqual(
             wrap.layout(order, 0, 2, {1: 1, 2: 1, 3: 1, 4: 1}),
             [(2, 1, 0, 1), (3, 1, 1, 2), (1, 2, 0, 1), (4, 2, 1, 2)])

@@ -146,13 +146,13 @@ class Composing(unittest.TestCase):
                     self.assertEqual(answer, wanted)
         for order, bound, given in ((C, -9, NONE), (C, -8, job(1, 3)),
                                     (B, -1, stairs(4))):
-            for room in (0, 1, 700):
+            for room in (0, 1, 900):
                 self.assertEqual(sentence.compose(order, bound, given, room), "")
 
     def test_refusals(self):
         for _, order, number, carried in (known_orders.REFUSED
                                           + known_orders.REFUSED_COUNTS):
-            for bound, room in ((-1, 700), (10000001, 0)):
+            for bound, room in ((-1, 900), (10000001, 0)):
                 for given in (NONE, job(1, 1), stairs(5)):
                     self.assertEqual(sentence.compose(order, bound, given, room),
                                      (number, carried))

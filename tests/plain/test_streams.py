@@ -19,6 +19,8 @@ def stored():
         count = 1
         if lines[0].startswith("order "):
             count += sum(map(int, lines[0].split()[1:]))
+        elif record.kind == "book":
+            count = 2 * len(record.values[1])
         told.append((record, lines[:count]))
         lines = lines[count:]
     assert not lines
@@ -36,19 +38,19 @@ class Form(unittest.TestCase):
         self.assertEqual(stream_form.stream(stream_form.unpack(data)), data)
 
     def test_by_hand(self):
-        order = orders.order([8, 4], [(3, -1, 8)])
+        order = orders.order([8, 4], [(3, -1, 8, 16)])
         record = stream_form.Record("check", (order, -2, [1, 1, 0]))
         self.assertEqual(stream_form.stream([record]).hex(" ", 4), (
-            "02000000 02000000 01000000 08000000 04000000 03000000 ffffffff "
-            "08000000 feffffff 03000000 01000000 01000000 00000000 00000000"))
+            "02000000 02000000 01000000 08000000 04000000 03000000 ffffffff 08000000 "
+            "10000000 feffffff 03000000 01000000 01000000 00000000 00000000"))
         record = stream_form.Record("read", (b"\x01\x02\x03",))
         self.assertEqual(stream_form.stream([record]).hex(),
                          "01000000" "03000000" "010203" "00000000")
         many = orders.order([4] * 17, [], m=4294967295)
-        record = stream_form.Record("write", (many, 700))
+        record = stream_form.Record("write", (many, 900))
         self.assertEqual(stream_form.pack(record).hex(),
                          "05000000" "ffffffff" "00000000" + "04000000" * 16
-                         + "bc020000")
+                         + "84030000")
         record = stream_form.Record("least", (orders.order([], []), 4))
         self.assertEqual(stream_form.pack(record).hex(" ", 4),
                          "03000000 00000000 00000000 04000000")
@@ -56,13 +58,25 @@ class Form(unittest.TestCase):
         self.assertEqual(stream_form.pack(record).hex(" ", 4),
                          "04000000 00000000 00000000 ffffffff 04000000")
         record = stream_form.Record(
-            "compose", (orders.order([], []), -1, 2, 1, 0, (-5,) + (0,) * 15, 700))
+            "compose", (orders.order([], []), -1, 2, 1, 0, (-5,) + (0,) * 15, 900))
         self.assertEqual(stream_form.pack(record).hex(" ", 4), (
             "06000000 00000000 00000000 ffffffff 02000000 01000000 00000000 "
-            "fbffffff " + "00000000 " * 15 + "bc020000"))
+            "fbffffff " + "00000000 " * 15 + "84030000"))
         record = stream_form.Record("parse", (orders.order([], []), -1, b"job"))
         self.assertEqual(stream_form.pack(record).hex(), (
             "07000000" "00000000" "00000000" "ffffffff" "03000000" "6a6f62"))
+
+    def test_book_by_hand(self):
+        order = orders.order([8], [(3, -1, 8, 16)])
+        calls = (stream_form.Call(stream_form.LEAST, order, -2, 4),
+                 stream_form.Call(stream_form.PLAN, orders.order([], []), 5, 0))
+        record = stream_form.Record("book", (tuple(range(16, 0, -1)), calls))
+        self.assertEqual(stream_form.pack(record).hex(" ", 4), (
+            "08000000 10000000 0f000000 0e000000 0d000000 0c000000 0b000000 0a000000 "
+            "09000000 08000000 07000000 06000000 05000000 04000000 03000000 02000000 "
+            "01000000 02000000 01000000 01000000 01000000 08000000 03000000 ffffffff "
+            "08000000 10000000 feffffff 04000000 02000000 00000000 00000000 05000000 "
+            "00000000"))
 
     def test_sizes(self):
         data = cases.STORED["stdin"].read_bytes()
@@ -75,13 +89,21 @@ class Form(unittest.TestCase):
 
 class Stored(unittest.TestCase):
     def test_every_refusal_occurs(self):
-        for kinds, numbers in (({"read", "check", "write"}, {*range(1, 10), 11, 12}),
-                               ({"least", "plan"}, {*range(1, 10)}),
-                               ({"compose"}, {*range(1, 10)}),
-                               ({"parse"}, {*range(1, 9)})):
-            told = {int(lines[0].split()[1]) for record, lines in stored()
-                    if record.kind in kinds and lines[0].startswith("refused")}
-            self.assertEqual(told, numbers)
+        told = {kind: set() for kind in stream_form.KINDS}
+        for record, lines in stored():
+            told[record.kind] |= {int(line.split()[1]) for line in lines
+                                  if line.startswith("refused")}
+        of_order = {*range(1, 8), 13}
+        self.assertEqual(told, {
+            "read": {*of_order, 12}, "check": {*of_order, 8, 11},
+            "write": {*of_order, 9}, "least": {*of_order, 9},
+            "plan": {*of_order, 8, 9}, "compose": {*of_order, 8, 9},
+            "parse": {*of_order, 8}, "book": {*of_order, 8, 9, 14}})
+
+    def test_a_file_of_over_844_bytes(self):
+        lengths = {len(record.values[0]) for record, _ in stored()
+                   if record.kind == "read"}
+        self.assertTrue({652, 653, 844, 845, 846, 848, 900} <= lengths)
 
     def test_tiny_cases_by_search(self):
         seen = {"least": 0, "plan": 0}
@@ -131,12 +153,42 @@ class Stored(unittest.TestCase):
                 read, other = read + (line != "none"), other + (line == "none")
         self.assertGreater(min(composed, empty, read, other), 90)
 
+    def test_books(self):
+        # Each count by itself: what was handed in, and the times of all jobs of the
+        # maker in the orders of which a plan was written.
+        accepted = refused = 0
+        for record, lines in stored():
+            if record.kind != "book":
+                continue
+            given, calls = record.values
+            written = []
+            for call, line, book in zip(calls, lines[::2], lines[1::2]):
+                if line.split()[0] in ("least", "meets"):
+                    written += call.order.jobs
+                    accepted += 1
+                else:
+                    refused += 1
+                counts = [int(word) for word in book.split()[1:]]
+                self.assertEqual(len(counts), 16)
+                for maker, count in enumerate(counts, 1):
+                    self.assertEqual(count, given[maker - 1] + sum(
+                        job.time for job in written if job.maker == maker))
+                self.assertEqual(sum(counts) - sum(given),
+                                 sum(job.time for job in written))
+                if line.startswith("refused 14"):
+                    self.assertEqual(line, "refused 14 0")
+        self.assertGreater(min(accepted, refused), 200)
+
     def test_rooms_and_lengths_in_reach(self):
         for record, _ in stored():
             if record.kind in ("read", "parse"):
-                self.assertLessEqual(len(record.values[-1]), 700)
+                self.assertLessEqual(len(record.values[-1]), 900)
             elif record.kind in ("write", "compose"):
-                self.assertLessEqual(record.values[-1], 700)
+                self.assertLessEqual(record.values[-1], 900)
+            elif record.kind == "book":
+                for call in record.values[1]:
+                    self.assertLessEqual(call.room, 12104)
+                    self.assertGreaterEqual(call.room, 0)
             elif record.kind == "check":
                 self.assertLessEqual(len(record.values[2]), 12104)
             else:

@@ -1,5 +1,5 @@
 //! Files that are and that are not order files: "file under 12 or over 652 bytes, or lists and
-//! trailer disagree".
+//! trailer disagree", "whose longest length becomes 844".
 
 use super::Random;
 use crate::independent::{write, Order};
@@ -31,7 +31,7 @@ pub fn file_of(random: &mut Random, order: &Order) -> Vec<u8> {
 /// A file that is damaged, or only looks so.
 pub fn doubtful(random: &mut Random, order: &Order) -> Vec<u8> {
     let mut file = file_of(random, order);
-    match random.below(13) {
+    match random.below(14) {
         0 => flip(random, &mut file, 0),
         1 => flip_in_trailer(random, &mut file),
         2 => file.truncate(random.below(file.len() + 1)),
@@ -44,6 +44,7 @@ pub fn doubtful(random: &mut Random, order: &Order) -> Vec<u8> {
         9 => file = empty_list(random),
         10 => file = of_length(random),
         11 if random.once_in(8) => lengthen_far(&mut file),
+        12 => file = without_makers(order),
         _ => file = any_bytes(random),
     }
     file
@@ -60,7 +61,7 @@ fn flip_in_trailer(random: &mut Random, file: &mut [u8]) {
 }
 
 fn lengthen_front(random: &mut Random, file: &mut Vec<u8>) {
-    let more = random.pick(&[1, 4, 12]);
+    let more = random.pick(&[1, 4, 12, 16]);
     file.splice(0..0, vec![0; more]);
 }
 
@@ -73,7 +74,7 @@ fn swap_places(file: &mut [u8]) {
 fn change_place(random: &mut Random, file: &mut [u8]) {
     let at = file.len() - TRAILER + random.pick(&[0, 4]);
     let length = file.len() as u32;
-    let place = random.pick(&[0, 1, 4, 12, length - 12, length, u32::MAX, u32::MAX - 3]);
+    let place = random.pick(&[0, 1, 4, 12, 16, length - 12, length, u32::MAX, u32::MAX - 3]);
     file[at..at + 4].copy_from_slice(&place.to_le_bytes());
 }
 
@@ -86,32 +87,36 @@ fn change_count(random: &mut Random, file: &mut [u8]) {
 
 /// A file without processors, without jobs or without both, and with any of several places.
 fn empty_list(random: &mut Random) -> Vec<u8> {
-    let processors = random.pick(&[0, 0, 1, 17, 160, 161]);
+    let processors = random.pick(&[0, 0, 1, 17, 208, 209]);
     let jobs = match processors {
-        0 => random.pick(&[0, 1, 48, 49, 53, 54]),
+        0 => random.pick(&[0, 1, 48, 49, 52, 53]),
         _ => 0,
     };
-    let ends = [0, 4 * processors, 12 * jobs, 4];
+    let ends = [0, 4 * processors, 16 * jobs, 12 * jobs, 4];
     let places = [random.pick(&ends), random.pick(&ends)];
     listed(random, places, processors, jobs)
 }
 
-/// A file whose lists and trailer agree and whose length is near 652, or one of up to 14 bytes.
+/// A file whose lists and trailer agree and whose length is near 844 or 652, or one of up to 14
+/// bytes.
 fn of_length(random: &mut Random) -> Vec<u8> {
     if random.once_in(3) {
         let length = random.below(15);
         let byte = random.pick(&[0, 0, 1]);
         return vec![byte; length];
     }
-    let (processors, jobs) =
-        random.pick(&[(16, 48), (17, 48), (1, 53), (4, 53), (157, 1), (160, 0)]);
-    listed(random, [0, 4 * processors], processors, jobs)
+    let exact = random.pick(&[(16, 48), (4, 51), (204, 1), (208, 0), (16, 36)]);
+    let longer = random.pick(&[(17, 48), (1, 52), (17, 36)]);
+    let (processors, jobs) = random.pick(&[(16, 48), exact, exact, longer]);
+    let first = [0, 4 * processors];
+    let places = random.pick(&[first, first, [16 * jobs, 0], [12 * jobs, 0]]);
+    listed(random, places, processors, jobs)
 }
 
 /// Lists of any numbers, small ones often, and a trailer.
 fn listed(random: &mut Random, places: [u32; 2], processors: u32, jobs: u32) -> Vec<u8> {
     let most = random.pick(&[1, 9, u32::MAX.into()]);
-    let mut file: Vec<u8> = (0..processors + 3 * jobs)
+    let mut file: Vec<u8> = (0..processors + 4 * jobs)
         .flat_map(|_| (random.between(1, most) as u32).to_le_bytes())
         .collect();
     file.extend(places[0].to_le_bytes());
@@ -121,12 +126,21 @@ fn listed(random: &mut Random, places: [u32; 2], processors: u32, jobs: u32) -> 
     file
 }
 
+/// The order's file with 12 bytes to a job.
+fn without_makers(order: &Order) -> Vec<u8> {
+    let written = write(order);
+    let (jobs_at, trailer_at) = (4 * order.memories.len(), written.len() - TRAILER);
+    let jobs = written[jobs_at..trailer_at].chunks_exact(16);
+    let jobs: Vec<&[u8]> = jobs.map(|job| &job[..12]).collect();
+    [&written[..jobs_at], &jobs.concat(), &written[trailer_at..]].concat()
+}
+
 /// A length that looks right to whoever counts in 16 bits.
 fn lengthen_far(file: &mut Vec<u8>) {
     file.resize(file.len() + 65_536, 0);
 }
 
 fn any_bytes(random: &mut Random) -> Vec<u8> {
-    let length = random.below(700);
+    let length = random.below(900);
     (0..length).map(|_| random.number() as u8).collect()
 }

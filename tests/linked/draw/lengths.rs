@@ -2,7 +2,7 @@
 //! 65,536 look like none to whoever counts in 8 or 16 bits.
 
 use super::Random;
-use crate::independent::MOST_ROWS;
+use crate::independent::{MAKERS, MOST_ROWS};
 use crate::library::{Function, REASON_NUMBERS};
 
 /// Mostly enough room for the answer: exactly, or more; sometimes none, or one number too few.
@@ -39,7 +39,7 @@ pub fn file_room(random: &mut Random, exact: usize) -> usize {
         0 => exact - 1,
         1 => random.below(exact),
         2..=3 => exact + 1 + random.below(20),
-        4 => exact.max(652),
+        4 => exact.max(844),
         _ => exact,
     }
 }
@@ -56,6 +56,19 @@ pub fn line_room(random: &mut Random, exact: usize) -> usize {
         7 => 541,
         8 => random.pick(&[256, 256, 256, 65_536]),
         _ => exact,
+    }
+}
+
+/// Mostly the counts of a book and no more; sometimes none, or some too few, or others after them.
+pub fn book_length(random: &mut Random) -> usize {
+    match random.below(32) {
+        0 => 0,
+        1 => MAKERS - 1,
+        2 => random.below(MAKERS),
+        3..=8 => MAKERS + 1,
+        9..=11 => MAKERS + random.below(20),
+        12 => random.pick(&[256, 256, 256, 65_536]),
+        _ => MAKERS,
     }
 }
 

@@ -1,6 +1,7 @@
 //! Accepted orders in families, each with what it is apt to show. Small ones are many; large ones
 //! have up to 16 processors and 48 jobs.
 
+use super::makers;
 use super::packed::packed;
 use super::Random;
 use crate::independent::{Job, Order};
@@ -148,8 +149,10 @@ fn drawn(random: &mut Random, shape: Shape) -> Order {
         time: within(random, shape.times) as u32,
         due: within(random, shape.dues) as i32,
         need: need(random, &memories),
+        maker: 1,
     };
-    let jobs = (0..jobs).map(job).collect();
+    let mut jobs: Vec<Job> = (0..jobs).map(job).collect();
+    makers::give(random, &mut jobs);
     Order { memories, jobs }
 }
 

@@ -3,7 +3,7 @@
 //! class's time. One minute less and the staircase of these times is overfull, often no shorter
 //! one.
 
-use super::Random;
+use super::{makers, Random};
 use crate::independent::{Job, Order};
 
 /// A packed order with up to so many processors and jobs.
@@ -24,6 +24,7 @@ pub fn packed(random: &mut Random, most_processors: usize, most_jobs: usize) -> 
     jobs.truncate(most_jobs);
     let later = random.between(-30, 30) as i32;
     jobs.iter_mut().for_each(|job| job.due += later);
+    makers::give(random, &mut jobs);
     let memory = |class: &usize| 10 * (classes - class) as u32;
     let memories = of_processors.iter().map(memory).collect();
     Order { memories, jobs }
@@ -47,6 +48,7 @@ fn fill(random: &mut Random, class: usize, times: &[i64], jobs: &mut Vec<Job>) {
             time: time as u32,
             due: due as i32,
             need: random.between(above_next, above_next + 9) as u32,
+            maker: 1,
         });
     }
 }

@@ -29,13 +29,15 @@ fn takes(trial: &mut Trial, order: &Order, bound: i32, rows: &[u32], right: bool
 fn met(trial: &mut Trial, order: &Order, bound: i32) {
     let call = on(&mut trial.random, order).at(bound);
     case(trial, Function::Plan, call.clone(), 0, &[]);
+    case(trial, Function::BookPlan, call.clone(), 0, &[]);
     case(trial, Function::Reason, call, 0, &[0; REASON_NUMBERS]);
 }
 
 /// A bound that is met and is the least.
 fn least(trial: &mut Trial, order: &Order, bound: i32) {
     let call = on(&mut trial.random, order);
-    case(trial, Function::Least, call, 0, &[bound]);
+    case(trial, Function::Least, call.clone(), 0, &[bound]);
+    case(trial, Function::BookLeast, call, 0, &[bound]);
     met(trial, order, bound);
 }
 
@@ -43,6 +45,7 @@ fn least(trial: &mut Trial, order: &Order, bound: i32) {
 fn tight(trial: &mut Trial, order: &Order, bound: i32, reason: &Reason, line: &str) {
     let call = on(&mut trial.random, order).at(bound);
     case(trial, Function::Plan, call.clone(), 10, &[]);
+    case(trial, Function::BookPlan, call.clone(), 10, &[]);
     case(trial, Function::Reason, call, 0, &numbers_of(reason));
     composes(trial, order, bound, reason, line);
 }

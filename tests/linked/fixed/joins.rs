@@ -81,6 +81,8 @@ fn rows_are(trial: &mut Trial, order: Order, rows: &[Row]) {
     let answers = [
         (Function::Least, vec![-1, count]),
         (Function::Plan, vec![count]),
+        (Function::BookLeast, vec![-1, count]),
+        (Function::BookPlan, vec![count]),
     ];
     for (function, answer) in answers {
         let call = on(&mut trial.random, &order).at(-1);

@@ -1,7 +1,7 @@
 //! The refusal table's rows 1 to 7: "The lowest applicable number is given"; rows 5 to 7 carry "the
-//! first such job".
+//! first such job". "A maker number out of range is 13, right after 6 in the order".
 
-use super::{Job, Order, Refusal};
+use super::{Job, Order, Refusal, MAKERS};
 use std::ops::RangeInclusive;
 
 const TIMES: RangeInclusive<u32> = 1..=100_000;
@@ -18,9 +18,11 @@ pub fn judge(order: &Order) -> Option<Refusal> {
     if let Some(&(number, _)) = about_counts.iter().find(|(_, holds)| *holds) {
         return Some(Refusal { number, job: 0 });
     }
+    let made = |job: &Job| (1..=MAKERS).contains(&(job.maker as usize));
     let fits = |job: &Job| order.memories.iter().any(|&memory| memory >= job.need);
     first(order, 5, |job| !TIMES.contains(&job.time))
         .or_else(|| first(order, 6, |job| !DUES.contains(&job.due)))
+        .or_else(|| first(order, 13, |job| !made(job)))
         .or_else(|| first(order, 7, |job| !fits(job)))
 }
 

@@ -1,13 +1,15 @@
 //! The order file: "ends in a trailer of 12 bytes that points back", "The two lists lie in either
 //! order, the first from byte 0, the second from where the first ends up to the trailer exactly".
+//! A job has its maker number "as 4 further bytes at the end".
 
 use super::{judge, Job, Order, Refusal};
 use std::ops::RangeInclusive;
 
 const TRAILER: usize = 12;
-const LENGTHS: RangeInclusive<usize> = 12..=652;
+const JOB: usize = 16;
+const LENGTHS: RangeInclusive<usize> = 12..=844;
 
-/// The order of a file, or refusal 12, then 1 to 7.
+/// The order of a file, or refusal 12, then 1 to 6, 13, 7.
 pub fn read(file: &[u8]) -> Result<Order, Refusal> {
     let bad_file = Refusal { number: 12, job: 0 };
     let order = lists(file).ok_or(bad_file)?;
@@ -17,8 +19,8 @@ pub fn read(file: &[u8]) -> Result<Order, Refusal> {
     }
 }
 
-/// The two lists of a file, or none where they and the trailer disagree.
-fn lists(file: &[u8]) -> Option<Order> {
+/// The two lists of a file, accepted or not, or none where they and the trailer disagree.
+pub fn lists(file: &[u8]) -> Option<Order> {
     if !LENGTHS.contains(&file.len()) {
         return None;
     }
@@ -26,7 +28,7 @@ fn lists(file: &[u8]) -> Option<Order> {
     let processors_at = number(&trailer[0..]) as usize;
     let jobs_at = number(&trailer[4..]) as usize;
     let processors_length = 4 * count(&trailer[8..]);
-    let jobs_length = 12 * count(&trailer[10..]);
+    let jobs_length = JOB * count(&trailer[10..]);
     let processors_first = processors_at == 0 && jobs_at == processors_length;
     let jobs_first = jobs_at == 0 && processors_at == jobs_length;
     let filled = processors_length + jobs_length + TRAILER == file.len();
@@ -37,7 +39,7 @@ fn lists(file: &[u8]) -> Option<Order> {
     let jobs = &file[jobs_at..jobs_at + jobs_length];
     Some(Order {
         memories: processors.chunks_exact(4).map(number).collect(),
-        jobs: jobs.chunks_exact(12).map(job).collect(),
+        jobs: jobs.chunks_exact(JOB).map(job).collect(),
     })
 }
 
@@ -52,6 +54,7 @@ pub fn write(order: &Order) -> Vec<u8> {
         file.extend(job.time.to_le_bytes());
         file.extend(job.due.to_le_bytes());
         file.extend(job.need.to_le_bytes());
+        file.extend(job.maker.to_le_bytes());
     }
     file.extend(0_u32.to_le_bytes());
     file.extend(jobs_at.to_le_bytes());
@@ -65,6 +68,7 @@ fn job(bytes: &[u8]) -> Job {
         time: number(&bytes[0..]),
         due: number(&bytes[4..]) as i32,
         need: number(&bytes[8..]),
+        maker: number(&bytes[12..]),
     }
 }
 

@@ -56,7 +56,7 @@ pub const WRONG: &[Wrong] = &[
         Function::Plan,
         "adds the due minute to an end cut off at 0",
         |call| {
-            planned(call, |order, bound| {
+            planned(Function::Plan, call, |order, bound| {
                 independent::plan(&cut_off(order, bound.into()), bound)
             })
         },
@@ -111,6 +111,24 @@ pub const LIBRARIES: &[(&str, Library)] = &[
         Library {
             least: least::<EARLY>,
             plan: plan::<EARLY>,
+            book_least: book_least::<EARLY>,
+            book_plan: book_plan::<EARLY>,
+            ..MODEL
+        },
+    ),
+    (
+        "leaves out the due minute in booked plans alone",
+        Library {
+            book_least: book_least::<EARLY>,
+            book_plan: book_plan::<EARLY>,
+            ..MODEL
+        },
+    ),
+    (
+        "adds the due minute twice in booked plans alone",
+        Library {
+            book_least: book_least::<LATE>,
+            book_plan: book_plan::<LATE>,
             ..MODEL
         },
     ),
@@ -119,6 +137,8 @@ pub const LIBRARIES: &[(&str, Library)] = &[
         Library {
             least: MODEL.least,
             plan: MODEL.plan,
+            book_least: MODEL.book_least,
+            book_plan: MODEL.book_plan,
             check: MODEL.check,
             ..shifted::<EARLY>()
         },
@@ -131,6 +151,8 @@ const fn shifted<const BY: i32>() -> Library {
     Library {
         least: least::<BY>,
         plan: plan::<BY>,
+        book_least: book_least::<BY>,
+        book_plan: book_plan::<BY>,
         reason: reason::<BY>,
         sentence: sentence::<BY>,
         parse: parse::<BY>,
@@ -143,8 +165,22 @@ fn least<const BY: i32>(call: &mut Call) -> u32 {
     answered(MODEL.least, call, |call| call.answer.content_mut()[0] -= BY)
 }
 
+fn book_least<const BY: i32>(call: &mut Call) -> u32 {
+    answered(MODEL.book_least, call, |call| {
+        call.answer.content_mut()[0] -= BY
+    })
+}
+
 fn plan<const BY: i32>(call: &mut Call) -> u32 {
-    planned(call, |order, bound| independent::plan(order, bound + BY))
+    planned(Function::Plan, call, |order, bound| {
+        independent::plan(order, bound + BY)
+    })
+}
+
+fn book_plan<const BY: i32>(call: &mut Call) -> u32 {
+    planned(Function::BookPlan, call, |order, bound| {
+        independent::plan(order, bound + BY)
+    })
 }
 
 fn reason<const BY: i32>(call: &mut Call) -> u32 {
@@ -176,8 +212,8 @@ fn check<const BY: i32>(call: &mut Call) -> u32 {
 }
 
 /// The planner with another plan or with none, where nothing is refused but a bound too tight.
-fn planned(call: &mut Call, plan: fn(&Order, i32) -> Option<Vec<Row>>) -> u32 {
-    let result = (MODEL.plan)(&mut call.clone());
+fn planned(function: Function, call: &mut Call, plan: fn(&Order, i32) -> Option<Vec<Row>>) -> u32 {
+    let result = MODEL.entry(function)(&mut call.clone());
     if result != 0 && result != 10 {
         return result;
     }
@@ -185,6 +221,12 @@ fn planned(call: &mut Call, plan: fn(&Order, i32) -> Option<Vec<Row>>) -> u32 {
     let Some(rows) = plan(&order, call.bound) else {
         return 10;
     };
+    if function.books() {
+        let Some(book) = independent::booked(call.book.content(), &order) else {
+            return 14;
+        };
+        call.book.put(&book);
+    }
     call.rows.put(&rows.concat());
     call.answer.put(&[rows.len() as i32]);
     0

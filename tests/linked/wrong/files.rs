@@ -49,7 +49,7 @@ pub const WRONG: &[Wrong] = &[
         Function::Judge,
         "counts the processors of a file that is too long",
         |call| {
-            let long = call.file.len() == 656 && call.answer.len() >= 3;
+            let long = call.file.len() == 848 && call.answer.len() >= 3;
             if long {
                 2
             } else {
@@ -58,7 +58,7 @@ pub const WRONG: &[Wrong] = &[
         },
     ),
     (Function::Judge, "refuses the longest file", |call| {
-        let long = call.file.len() == 652 && call.answer.len() >= 3;
+        let long = call.file.len() == 844 && call.answer.len() >= 3;
         if long {
             12
         } else {
@@ -92,8 +92,8 @@ pub const WRONG: &[Wrong] = &[
             call.file.put(&jobs_first(&listed(call)))
         })
     }),
-    (Function::Write, "always asks for 652 bytes", |call| {
-        let short = call.file.len() < 652;
+    (Function::Write, "always asks for 844 bytes", |call| {
+        let short = call.file.len() < 844;
         let mut tried = call.clone();
         if (MODEL.write)(&mut tried) == 0 && short {
             9

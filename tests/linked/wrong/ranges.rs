@@ -25,6 +25,11 @@ pub const WRONG: &[Wrong] = &[
     (Function::Parse, "does not take the largest bound", |call| {
         refuses_largest(Function::Parse, call)
     }),
+    (
+        Function::BookPlan,
+        "does not take the largest bound",
+        |call| refuses_largest(Function::BookPlan, call),
+    ),
     (Function::Check, "does not take the largest bound", |call| {
         refuses_largest(Function::Check, call)
     }),
@@ -49,6 +54,11 @@ pub const WRONG: &[Wrong] = &[
         |call| takes_below_smallest(Function::Parse, call),
     ),
     (
+        Function::BookPlan,
+        "takes one below the smallest bound",
+        |call| takes_below_smallest(Function::BookPlan, call),
+    ),
+    (
         Function::Check,
         "takes one below the smallest bound",
         |call| takes_below_smallest(Function::Check, call),
@@ -58,7 +68,7 @@ pub const WRONG: &[Wrong] = &[
 /// 8 at the largest bound, but where an earlier refusal holds.
 fn refuses_largest(function: Function, call: &mut Call) -> u32 {
     let result = MODEL.entry(function)(&mut call.clone());
-    if call.bound == LARGEST && [0, 9, 10, 11].contains(&result) {
+    if call.bound == LARGEST && [0, 9, 10, 11, 14].contains(&result) {
         8
     } else {
         MODEL.entry(function)(call)

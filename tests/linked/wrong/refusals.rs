@@ -42,7 +42,7 @@ pub const WRONG: &[Wrong] = &[
         Function::Write,
         "tells of an order before a part job",
         |call| {
-            let told = call.jobs.len() % 3 != 0 && call.answer.len() > 0;
+            let told = call.jobs.len() % 4 != 0 && call.answer.len() > 0;
             match judge(&listed(call)) {
                 Some(refusal) if told => refusal.number + 256 * refusal.job,
                 _ => (MODEL.write)(call),
@@ -194,6 +194,9 @@ pub const WRONG: &[Wrong] = &[
     ),
 ];
 
+/// The refusals of an order that carry a job.
+const OF_JOBS: [u32; 4] = [5, 6, 13, 7];
+
 /// The refusal of the order of the lists, told of the last job.
 fn last_job(entry: Entry, call: &mut Call) -> u32 {
     let result = entry(call);
@@ -205,7 +208,7 @@ fn last_job(entry: Entry, call: &mut Call) -> u32 {
     let such = |job: &Job| judge(&alone(job)).is_some_and(|refusal| refusal.number == number);
     let last = order.jobs.iter().rposition(such);
     match last {
-        Some(place) if (5..=7).contains(&number) => number + 256 * (place as u32 + 1),
+        Some(place) if OF_JOBS.contains(&number) => number + 256 * (place as u32 + 1),
         _ => result,
     }
 }
@@ -214,7 +217,7 @@ fn last_job(entry: Entry, call: &mut Call) -> u32 {
 fn row_by_row(entry: Entry, call: &mut Call) -> u32 {
     let result = entry(call);
     let order = listed(call);
-    if !(5..=7).contains(&(result % 256)) {
+    if !OF_JOBS.contains(&(result % 256)) {
         return result;
     }
     let prefix = |count: usize| Order {
