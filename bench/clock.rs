@@ -19,7 +19,7 @@ pub fn manner() -> String {
     format!(
         "Microseconds; of each order the least of {ROUNDS} calls (independent: \
          {ROUNDS_INDEPENDENT}) after a warm-up, other orders in between; buffers are not cleared \
-         between calls."
+         between calls, but for the book, which is opened anew."
     )
 }
 

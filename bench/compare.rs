@@ -3,11 +3,12 @@
 //! the same word for word.
 
 use crate::cases::{Case, LINE_MOST};
-use crate::independent;
+use crate::independent::{self, MAKERS, MOST_BOOKED};
 use crate::numbers::{numbers_of, reason_of};
 use crate::subjects::{run, Buffers, Task, LIBRARY, PLAIN, TASKS};
 
 const BOUND_TOO_TIGHT: u32 = 10;
+const BOOK_FULL: u32 = 14;
 
 /// Tells on which order the answers differ.
 struct At<'a>(usize, &'a Case);
@@ -28,12 +29,13 @@ pub fn compare(place: usize, case: &Case) {
     }
     check_judge(case, &order);
     check_least(case, &order);
+    check_books(case, &order);
     check_tight(case, &order);
     check_lines(case, &order);
     check_plans(case, &order);
 }
 
-/// The library and its plain build give the same result, rows, line and answer.
+/// The library and its plain build give the same result, rows, book, line and answer.
 fn same_answers(case: &Case, task: Task) {
     let mut ours = Buffers::new();
     let mut plain = Buffers::new();
@@ -46,6 +48,7 @@ fn same_answers(case: &Case, task: Task) {
     assert_eq!(result, 0, "an accepted order is refused");
     assert_eq!(ours.answer, plain.answer, "answers differ");
     assert!(ours.rows == plain.rows, "rows differ");
+    assert_eq!(ours.book, plain.book, "books differ");
     assert!(ours.line == plain.line, "lines differ");
 }
 
@@ -67,6 +70,40 @@ fn check_least(case: &Case, order: &independent::Order) {
         independent::least(order),
         "least lateness differs"
     );
+}
+
+/// Booked calls write the rows and the answer of unbooked ones, and the counts that the independent
+/// implementation has, from an opened book and from one that is then full; a minute more is refused.
+fn check_books(case: &Case, order: &independent::Order) {
+    for (booked, unbooked) in [
+        (Task::BookLeast, Task::Least),
+        (Task::BookPlan, Task::PlanAtLeast),
+    ] {
+        let mut with = Buffers::new();
+        let mut without = Buffers::new();
+        run(&LIBRARY, booked, case, &mut with);
+        run(&LIBRARY, unbooked, case, &mut without);
+        assert!(with.rows == without.rows, "booked rows differ");
+        assert_eq!(with.answer, without.answer, "booked answers differ");
+        let opened = independent::booked(&[0; MAKERS], order);
+        assert_eq!(Some(with.book.to_vec()), opened, "books differ");
+    }
+    for functions in [LIBRARY, PLAIN] {
+        let mut buffers = Buffers::new();
+        let Buffers {
+            rows, book, answer, ..
+        } = &mut buffers;
+        for (place, count) in book.iter_mut().enumerate() {
+            let planned = independent::minutes_of(order, place as u32 + 1);
+            *count = (MOST_BOOKED - planned) as u32;
+        }
+        let result = (functions.book_least)(&case.file, rows, book, answer);
+        assert_eq!(result, 0, "a book with just enough room is refused");
+        assert_eq!(*book, [MOST_BOOKED as u32; MAKERS], "full books differ");
+        let result = (functions.book_plan)(&case.file, case.least, rows, book, answer);
+        assert_eq!(result, BOOK_FULL, "a full book is taken");
+        assert_eq!(*book, [MOST_BOOKED as u32; MAKERS], "full books differ");
+    }
 }
 
 /// A minute below the least lateness there is no plan, and all three give the same reason.

@@ -36,6 +36,45 @@ pub fn plan(file: &[u8], bound: i32, rows: &mut [u32], answer: &mut [i32]) -> u3
     }
 }
 
+pub fn book_least(file: &[u8], rows: &mut [u32], book: &mut [u32], answer: &mut [i32]) -> u32 {
+    // SAFETY: as above.
+    unsafe {
+        raw::hbr_book_least(
+            file.as_ptr(),
+            file.len(),
+            rows.as_mut_ptr(),
+            rows.len(),
+            book.as_mut_ptr(),
+            book.len(),
+            answer.as_mut_ptr(),
+            answer.len(),
+        )
+    }
+}
+
+pub fn book_plan(
+    file: &[u8],
+    bound: i32,
+    rows: &mut [u32],
+    book: &mut [u32],
+    answer: &mut [i32],
+) -> u32 {
+    // SAFETY: as above.
+    unsafe {
+        raw::hbr_book_plan(
+            file.as_ptr(),
+            file.len(),
+            bound,
+            rows.as_mut_ptr(),
+            rows.len(),
+            book.as_mut_ptr(),
+            book.len(),
+            answer.as_mut_ptr(),
+            answer.len(),
+        )
+    }
+}
+
 pub fn reason(file: &[u8], bound: i32, answer: &mut [i32]) -> u32 {
     // SAFETY: as above.
     unsafe {

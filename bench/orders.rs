@@ -1,4 +1,7 @@
-//! An order as the benchmark draws it, and the bytes of its order file.
+//! An order as the benchmark draws it, and the bytes of its order file. The makers are not drawn: the
+//! jobs are theirs in turn.
+
+const MAKERS: u32 = 16;
 
 #[derive(Clone, Copy)]
 pub struct Job {
@@ -21,10 +24,11 @@ impl Order {
             file.extend(memory.to_le_bytes());
         }
         let jobs_at = file.len() as u32;
-        for job in &self.jobs {
+        for (place, job) in (0..).zip(&self.jobs) {
             file.extend(job.time.to_le_bytes());
             file.extend(job.due.to_le_bytes());
             file.extend(job.need.to_le_bytes());
+            file.extend((place % MAKERS + 1).to_le_bytes());
         }
         file.extend(0u32.to_le_bytes());
         file.extend(jobs_at.to_le_bytes());

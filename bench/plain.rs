@@ -1,8 +1,9 @@
 //! The library's method in plain Rust, for the benchmark to compare with: the same algorithms,
-//! tables and passes, each value computed once and handed on by reference. Seven functions of the
+//! tables and passes, each value computed once and handed on by reference. Nine functions of the
 //! C interface, with the same results.
 
 mod amounts;
+mod book;
 mod check;
 mod line;
 mod order;
@@ -16,6 +17,7 @@ mod text;
 mod wrap;
 
 use amounts::Amounts;
+use book::Book;
 use order::{Order, Refusal};
 use setting::Setting;
 use stairs::Reason;
@@ -27,6 +29,8 @@ const BOUND_OUT_OF_RANGE: Refusal = Refusal::plain(8);
 const BUFFER_TOO_SHORT: Refusal = Refusal::plain(9);
 const BOUND_TOO_TIGHT: Refusal = Refusal::plain(10);
 const TOO_MANY_ROWS: Refusal = Refusal::plain(11);
+const BOOK_FULL: Refusal = Refusal::plain(14);
+const SHORT_BOOK: Refusal = Refusal::plain(253);
 const SHORT_REASON: Refusal = Refusal::plain(253);
 const SHORT_ANSWER: Refusal = Refusal::plain(255);
 
@@ -43,6 +47,22 @@ pub fn least(file: &[u8], rows: &mut [u32], answer: &mut [i32]) -> u32 {
 /// A plan that meets the bound in `rows`: the number of rows.
 pub fn plan(file: &[u8], bound: i32, rows: &mut [u32], answer: &mut [i32]) -> u32 {
     code(try_plan(file, bound, rows, answer))
+}
+
+/// `least`, and the times of each maker's jobs are added to that maker's count in `book`.
+pub fn book_least(file: &[u8], rows: &mut [u32], book: &mut [u32], answer: &mut [i32]) -> u32 {
+    code(try_book_least(file, rows, book, answer))
+}
+
+/// `plan`, and the times are booked likewise.
+pub fn book_plan(
+    file: &[u8],
+    bound: i32,
+    rows: &mut [u32],
+    book: &mut [u32],
+    answer: &mut [i32],
+) -> u32 {
+    code(try_book_plan(file, bound, rows, book, answer))
 }
 
 /// Why no plan can meet the bound: the kind of the reason, then its numbers.
@@ -93,6 +113,10 @@ fn ask_bound(bound: i32) -> Result<(), Refusal> {
     Ok(())
 }
 
+fn ask_book(book: &mut [u32]) -> Result<&mut Book, Refusal> {
+    book.first_chunk_mut().ok_or(SHORT_BOOK)
+}
+
 fn ask_rows(order: &Order, setting: &Setting, rows: &[u32]) -> Result<(), Refusal> {
     if rows.len() / 4 < rows_asked(order, setting.due_count) {
         return Err(BUFFER_TOO_SHORT);
@@ -121,10 +145,31 @@ fn try_least(file: &[u8], rows: &mut [u32], answer: &mut [i32]) -> Result<(), Re
     let order = read::read(file)?;
     let setting = Setting::of(&order);
     ask_rows(&order, &setting, rows)?;
-    let lateness = setting::bound_of(stairs::least_reach(&order, &setting));
-    answer[0] = lateness;
-    answer[1] = make_plan(&order, &setting, lateness, rows) as i32;
+    put_least(&order, &setting, rows, answer);
     Ok(())
+}
+
+fn try_book_least(
+    file: &[u8],
+    rows: &mut [u32],
+    book: &mut [u32],
+    answer: &mut [i32],
+) -> Result<(), Refusal> {
+    ask_answer(answer, 2)?;
+    let book = ask_book(book)?;
+    let order = read::read(file)?;
+    let setting = Setting::of(&order);
+    ask_rows(&order, &setting, rows)?;
+    *book = book::add(book, &order).ok_or(BOOK_FULL)?;
+    put_least(&order, &setting, rows, answer);
+    Ok(())
+}
+
+/// The least lateness and its plan.
+fn put_least(order: &Order, setting: &Setting, rows: &mut [u32], answer: &mut [i32]) {
+    let lateness = setting::bound_of(stairs::least_reach(order, setting));
+    answer[0] = lateness;
+    answer[1] = make_plan(order, setting, lateness, rows) as i32;
 }
 
 fn try_plan(file: &[u8], bound: i32, rows: &mut [u32], answer: &mut [i32]) -> Result<(), Refusal> {
@@ -133,11 +178,35 @@ fn try_plan(file: &[u8], bound: i32, rows: &mut [u32], answer: &mut [i32]) -> Re
     ask_bound(bound)?;
     let setting = Setting::of(&order);
     ask_rows(&order, &setting, rows)?;
-    let Reason::Nothing = stairs::reason(&order, &setting, setting::reach_of(bound)) else {
-        return Err(BOUND_TOO_TIGHT);
-    };
+    ask_loose(&order, &setting, bound)?;
     answer[0] = make_plan(&order, &setting, bound, rows) as i32;
     Ok(())
+}
+
+fn try_book_plan(
+    file: &[u8],
+    bound: i32,
+    rows: &mut [u32],
+    book: &mut [u32],
+    answer: &mut [i32],
+) -> Result<(), Refusal> {
+    ask_answer(answer, 1)?;
+    let book = ask_book(book)?;
+    let order = read::read(file)?;
+    ask_bound(bound)?;
+    let setting = Setting::of(&order);
+    ask_rows(&order, &setting, rows)?;
+    ask_loose(&order, &setting, bound)?;
+    *book = book::add(book, &order).ok_or(BOOK_FULL)?;
+    answer[0] = make_plan(&order, &setting, bound, rows) as i32;
+    Ok(())
+}
+
+fn ask_loose(order: &Order, setting: &Setting, bound: i32) -> Result<(), Refusal> {
+    match stairs::reason(order, setting, setting::reach_of(bound)) {
+        Reason::Nothing => Ok(()),
+        _ => Err(BOUND_TOO_TIGHT),
+    }
 }
 
 /// A plan where there is no reason against the bound; answers how many rows it has.

@@ -15,7 +15,7 @@ mod random;
 mod worst;
 
 use cases::{Case, LINE_MOST, ROWS_MOST};
-use highboyrobin::{raw, MOST_BYTES};
+use highboyrobin::{raw, MOST_BYTES, MOST_MAKERS};
 use std::arch::asm;
 
 const SEED: u64 = 2;
@@ -33,7 +33,11 @@ const SENTENCE: Function = function("hbr_sentence", raw::hbr_sentence as *const 
 const REASON: Function = function("hbr_reason", raw::hbr_reason as *const ());
 const PLAN: Function = function("hbr_plan", raw::hbr_plan as *const ());
 const LEAST: Function = function("hbr_least", raw::hbr_least as *const ());
-const FUNCTIONS: [Function; 8] = [WRITE, JUDGE, CHECK, PARSE, SENTENCE, REASON, PLAN, LEAST];
+const BOOK_PLAN: Function = function("hbr_book_plan", raw::hbr_book_plan as *const ());
+const BOOK_LEAST: Function = function("hbr_book_least", raw::hbr_book_least as *const ());
+const FUNCTIONS: [Function; 10] = [
+    WRITE, JUDGE, CHECK, PARSE, SENTENCE, REASON, PLAN, LEAST, BOOK_PLAN, BOOK_LEAST,
+];
 
 const fn function(name: &'static str, address: *const ()) -> Function {
     Function { name, address }
@@ -119,6 +123,10 @@ struct Lent {
     file: Vec<u8>,
     rows: Vec<u32>,
     line: Vec<u8>,
+    /// opened
+    book: Vec<u32>,
+    /// no count can be added to, and no number is left of one
+    full: Vec<u32>,
     answer: [i32; 19],
 }
 
@@ -141,7 +149,7 @@ fn calls(case: &Case, lists: &[u32], lent: &mut Lent) -> Vec<Call> {
     };
     let answer = lend(&mut lent.answer);
     let file = read(&case.file);
-    let (memories, jobs) = lists.split_at(lists.len() - 3 * 48);
+    let (memories, jobs) = lists.split_at(lists.len() - 4 * 48);
     for (jobs, room, result) in [(jobs, MOST_BYTES, 0), (jobs, 11, 9), (&jobs[1..], 11, 254)] {
         let written = lend(&mut lent.file[..room]);
         let arguments = [read(memories), read(jobs), written, answer.clone()];
@@ -171,9 +179,40 @@ fn calls(case: &Case, lists: &[u32], lent: &mut Lent) -> Vec<Call> {
         let rows = lend(&mut lent.rows[..room]);
         add(LEAST, &[file.clone(), rows, answer.clone()], result);
     }
+    calls.extend(book_calls(case, lent));
     calls.extend(sentence_calls(case, lent));
     calls.extend(parse_calls(case, lent));
     calls
+}
+
+/// Booked plans, each from the same book, which the calls add to; then refusals, with a full book too.
+fn book_calls(case: &Case, lent: &mut Lent) -> Vec<Call> {
+    let (file, short) = (read(&case.file), read(&case.file[1..]));
+    let answer = lend(&mut lent.answer);
+    let (rows, no_rows) = (lend(&mut lent.rows), lend(&mut lent.rows[..3]));
+    let (book, full) = (lend(&mut lent.book), lend(&mut lent.full));
+    let no_book = lend(&mut lent.book[1..]);
+    let given = [
+        (&file, case.least, &rows, &book, [0, 0]),
+        (&file, case.looser, &rows, &book, [0, 0]),
+        (&file, 10_000_000, &rows, &book, [0, 0]),
+        (&file, case.least - 1, &rows, &full, [14, 10]),
+        (&file, case.least, &rows, &full, [14, 14]),
+        (&file, 10_000_001, &no_rows, &full, [9, 8]),
+        (&file, case.least, &no_rows, &full, [9, 9]),
+        (&short, case.least, &rows, &full, [12, 12]),
+        (&short, case.least, &rows, &no_book, [253, 253]),
+    ];
+    let both = given.map(|(file, bound, rows, book, [of_least, of_plan])| {
+        let [file, rows, book] = [file, rows, book].map(Clone::clone);
+        let least = [file.clone(), rows.clone(), book.clone(), answer.clone()];
+        let plan = [file, number(bound), rows, book, answer.clone()];
+        [
+            Call::of(BOOK_LEAST, &least, of_least),
+            Call::of(BOOK_PLAN, &plan, of_plan),
+        ]
+    });
+    both.into_iter().flatten().collect()
 }
 
 /// The reason of a case, at other bounds too, and no reason; then refusals.
@@ -237,6 +276,8 @@ fn main() {
         file: vec![0; MOST_BYTES],
         rows: vec![0; 4 * ROWS_MOST],
         line: vec![0; LINE_MOST],
+        book: vec![0; MOST_MAKERS],
+        full: vec![u32::MAX; MOST_MAKERS],
         answer: [0; 19],
     };
     let mut depths = Vec::new();

@@ -2,6 +2,7 @@
 //! case.
 
 use crate::cases::{Case, LINE_MOST, ROWS_MOST};
+use crate::independent::MAKERS;
 use crate::{independent, library, numbers, plain};
 use std::hint::black_box;
 
@@ -10,6 +11,8 @@ pub struct Functions {
     pub judge: fn(&[u8], &mut [i32]) -> u32,
     pub least: fn(&[u8], &mut [u32], &mut [i32]) -> u32,
     pub plan: fn(&[u8], i32, &mut [u32], &mut [i32]) -> u32,
+    pub book_least: fn(&[u8], &mut [u32], &mut [u32], &mut [i32]) -> u32,
+    pub book_plan: fn(&[u8], i32, &mut [u32], &mut [u32], &mut [i32]) -> u32,
     pub reason: fn(&[u8], i32, &mut [i32]) -> u32,
     pub sentence: fn(&[u8], i32, &[i32], &mut [u8], &mut [i32]) -> u32,
     pub parse: fn(&[u8], i32, &[u8], &mut [i32]) -> u32,
@@ -20,6 +23,8 @@ pub const LIBRARY: Functions = Functions {
     judge: library::judge,
     least: library::least,
     plan: library::plan,
+    book_least: library::book_least,
+    book_plan: library::book_plan,
     reason: library::reason,
     sentence: library::sentence,
     parse: library::parse,
@@ -30,6 +35,8 @@ pub const PLAIN: Functions = Functions {
     judge: plain::judge,
     least: plain::least,
     plan: plain::plan,
+    book_least: plain::book_least,
+    book_plan: plain::book_plan,
     reason: plain::reason,
     sentence: plain::sentence,
     parse: plain::parse,
@@ -42,6 +49,8 @@ pub enum Task {
     Least,
     PlanAtLeast,
     PlanLooser,
+    BookLeast,
+    BookPlan,
     Reason,
     Sentence,
     Parse,
@@ -49,11 +58,13 @@ pub enum Task {
     CheckLong,
 }
 
-pub const TASKS: [(Task, &str); 9] = [
+pub const TASKS: [(Task, &str); 11] = [
     (Task::Judge, "judge a file"),
     (Task::Least, "least lateness with a plan"),
     (Task::PlanAtLeast, "plan at the least lateness"),
     (Task::PlanLooser, "plan at a looser bound"),
+    (Task::BookLeast, "least lateness with a plan, booked"),
+    (Task::BookPlan, "plan at the least lateness, booked"),
     (Task::Reason, "reason one minute below the least"),
     (Task::Sentence, "sentence of that reason"),
     (Task::Parse, "reading that sentence back"),
@@ -61,9 +72,11 @@ pub const TASKS: [(Task, &str); 9] = [
     (Task::CheckLong, "check of it in 3,024 shuffled rows"),
 ];
 
-/// What a call writes to, never cleared between calls.
+/// What a call writes to, never cleared between calls but for the book, which each call is given just
+/// opened.
 pub struct Buffers {
     pub rows: Vec<u32>,
+    pub book: [u32; MAKERS],
     pub line: Vec<u8>,
     pub answer: [i32; 19],
 }
@@ -72,6 +85,7 @@ impl Buffers {
     pub fn new() -> Buffers {
         Buffers {
             rows: vec![0; 4 * ROWS_MOST],
+            book: [0; MAKERS],
             line: vec![0; LINE_MOST],
             answer: [0; 19],
         }
@@ -79,7 +93,13 @@ impl Buffers {
 }
 
 pub fn run(functions: &Functions, task: Task, case: &Case, buffers: &mut Buffers) -> u32 {
-    let Buffers { rows, line, answer } = buffers;
+    let Buffers {
+        rows,
+        book,
+        line,
+        answer,
+    } = buffers;
+    book.fill(0);
     let file = black_box(&case.file[..]);
     let tight = case.least - 1;
     match task {
@@ -87,6 +107,8 @@ pub fn run(functions: &Functions, task: Task, case: &Case, buffers: &mut Buffers
         Task::Least => (functions.least)(file, rows, answer),
         Task::PlanAtLeast => (functions.plan)(file, case.least, rows, answer),
         Task::PlanLooser => (functions.plan)(file, case.looser, rows, answer),
+        Task::BookLeast => (functions.book_least)(file, rows, book, answer),
+        Task::BookPlan => (functions.book_plan)(file, case.least, rows, book, answer),
         Task::Reason => (functions.reason)(file, tight, answer),
         Task::Sentence => (functions.sentence)(file, tight, &case.reason, line, answer),
         Task::Parse => (functions.parse)(file, tight, &case.line, answer),
@@ -111,6 +133,15 @@ pub fn run_independent(task: Task, case: &Case) {
         }
         Task::PlanAtLeast => drop(black_box(independent::plan(&order, case.least))),
         Task::PlanLooser => drop(black_box(independent::plan(&order, case.looser))),
+        Task::BookLeast => {
+            drop(black_box(independent::booked(&[0; MAKERS], &order)));
+            let least = independent::least(&order);
+            drop(black_box(independent::plan(&order, least)));
+        }
+        Task::BookPlan => {
+            drop(black_box(independent::booked(&[0; MAKERS], &order)));
+            drop(black_box(independent::plan(&order, case.least)));
+        }
         Task::Reason => drop(black_box(independent::reason(&order, tight))),
         Task::Sentence => {
             let reason = numbers::reason_of(&case.reason);

@@ -1,7 +1,8 @@
 /* Highboyrobin: a session planner whose refusals are facts. Link with libhighboyrobin.a.
  *
  * Units. Times are whole minutes from a common start, minute 0. A memory and a need are numbers of one unit of yours, 0 to
- * 4294967295. Jobs and processors are numbered from 1, in the order in which you list them.
+ * 4294967295. Jobs and processors are numbered from 1, in the order in which you list them. Each job has the number of its maker, 1
+ * to 16: 1 where a dock has one maker.
  *
  * Ends. Due 10 means done by the close of minute 10, so the end is minute 11: a job's end is its due time plus the bound plus 1.
  * At bound 0 a job is on time; the bound moves all ends alike.
@@ -13,14 +14,19 @@
  * including `to`. In a plan of hbr_least or hbr_plan no row begins where another of its job on its processor ends: the two would be
  * one row.
  *
+ * Books. A book is sixteen numbers, lent to hbr_book_least and hbr_book_plan: the minutes planned for maker 1, 2, .. 16 since it was
+ * opened. It is opened by sixteen zeros. Lend each call the book that the last one left: then each number is the times of that
+ * maker's jobs in all plans written with it, and the sixteen together are the times of all their jobs. Each is at most
+ * HBR_MOST_BOOKED.
+ *
  * Results. Each function returns 0 where it succeeds, else a refusal: its number is hbr_number(result), and the job that it is
  * about, 0 where it is about none, hbr_job(result). Of several refusals that apply the first is told: HBR_SHORT_ANSWER,
- * HBR_PART_JOB or HBR_SHORT_REASON, 12, then 1 to 11 upwards.
+ * HBR_PART_JOB, HBR_SHORT_REASON or HBR_SHORT_BOOK, 12, then 1 to 6, 13, 7 to 11, 14.
  *
  * Memory. You own every buffer; nothing is kept after a call, and nothing is allocated. Two buffers of one call must not overlap
  * unless both are const. Lengths count elements, not bytes. Pointers must be valid and aligned, not NULL, also where the length is
- * 0. A REFUSED CALL WRITES NOTHING, neither to rows, file or line nor to the answer. A call that succeeds leaves what lies beyond
- * its rows, its file, its line or its answer as it was.
+ * 0. A REFUSED CALL WRITES NOTHING, neither to rows, book, file or line nor to the answer. A call that succeeds leaves what lies
+ * beyond its rows, its book, its file, its line or its answer as it was.
  *
  * Threads. A call keeps nothing, so calls may run at once on several threads, and a call may be interrupted by another: in a
  * signal or interrupt handler, or by a thread switch. As long as a call runs, no buffer that it writes may be read or written by
@@ -40,12 +46,15 @@
 extern "C" {
 #endif
 
-/* the most processors and jobs of an order, bytes of its file, rows of a plan, bytes of a reason's line */
+/* the most processors and jobs of an order, bytes of its file, rows of a plan, bytes of a reason's line; makers are numbered up to
+ * HBR_MOST_MAKERS, and a book has as many numbers, none over HBR_MOST_BOOKED */
 #define HBR_MOST_PROCESSORS 16
 #define HBR_MOST_JOBS 48
-#define HBR_MOST_BYTES 652
+#define HBR_MOST_BYTES 844
 #define HBR_MOST_ROWS 3024
 #define HBR_MOST_LINE 541
+#define HBR_MOST_MAKERS 16
+#define HBR_MOST_BOOKED 4000000000u
 
 /* refusals */
 #define HBR_NO_PROCESSOR 1        /* the order has no processor */
@@ -56,18 +65,21 @@ extern "C" {
 #define HBR_DUE_OUT_OF_RANGE 6    /* a job's due time is not -1000000 to 1000000 */
 #define HBR_FITS_NO_PROCESSOR 7   /* a job needs more memory than any processor has */
 #define HBR_BOUND_OUT_OF_RANGE 8  /* the bound is not -10000000 to 10000000 */
-#define HBR_BUFFER_TOO_SHORT 9    /* rows: as hbr_judge tells; file: 4 bytes a processor, 12 a job, and 12; line: its length */
+#define HBR_BUFFER_TOO_SHORT 9    /* rows: as hbr_judge tells; file: 4 bytes a processor, 16 a job, and 12; line: its length */
 #define HBR_BOUND_TOO_TIGHT 10    /* no plan whatever meets the bound: hbr_reason tells why */
 #define HBR_TOO_MANY_ROWS 11      /* over 3024 rows to check */
-#define HBR_BAD_FILE 12           /* the file is under 12 or over 652 bytes, or its lists and its trailer disagree */
+#define HBR_BAD_FILE 12           /* the file is under 12 or over 844 bytes, or its lists and its trailer disagree */
+#define HBR_MAKER_OUT_OF_RANGE 13 /* a job's maker is not 1 to 16; told after 6 and before 7 */
+#define HBR_BOOK_FULL 14          /* a number of the book would then be over 4000000000; told last of all */
 #define HBR_SHORT_REASON 253      /* the reason has under 19 numbers */
-#define HBR_PART_JOB 254          /* the numbers of the jobs are not three to a job */
+#define HBR_SHORT_BOOK 253        /* the book has under 16 numbers */
+#define HBR_PART_JOB 254          /* the numbers of the jobs are not four to a job */
 #define HBR_SHORT_ANSWER 255      /* the answer is shorter than the function's HBR_.._ANSWER */
 
 #define hbr_number(result) ((result) % 256u)
 #define hbr_job(result) ((result) / 256u)
 
-/* Judges an order file. Refusals, in the order in which they are told: 255, 12, 1 to 7.
+/* Judges an order file. Refusals, in the order in which they are told: 255, 12, 1 to 6, 13, 7.
  * answer[0] processors, answer[1] jobs, answer[2] the rows that hbr_least and hbr_plan ask to be lent, 1 to 3024: lend them
  * 4 * answer[2] numbers. */
 #define HBR_JUDGE_ANSWER 3
@@ -75,20 +87,35 @@ uint32_t hbr_judge(const uint8_t *file, size_t file_length, int32_t *answer, siz
 
 /* The least lateness: the smallest whole number that, as the bound, lets every job be done by its end. It may be negative: then
  * all can be early. A plan that meets it is written from rows[0] on. rows_length counts numbers, not rows: it is 4 * rows.
- * Refusals, in the order in which they are told: 255, 12, 1 to 7, 9.
+ * Refusals, in the order in which they are told: 255, 12, 1 to 6, 13, 7, 9.
  * answer[0] the least lateness, answer[1] the number of rows written. */
 #define HBR_LEAST_ANSWER 2
 uint32_t hbr_least(const uint8_t *file, size_t file_length, uint32_t *rows, size_t rows_length, int32_t *answer,
                    size_t answer_length);
 
 /* A plan in which every job is done by its end, written from rows[0] on. rows_length counts numbers, not rows: it is 4 * rows.
- * Refusals, in the order in which they are told: 255, 12, 1 to 10; 10 carries no job, also where hbr_reason then names one.
+ * Refusals, in the order in which they are told: 255, 12, 1 to 6, 13, 7 to 10; 10 carries no job, also where hbr_reason then names
+ * one.
  * answer[0] the number of rows written. */
 #define HBR_PLAN_ANSWER 1
 uint32_t hbr_plan(const uint8_t *file, size_t file_length, int32_t bound, uint32_t *rows, size_t rows_length, int32_t *answer,
                   size_t answer_length);
 
-/* Why no plan can meet the bound. Refusals, in the order in which they are told: 255, 12, 1 to 8.
+/* hbr_least with a book: where it writes a plan, the times of each maker's jobs are added to that maker's number of the book. A
+ * number that would then be over HBR_MOST_BOOKED, of any of the sixteen makers, with a job in this order or not, is 14; numbers
+ * lent are any 32-bit numbers. Refusals, in the order in which they are told: 255, 253, 12, 1 to 6, 13, 7, 9, 14.
+ * answer as hbr_least has it. */
+#define HBR_BOOK_LEAST_ANSWER 2
+uint32_t hbr_book_least(const uint8_t *file, size_t file_length, uint32_t *rows, size_t rows_length, uint32_t *book,
+                        size_t book_length, int32_t *answer, size_t answer_length);
+
+/* hbr_plan with a book, as hbr_book_least has it. Refusals, in the order in which they are told: 255, 253, 12, 1 to 6, 13, 7 to 10,
+ * 14. answer as hbr_plan has it. */
+#define HBR_BOOK_PLAN_ANSWER 1
+uint32_t hbr_book_plan(const uint8_t *file, size_t file_length, int32_t bound, uint32_t *rows, size_t rows_length, uint32_t *book,
+                       size_t book_length, int32_t *answer, size_t answer_length);
+
+/* Why no plan can meet the bound. Refusals, in the order in which they are told: 255, 12, 1 to 6, 13, 7, 8.
  * answer[0] HBR_NONE where there is a plan, else HBR_JOB or HBR_STAIRS.
  * HBR_JOB: answer[1] the first job whose time exceeds its end, answer[2] its time.
  * HBR_STAIRS: answer[1] a count k of classes, answer[3] to answer[k + 2] a due time for each. Class 1 is the processors of the
@@ -108,14 +135,14 @@ uint32_t hbr_reason(const uint8_t *file, size_t file_length, int32_t bound, int3
  * at. A reason stands if it is any job whose time exceeds its end or, where there is no such job, any count of classes with due
  * times that never rise, each of them some job's, by whose ends those classes owe more minutes than they have on hand.
  * A reason that does not stand, HBR_NONE too, has an empty line: the call succeeds, answer[0] is 0 and line is left as it was.
- * HBR_MOST_LINE bytes are always enough. Refusals, in the order in which they are told: 255, 253, 12, 1 to 8, 9.
+ * HBR_MOST_LINE bytes are always enough. Refusals, in the order in which they are told: 255, 253, 12, 1 to 6, 13, 7 to 9.
  * answer[0] the length of the line. */
 #define HBR_SENTENCE_ANSWER 1
 uint32_t hbr_sentence(const uint8_t *file, size_t file_length, int32_t bound, const int32_t *reason, size_t reason_length,
                       uint8_t *line, size_t line_length, int32_t *answer, size_t answer_length);
 
 /* Reads a line back: the one reason that stands at this bound and whose line these bytes are exactly. A line of any length may be
- * lent. Refusals, in the order in which they are told: 255, 12, 1 to 8.
+ * lent. Refusals, in the order in which they are told: 255, 12, 1 to 6, 13, 7, 8.
  * answer[0] to answer[18] the reason, as hbr_reason has them; HBR_NONE and zeros for any other line. */
 #define HBR_PARSE_ANSWER 19
 uint32_t hbr_parse(const uint8_t *file, size_t file_length, int32_t bound, const uint8_t *line, size_t line_length,
@@ -124,15 +151,15 @@ uint32_t hbr_parse(const uint8_t *file, size_t file_length, int32_t bound, const
 /* Whether rows, made by anybody and in any order, are a right plan that meets the bound: each job gets its full time, on
  * processors whose memory suffices, by its end, and no job and no processor is used twice at a time.
  * rows_length counts numbers, not rows: it is 4 * rows. Numbers left over after the last whole row make the plan wrong, and count
- * as a row for 11. Refusals, in the order in which they are told: 255, 12, 1 to 8, 11.
+ * as a row for 11. Refusals, in the order in which they are told: 255, 12, 1 to 6, 13, 7, 8, 11.
  * answer[0] 1 for yes, 0 for no. */
 #define HBR_CHECK_ANSWER 1
 uint32_t hbr_check(const uint8_t *file, size_t file_length, int32_t bound, const uint32_t *rows, size_t rows_length,
                    int32_t *answer, size_t answer_length);
 
-/* Writes the order file of an order: memories, one number to a processor; jobs, three to a job: time, due time (a negative one
- * converted to uint32_t), need. jobs_length counts numbers, not jobs: it is 3 * jobs. HBR_MOST_BYTES bytes are always enough for
- * the file. Refusals, in the order in which they are told: 255, 254, 1 to 7, 9.
+/* Writes the order file of an order: memories, one number to a processor; jobs, four to a job: time, due time (a negative one
+ * converted to uint32_t), need, maker. jobs_length counts numbers, not jobs: it is 4 * jobs. HBR_MOST_BYTES bytes are always enough
+ * for the file. Refusals, in the order in which they are told: 255, 254, 1 to 6, 13, 7, 9.
  * answer[0] the length of the file. */
 #define HBR_WRITE_ANSWER 1
 uint32_t hbr_write(const uint32_t *memories, size_t memories_length, const uint32_t *jobs, size_t jobs_length, uint8_t *file,

@@ -7,9 +7,13 @@
 /// The most processors and jobs of an order, bytes of its file, rows of a plan, bytes of a reason's line.
 pub const MOST_PROCESSORS: usize = 16;
 pub const MOST_JOBS: usize = 48;
-pub const MOST_BYTES: usize = 652;
+pub const MOST_BYTES: usize = 844;
 pub const MOST_ROWS: usize = 3024;
 pub const MOST_LINE: usize = 541;
+
+/// Makers are numbered from 1 to this; a book has as many counts, none over `MOST_BOOKED`.
+pub const MOST_MAKERS: usize = 16;
+pub const MOST_BOOKED: u32 = 4_000_000_000;
 
 /// The functions of the archive, as `highboyrobin.h` declares them. A slice is a pointer and a length in elements.
 pub mod raw {
@@ -34,6 +38,27 @@ pub mod raw {
             bound: i32,
             rows: *mut u32,
             rows_length: usize,
+            answer: *mut i32,
+            answer_length: usize,
+        ) -> u32;
+        pub fn hbr_book_least(
+            file: *const u8,
+            file_length: usize,
+            rows: *mut u32,
+            rows_length: usize,
+            book: *mut u32,
+            book_length: usize,
+            answer: *mut i32,
+            answer_length: usize,
+        ) -> u32;
+        pub fn hbr_book_plan(
+            file: *const u8,
+            file_length: usize,
+            bound: i32,
+            rows: *mut u32,
+            rows_length: usize,
+            book: *mut u32,
+            book_length: usize,
             answer: *mut i32,
             answer_length: usize,
         ) -> u32;
@@ -86,13 +111,14 @@ pub mod raw {
     }
 }
 
-/// A job: its working time, the minute by which it is due, the memory that it needs.
+/// A job: its working time, the minute by which it is due, the memory that it needs, the number of its maker.
 #[repr(C)]
 #[derive(Clone, Copy, Debug, PartialEq, Eq)]
 pub struct Job {
     pub time: u32,
     pub due: i32,
     pub need: u32,
+    pub maker: u32,
 }
 
 /// A row of a plan: the minutes from `from` up to but not including `to`.
@@ -127,9 +153,11 @@ impl Refused {
             9 => "the lent buffer is too short",
             10 => "no plan whatever meets the bound",
             11 => "over 3,024 rows to check",
-            12 => "the file is under 12 or over 652 bytes, or its lists and its trailer disagree",
-            253 => "the reason has under 19 numbers",
-            254 => "the numbers of the jobs are not three to a job",
+            12 => "the file is under 12 or over 844 bytes, or its lists and its trailer disagree",
+            13 => "a job's maker is not 1 to 16",
+            14 => "a count of the book would be over 4,000,000,000",
+            253 => "the reason has under 19 numbers, or the book under 16",
+            254 => "the numbers of the jobs are not four to a job",
             255 => "the answer is too short",
             _ => "no refusal has this number",
         }
@@ -162,6 +190,27 @@ pub struct Sizes {
 pub struct Least {
     pub lateness: i32,
     pub rows: usize,
+}
+
+/// The minutes planned for each maker since the book was opened, maker 1 first.
+#[derive(Clone, Copy, Debug, PartialEq, Eq)]
+pub struct Book {
+    pub counts: [u32; MOST_MAKERS],
+}
+
+impl Book {
+    /// An opened book: sixteen zeros.
+    pub fn open() -> Book {
+        Book {
+            counts: [0; MOST_MAKERS],
+        }
+    }
+
+    /// The minutes of a maker; `None` where no maker has this number.
+    pub fn minutes(&self, maker: u32) -> Option<u32> {
+        let place = maker.checked_sub(1)?;
+        self.counts.get(place as usize).copied()
+    }
 }
 
 /// Why no plan can meet a bound.
@@ -220,7 +269,7 @@ fn told(result: u32) -> Result<(), Refused> {
     })
 }
 
-/// Judges an order file. Refusals: 12, 1 to 7.
+/// Judges an order file. Refusals: 12, 1 to 6, 13, 7.
 pub fn judge(file: &[u8]) -> Result<Sizes, Refused> {
     let mut answer = [0; 3];
     told(unsafe { raw::hbr_judge(file.as_ptr(), file.len(), answer.as_mut_ptr(), answer.len()) })?;
@@ -233,7 +282,7 @@ pub fn judge(file: &[u8]) -> Result<Sizes, Refused> {
 }
 
 /// The least lateness, with a plan that meets it from `rows[0]` on, in which no row begins where another of its job on its
-/// processor ends. Refusals: 12, 1 to 7, 9.
+/// processor ends. Refusals: 12, 1 to 6, 13, 7, 9.
 pub fn least(file: &[u8], rows: &mut [Row]) -> Result<Least, Refused> {
     let mut answer = [0; 2];
     let (at, length) = (rows.as_mut_ptr().cast(), rows.len() * 4);
@@ -254,7 +303,7 @@ pub fn least(file: &[u8], rows: &mut [Row]) -> Result<Least, Refused> {
 }
 
 /// A plan in which every job is done by its end, from `rows[0]` on, joined as that of `least`; its number of rows. Refusals: 12, 1
-/// to 10.
+/// to 6, 13, 7 to 10.
 pub fn plan(file: &[u8], bound: i32, rows: &mut [Row]) -> Result<usize, Refused> {
     let mut answer = [0; 1];
     let (at, length) = (rows.as_mut_ptr().cast(), rows.len() * 4);
@@ -272,7 +321,55 @@ pub fn plan(file: &[u8], bound: i32, rows: &mut [Row]) -> Result<usize, Refused>
     Ok(answer[0] as usize)
 }
 
-/// Why no plan can meet the bound; `None` where one can. Refusals: 12, 1 to 8.
+/// `least`, and where a plan is written the times of each maker's jobs are added to that maker's count. Hand each call the book that
+/// the last one left. Refusals: 12, 1 to 6, 13, 7, 9, and last 14: a count would then be over `MOST_BOOKED`.
+pub fn book_least(file: &[u8], rows: &mut [Row], book: &mut Book) -> Result<Least, Refused> {
+    let mut answer = [0; 2];
+    let (at, length) = (rows.as_mut_ptr().cast(), rows.len() * 4);
+    told(unsafe {
+        raw::hbr_book_least(
+            file.as_ptr(),
+            file.len(),
+            at,
+            length,
+            book.counts.as_mut_ptr(),
+            book.counts.len(),
+            answer.as_mut_ptr(),
+            answer.len(),
+        )
+    })?;
+    Ok(Least {
+        lateness: answer[0],
+        rows: answer[1] as usize,
+    })
+}
+
+/// `plan`, with a book as `book_least` has it. Refusals: 12, 1 to 6, 13, 7 to 10, 14.
+pub fn book_plan(
+    file: &[u8],
+    bound: i32,
+    rows: &mut [Row],
+    book: &mut Book,
+) -> Result<usize, Refused> {
+    let mut answer = [0; 1];
+    let (at, length) = (rows.as_mut_ptr().cast(), rows.len() * 4);
+    told(unsafe {
+        raw::hbr_book_plan(
+            file.as_ptr(),
+            file.len(),
+            bound,
+            at,
+            length,
+            book.counts.as_mut_ptr(),
+            book.counts.len(),
+            answer.as_mut_ptr(),
+            answer.len(),
+        )
+    })?;
+    Ok(answer[0] as usize)
+}
+
+/// Why no plan can meet the bound; `None` where one can. Refusals: 12, 1 to 6, 13, 7, 8.
 pub fn reason(file: &[u8], bound: i32) -> Result<Option<Reason>, Refused> {
     let mut answer = [0; 19];
     told(unsafe {
@@ -288,7 +385,7 @@ pub fn reason(file: &[u8], bound: i32) -> Result<Option<Reason>, Refused> {
 }
 
 /// A reason as one English line, written from `line[0]` on, without a line feed; `MOST_LINE` bytes are always enough. The reason
-/// may be by anybody: one that does not stand at this bound has an empty line. Refusals: 12, 1 to 9.
+/// may be by anybody: one that does not stand at this bound has an empty line. Refusals: 12, 1 to 6, 13, 7 to 9.
 pub fn sentence<'a>(
     file: &[u8],
     bound: i32,
@@ -314,7 +411,8 @@ pub fn sentence<'a>(
     Ok(core::str::from_utf8(written).expect("a line is ASCII"))
 }
 
-/// The one reason that stands at this bound and whose line these bytes are; `None` for any other line. Refusals: 12, 1 to 8.
+/// The one reason that stands at this bound and whose line these bytes are; `None` for any other line. Refusals: 12, 1
+/// to 6, 13, 7, 8.
 pub fn parse(file: &[u8], bound: i32, line: &[u8]) -> Result<Option<Reason>, Refused> {
     let mut answer = [0; 19];
     told(unsafe {
@@ -331,7 +429,8 @@ pub fn parse(file: &[u8], bound: i32, line: &[u8]) -> Result<Option<Reason>, Ref
     Ok(Reason::of(&answer))
 }
 
-/// Whether rows, made by anybody and in any order, are a right plan that meets the bound. Refusals: 12, 1 to 8, 11.
+/// Whether rows, made by anybody and in any order, are a right plan that meets the bound. Refusals: 12, 1 to 6, 13, 7, 8,
+/// 11.
 pub fn check(file: &[u8], bound: i32, rows: &[Row]) -> Result<bool, Refused> {
     let mut answer = [0; 1];
     let (at, length) = (rows.as_ptr().cast(), rows.len() * 4);
@@ -349,10 +448,10 @@ pub fn check(file: &[u8], bound: i32, rows: &[Row]) -> Result<bool, Refused> {
     Ok(answer[0] == 1)
 }
 
-/// Writes the order file of an order; its length. Refusals: 1 to 7, 9.
+/// Writes the order file of an order; its length. Refusals: 1 to 6, 13, 7, 9.
 pub fn write(memories: &[u32], jobs: &[Job], file: &mut [u8]) -> Result<usize, Refused> {
     let mut answer = [0; 1];
-    let (job, numbers) = (jobs.as_ptr().cast(), jobs.len() * 3);
+    let (job, numbers) = (jobs.as_ptr().cast(), jobs.len() * 4);
     let (at, length) = (file.as_mut_ptr(), file.len());
     told(unsafe {
         raw::hbr_write(

@@ -1,13 +1,15 @@
-//! An order of jobs on processors, and whether it is accepted: refusals 1 to 7.
+//! An order of jobs on processors, and whether it is accepted: refusals 1 to 7, and 13 after 6.
 
 pub const MOST_PROCESSORS: usize = 16;
 pub const MOST_JOBS: usize = 48;
+pub const MAKERS: usize = 16;
 
 #[derive(Clone, Copy, Default)]
 pub struct Job {
     pub time: u32,
     pub due: i32,
     pub need: u32,
+    pub maker: u32,
 }
 
 /// Counts, and as many processors and jobs; zeros beyond.
@@ -68,13 +70,16 @@ fn first(order: &Order, wrong: impl Fn(&Job) -> bool) -> Option<usize> {
     order.jobs().iter().position(wrong)
 }
 
-/// Refusals 5 to 7, each with the first job that it is about.
+/// Refusals 5, 6, 13 and 7, each with the first job that it is about.
 pub fn accept_jobs(order: &Order) -> Result<(), Refusal> {
     if let Some(place) = first(order, |job| !(1..=100_000).contains(&job.time)) {
         return Err(Refusal::about(5, place));
     }
     if let Some(place) = first(order, |job| !(-1_000_000..=1_000_000).contains(&job.due)) {
         return Err(Refusal::about(6, place));
+    }
+    if let Some(place) = first(order, |job| !(1..=MAKERS as u32).contains(&job.maker)) {
+        return Err(Refusal::about(13, place));
     }
     let fits = |need: u32| order.memories().iter().any(|&memory| need <= memory);
     if let Some(place) = first(order, |job| !fits(job.need)) {

@@ -1,6 +1,9 @@
-//! The order of an order file: refusal 12, then 1 to 7.
+//! The order of an order file: refusal 12, then those of an order.
 
 use super::order::{self, Job, Order, Refusal, MOST_JOBS, MOST_PROCESSORS};
+
+/// The bytes of a job.
+const JOB: usize = 16;
 
 const BAD_FILE: Refusal = Refusal::plain(12);
 
@@ -22,7 +25,7 @@ fn number2(bytes: &[u8]) -> usize {
 
 /// The trailer of a file, where the lists and it agree.
 fn trailer(file: &[u8]) -> Option<Trailer> {
-    if !(12..=652).contains(&file.len()) {
+    if !(12..=844).contains(&file.len()) {
         return None;
     }
     let bytes = &file[file.len() - 12..];
@@ -30,11 +33,11 @@ fn trailer(file: &[u8]) -> Option<Trailer> {
     let jobs_at = number4(&bytes[4..]) as usize;
     let processors = number2(&bytes[8..]);
     let jobs = number2(&bytes[10..]);
-    if 4 * processors + 12 * jobs + 12 != file.len() {
+    if 4 * processors + JOB * jobs + 12 != file.len() {
         return None;
     }
     let processors_first = processors_at == 0 && jobs_at == 4 * processors;
-    let jobs_first = jobs_at == 0 && processors_at == 12 * jobs;
+    let jobs_first = jobs_at == 0 && processors_at == JOB * jobs;
     (processors_first || jobs_first).then_some(Trailer {
         processors_at,
         jobs_at,
@@ -60,11 +63,12 @@ pub fn read(file: &[u8]) -> Result<Order, Refusal> {
     {
         *memory = number4(bytes);
     }
-    let job_list = &file[trailer.jobs_at..][..12 * trailer.jobs];
-    for (job, bytes) in order.jobs.iter_mut().zip(job_list.chunks_exact(12)) {
+    let job_list = &file[trailer.jobs_at..][..JOB * trailer.jobs];
+    for (job, bytes) in order.jobs.iter_mut().zip(job_list.chunks_exact(JOB)) {
         job.time = number4(bytes);
         job.due = number4(&bytes[4..]) as i32;
         job.need = number4(&bytes[8..]);
+        job.maker = number4(&bytes[12..]);
     }
     order::accept_jobs(&order)?;
     Ok(order)
