@@ -12,7 +12,7 @@ use Rattle.sums.specs.Lists.{All, tabulate}
 use Rattle.sums.specs.Places.{tabulate-cong, set-tabulate}
 use Rattle.order.specs.Order.{Order}
 use Rattle.order.specs.Refusals.{mostMakers}
-use Rattle.book.specs.Book.{minutesBy, added, booked, someOver}
+use Rattle.book.specs.Book.{minutesBy, added, someOver, overBooked}
 use Rattle.book.specs.Told.{bookingOf}
 use Rattle.book.specs.declared.Book.{Book}
 use Rattle.book.specs.declared.Booking.{Booking}
@@ -56,7 +56,7 @@ module _ (counts minutes : List ℕ) where
 -- what booking answers, from the minutes and the test
 module _ (o : Order) (book : Book) (minutes : List ℕ) (full : Bool) (e : minutes ≡ minutesBy o)
     (is : full ≡ someOver (added (book .counts) minutes)) where
-  over : someOver (booked o (book .counts)) ≡ full
+  over : overBooked o (book .counts) ≡ full
   over = sym (is ∙ ap (λ (ms : List ℕ). someOver (added (book .counts) ms)) e)
 
   pub full-booking : full ≡ true → _≡_ {A = Booking} (record { full = true; book = book }) (bookingOf o book)

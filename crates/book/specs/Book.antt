@@ -31,7 +31,7 @@ added counts minutes = tabulate mostMakers (λ i. getD counts i 0 + getD minutes
 abbrev pub booked : Order → List ℕ → List ℕ
 booked o counts = added counts (minutesBy o)
 
--- "a count that would then be over 4,000,000,000, handed in so or not": any of the sixteen
+-- "a count that would then be over 4,000,000,000, handed in so or not": of any of the sixteen makers, with a job in this order or not
 abbrev pub mostBooked : ℕ
 mostBooked = 4000000000
 
@@ -39,9 +39,12 @@ unfoldable pub someOver : List ℕ → Bool
 someOver [] = false
 someOver (count ∷ counts) = ltb mostBooked count || someOver counts
 
+abbrev pub overBooked : Order → List ℕ → Bool
+overBooked o counts = someOver (booked o counts)
+
 -- row 14, "last of all and before any row is written"
 abbrev pub bookRow : Order → List ℕ → TableRow
-bookRow o counts = row 14 (whole (someOver (booked o counts)))
+bookRow o counts = row 14 (whole (overBooked o counts))
 
 -- the book that is given back, by what the table answers: "a refused plan books nothing"
 abbrev pub bookedBy : Verdict → Order → List ℕ → List ℕ

@@ -1,7 +1,7 @@
 -- What the code's booking stands for.
 use mathlib.Core.Bool.{Bool, true, false}
 use Rattle.order.specs.Order.{Order}
-use Rattle.book.specs.Book.{booked, someOver}
+use Rattle.book.specs.Book.{booked, overBooked}
 use Rattle.book.specs.declared.Book.{Book}
 use Rattle.book.specs.declared.Booking.{Booking}
 
@@ -11,4 +11,4 @@ bookingBy false book after = record { full = false; book = after }
 
 -- the book with the order's minutes; as it was where a count would be over the limit
 unfoldable pub bookingOf : Order → Book → Booking
-bookingOf o book = bookingBy (someOver (booked o (book .counts))) book (record { counts = booked o (book .counts) })
+bookingOf o book = bookingBy (overBooked o (book .counts)) book (record { counts = booked o (book .counts) })

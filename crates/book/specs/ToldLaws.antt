@@ -2,7 +2,7 @@
 use mathlib.Core.Path.{_≡_, refl, sym, ap, _∙_}
 use mathlib.Core.Bool.{Bool, true, false}
 use Rattle.order.specs.Order.{Order}
-use Rattle.book.specs.Book.{booked, someOver}
+use Rattle.book.specs.Book.{booked, overBooked}
 use Rattle.book.specs.Told.{bookingBy, bookingOf}
 use Rattle.book.specs.declared.Book.{Book}
 use Rattle.book.specs.declared.Booking.{Booking}
@@ -12,9 +12,9 @@ full-by true book after = refl
 full-by false book after = refl
 
 module _ (o : Order) (book : Book) (r : Booking) (e : r ≡ bookingOf o book) where
-  pub booking-full : someOver (booked o (book .counts)) ≡ r .full
+  pub booking-full : overBooked o (book .counts) ≡ r .full
   unfolding bookingOf
-  booking-full = sym (ap (λ (x : Booking). x .full) e ∙ full-by (someOver (booked o (book .counts))) book _)
+  booking-full = sym (ap (λ (x : Booking). x .full) e ∙ full-by (overBooked o (book .counts)) book _)
 
   pub booking-counts : r .full ≡ false → r .book .counts ≡ booked o (book .counts)
   unfolding bookingOf

@@ -34,7 +34,7 @@ use Rattle.reason.specs.declared.Why.{Why}
 use Rattle.sentence.specs.Handed.{handed}
 use Rattle.sentence.specs.Line.{composed}
 use Rattle.sentence.specs.Told.{composeRows, readRows as lineRows}
-use Rattle.book.specs.Book.{booked, someOver}
+use Rattle.book.specs.Book.{overBooked}
 use Rattle.planner.specs.Rows.{rowsAsked, isFound, leastRows, earlierRows, planRows, bookedLeastRows, bookedPlanRows}
 
 -- a refusal carries what its verdict carries
@@ -118,11 +118,11 @@ plan-carries o bound n =
 
 pub least-book-carries : (o : Order) (n : ℕ) (counts : List ℕ) → carriedBy (judge (bookedLeastRows o n counts)) ≤ 48
 least-book-carries o n counts =
-    append-carries (leastRows o n) _ (least-carries o n) (whole-carries 14 48 (someOver (booked o counts)) [] none-carries)
+    append-carries (leastRows o n) _ (least-carries o n) (whole-carries 14 48 (overBooked o counts) [] none-carries)
 
 pub plan-book-carries : (o : Order) (bound : ℤ) (n : ℕ) (counts : List ℕ) → carriedBy (judge (bookedPlanRows o bound n counts)) ≤ 48
 plan-book-carries o bound n counts =
-    append-carries (planRows o bound n) _ (plan-carries o bound n) (whole-carries 14 48 (someOver (booked o counts)) [] none-carries)
+    append-carries (planRows o bound n) _ (plan-carries o bound n) (whole-carries 14 48 (overBooked o counts) [] none-carries)
 
 pub check-carries : (o : Order) (bound : ℤ) (n : ℕ) → carriedBy (judge (checkRows o bound n)) ≤ 48
 unfolding checkRows

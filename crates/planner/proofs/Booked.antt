@@ -13,7 +13,7 @@ use Rattle.order.specs.TableLaws.{refused-told}
 use Rattle.order.specs.declared.Acceptance.the-variants.{Accepted as Accepts, Refused as Refuses}
 use Rattle.order.specs.declared.Refusal.{Refusal}
 use Rattle.order.specs.declared.Refusal.the-variants.{BookFull}
-use Rattle.book.specs.Book.{booked, someOver, bookRow, bookedBy}
+use Rattle.book.specs.Book.{booked, bookRow, bookedBy, overBooked}
 use Rattle.book.specs.declared.Book.{Book}
 use Rattle.plan.specs.IsLeast.{IsLeast}
 use Rattle.profile.specs.Least.{leastLateness}
@@ -54,11 +54,11 @@ module _ (rows : List TableRow) (o : Order) (counts : List ℕ) where
   refused-with : (number carried : ℕ) → judge rows ≡ refused number carried → judge with-book ≡ refused number carried
   refused-with number carried e = judge-refused-append rows (bookRow o counts ∷ []) number carried e
 
-  full-with : judge rows ≡ accepted → someOver (booked o counts) ≡ true → judge with-book ≡ refused 14 0
+  full-with : judge rows ≡ accepted → overBooked o counts ≡ true → judge with-book ≡ refused 14 0
   unfolding judge
   full-with e h = judge-accepted-append rows (bookRow o counts ∷ []) e ∙ rw h
 
-  room-with : judge rows ≡ accepted → someOver (booked o counts) ≡ false → judge with-book ≡ accepted
+  room-with : judge rows ≡ accepted → overBooked o counts ≡ false → judge with-book ≡ accepted
   unfolding judge
   room-with e h = judge-accepted-append rows (bookRow o counts ∷ []) e ∙ rw h
 
@@ -107,13 +107,13 @@ module _ (o : Order) (bound : ℤ) (n : ℕ) (book : Book) where
           ap (λ (t : Tightness). record { tightness = t; dues = j .dues }) (sym (ap tightnessJudged e))
           ∙ (judged .reason-whole ∙ ap (λ (x : Verdict). whyOf o (reasonCarried x (reasonOf o bound))) (opened o bound n j judged e))
 
-      pub full-booked : someOver (booked o (book .counts)) ≡ true →
+      pub full-booked : overBooked o (book .counts) ≡ true →
           r ≡ record { answer = record { planned = Refused BookFull; dues = j .dues }; book = book } → BookEnsured entry entry r
       full-booked h =
           put-together (refused 14 0) (full-with (planRows o bound n) o (book .counts) (opened o bound n j judged e) h) entry entry
           (record { planned = Refused BookFull; dues = j .dues }) book (refl, ((ap whyTold untold, untold), (refl, refl))) refl r
 
-      pub rows-booked : someOver (booked o (book .counts)) ≡ false → (exit : List ℕ) (count : ℕ) (after : Book) →
+      pub rows-booked : overBooked o (book .counts) ≡ false → (exit : List ℕ) (count : ℕ) (after : Book) →
           Written o bound entry exit count → after .counts ≡ booked o (book .counts) →
           r ≡ record { answer = record { planned = Rows count; dues = j .dues }; book = after } → BookEnsured entry exit r
       rows-booked h exit count after written counts =
@@ -151,13 +151,13 @@ module _ (o : Order) (n : ℕ) (book : Book) where
         (subst (λ (y : Verdict). LeastEnsuredBy y o entry entry (LeastRefused rf)) x (least-refused o n j judged entry rf e)) refl r
 
     module _ (e : j .status ≡ Accepts) where
-      pub least-full-booked : someOver (booked o (book .counts)) ≡ true → r ≡ record { least = LeastRefused BookFull; book = book } →
+      pub least-full-booked : overBooked o (book .counts) ≡ true → r ≡ record { least = LeastRefused BookFull; book = book } →
           LeastBookEnsured entry entry r
       least-full-booked h =
           least-together (refused 14 0) (full-with (leastRows o n) o (book .counts) (least-opened o n j judged e) h) entry entry
           (LeastRefused BookFull) book (refl, (tt, (refl, refl))) refl r
 
-      pub least-booked : someOver (booked o (book .counts)) ≡ false → IsLeast o (leastLateness o) → (exit : List ℕ) (count : ℕ) (z : ℤ)
+      pub least-booked : overBooked o (book .counts) ≡ false → IsLeast o (leastLateness o) → (exit : List ℕ) (count : ℕ) (z : ℤ)
           (after : Book) → z ≡ leastLateness o → Written o (leastLateness o) entry exit count → after .counts ≡ booked o (book .counts) →
           r ≡ record { least = At z count; book = after } → LeastBookEnsured entry exit r
       least-booked h least exit count z after f written counts =

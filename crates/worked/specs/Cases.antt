@@ -1,10 +1,10 @@
--- Document 01's cases with a ●, the lines of document 02, §1, joined rows of §2, ends of §3, and more: one table, and one theorem that
--- every case holds of the definitions.
+-- Document 01's cases with a ●, the lines of document 02, §1, joined rows of §2, ends of §3, makers and books of §4, and more: one
+-- table, and one theorem that every case holds of the definitions.
 use Prim.Native.Nat.{ℕ, suc}
 use Prim.Native.String.{String}
 use mathlib.Core.Path.{_≡_, refl, sym, ap, _∙_, subst}
 use mathlib.Core.Bool.{Bool, true, false, true≢false}
-use mathlib.Core.List.{List, [], _∷_, map}
+use mathlib.Core.List.{List, [], _∷_, _++_, map}
 use lib.IntN.{ℤ, pos, negℤ}
 use Rattle.sums.specs.Sum.{sum}
 use lib.ListN.{getD}
@@ -13,7 +13,13 @@ use Rattle.sums.specs.Same.{sameList}
 use Rattle.order.specs.Order.{Order, processorCount, endAt, endOf}
 use Rattle.order.specs.Sorted.{insert, distinct, dueTimes, placeByKey, byFalling, processorOrder, jobOrder}
 use Rattle.order.specs.Class.{classes, lastThatSuffices, classFor, classOf, processorsIn, processorsTo}
-use Rattle.order.specs.Refusals.{limits, Verdict, accepted, judge, firstAfter, fitsSome, orderRows, Accepted}
+use Rattle.order.specs.Refusals.{limits, Verdict, accepted, refused, judge, firstAfter, fitsSome, orderRows, Accepted}
+use Rattle.order.specs.Table.{padded}
+use Rattle.order_file.specs.File.{orderIn, processorBytes, jobBytes, fileOf}
+use Rattle.book.specs.Book.{minutesBy, added, someOver}
+use Rattle.book.specs.Calls.{judgedWith, givenBack, bookAfter}
+use Rattle.planner.specs.Rows.{leastRows, earlierRows, planRows}
+use Rattle.planner.specs.Booked.{Booking, least as atLeast, bound as atBound, callOf, bookOf}
 use Rattle.plan.specs.Plan.{Row, Right}
 use Rattle.plan.specs.Join.{joinRow, joinRows, joined}
 use Rattle.plan.specs.IsLeast.{IsLeast}
@@ -35,7 +41,7 @@ use Rattle.wrap.specs.Stretches.{ends, mark}
 use Rattle.wrap.specs.Layout.{fill, sharesOf, stretchRows, rowsUpTo, layout}
 use Rattle.wrap.specs.Ending.{jobWhere, endsWith}
 use Rattle.feasible.specs.Least.{is-least}
-use Rattle.worked.specs.Orders.{A, B, C, D, needZero, overdue, twoOverfull, twoLate, onTop, chain, wraps}
+use Rattle.worked.specs.Orders.{A, B, C, D, needZero, overdue, twoOverfull, twoLate, onTop, chain, wraps, shared, ofMaker, nineJobs}
 
 -- amounts by job, and for each job by stretch
 abbrev pub amountsOf : List (List ℕ) → ℕ → ℕ → ℕ
@@ -48,7 +54,8 @@ endingJobs o bound a s =
 
 -- a case: a least lateness; a reason at a bound with its minutes owed and on hand; a plan and whether it is right; the line of a reason,
 -- and a reason that does not stand; amounts with their layout and its joined rows; rows and the joined ones; amounts, a stretch and the
--- job that each processor ends it with
+-- job that each processor ends it with; what an order is refused with; its file; a booked call with the counts handed in, what its table
+-- answers, and the counts given back; and the counts after booked calls from opening on
 pub data Case : Type 0 where
   leastIs : Order → ℤ → Case
   reasonIs : Order → ℤ → Reason → ℕ → ℤ → Case
@@ -59,6 +66,10 @@ pub data Case : Type 0 where
   laidIs : Order → ℤ → List (List ℕ) → List Row → List Row → Case
   joinedIs : List Row → List Row → Case
   endsIs : Order → ℤ → List (List ℕ) → ℕ → List ℕ → Case
+  refusedIs : Order → ℕ → ℕ → Case
+  fileIs : Order → List ℕ → Case
+  bookIs : Booking → List ℕ → Verdict → List ℕ → Case
+  booksAre : List Booking → List ℕ → Case
 
 -- what a case says, in the words of the definitions
 abbrev pub Holds : Case → Type 0
@@ -74,6 +85,10 @@ Holds (laidIs o bound amounts rows plan) =
     (layout o bound (amountsOf amounts) ≡ rows) × (joined rows ≡ plan) × Right o bound plan
 Holds (joinedIs rows plan) = (joined rows ≡ plan) × (joined plan ≡ plan)
 Holds (endsIs o bound amounts s jobs) = endingJobs o bound (amountsOf amounts) s ≡ jobs
+Holds (refusedIs o number carried) = judge (orderRows limits o) ≡ refused number carried
+Holds (fileIs o file) = (fileOf o ≡ file) × (orderIn file ≡ o)
+Holds (bookIs call counts verdict back) = (judgedWith (callOf call) counts ≡ verdict) × (givenBack (callOf call) counts ≡ back)
+Holds (booksAre calls counts) = bookOf calls ≡ counts
 
 -- a row: job, processor, from, to; and a row of job 1 on processor 1
 abbrev row : ℕ → ℕ → ℕ → ℕ → Row
@@ -81,6 +96,10 @@ row job processor from to = record { job = job; processor = processor; from = fr
 
 abbrev piece : ℕ → ℕ → Row
 piece from to = row 1 1 from to
+
+-- sixteen numbers: those given, and 0 beyond
+abbrev sixteen : List ℕ → List ℕ
+sixteen xs = padded 16 xs
 
 -- minus 8 is -8
 abbrev minus : ℕ → ℤ
@@ -136,6 +155,26 @@ cases =
     ∷ joinedIs (row 1 1 0 2 ∷ row 1 2 2 4 ∷ []) (row 1 1 0 2 ∷ row 1 2 2 4 ∷ [])
     ∷ joinedIs (row 1 1 0 2 ∷ row 2 1 2 4 ∷ []) (row 1 1 0 2 ∷ row 2 1 2 4 ∷ [])
     ∷ joinedIs (row 1 1 0 2 ∷ row 1 1 3 4 ∷ []) (row 1 1 0 2 ∷ row 1 1 3 4 ∷ [])
+    -- document 02, §4: makers 0 and 17; 13 at job 9 before 7 at job 1, and after 6 at job 9; C's file
+    ∷ refusedIs (ofMaker 0) 13 1
+    ∷ refusedIs (ofMaker 17) 13 1
+    ∷ refusedIs (nineJobs (pos 1)) 13 9
+    ∷ refusedIs (nineJobs (pos 1000001)) 6 9
+    ∷ fileIs C (4 ∷ 0 ∷ 0 ∷ 0 ∷ 3 ∷ 0 ∷ 0 ∷ 0 ∷ 10 ∷ 0 ∷ 0 ∷ 0 ∷ 4 ∷ 0 ∷ 0 ∷ 0 ∷ 1 ∷ 0 ∷ 0 ∷ 0
+    ∷ 0 ∷ 0 ∷ 0 ∷ 0 ∷ 4 ∷ 0 ∷ 0 ∷ 0 ∷ 1 ∷ 0 ∷ 1 ∷ 0 ∷ [])
+    -- a count that becomes 4,000,000,000, and one that would be over; of a maker with no job here; all of them; a full book and a bound
+    -- that is too tight
+    ∷ bookIs (atLeast C 4) (sixteen (3999999997 ∷ [])) accepted (sixteen (4000000000 ∷ []))
+    ∷ bookIs (atBound C (minus 8) 4) (sixteen (3999999997 ∷ [])) accepted (sixteen (4000000000 ∷ []))
+    ∷ bookIs (atLeast C 4) (sixteen (3999999998 ∷ [])) (refused 14 0) (sixteen (3999999998 ∷ []))
+    ∷ bookIs (atLeast C 4) (tabulate 15 (λ _. 0) ++ (4000000001 ∷ [])) (refused 14 0) (tabulate 15 (λ _. 0) ++ (4000000001 ∷ []))
+    ∷ bookIs (atLeast C 4) (tabulate 15 (λ _. 0) ++ (4000000000 ∷ [])) accepted (3 ∷ (tabulate 14 (λ _. 0) ++ (4000000000 ∷ [])))
+    ∷ bookIs (atLeast C 4) (tabulate 16 (λ _. 4294967295)) (refused 14 0) (tabulate 16 (λ _. 4294967295))
+    ∷ bookIs (atBound C (minus 9) 4) (tabulate 16 (λ _. 4294967295)) (refused 10 0) (tabulate 16 (λ _. 4294967295))
+    ∷ bookIs (atLeast C 3) (tabulate 16 (λ _. 4294967295)) (refused 9 0) (tabulate 16 (λ _. 4294967295))
+    -- two makers, over calls of which some are refused
+    ∷ booksAre [] (sixteen [])
+    ∷ booksAre (atLeast shared 32 ∷ atBound C (minus 9) 4 ∷ atBound shared (pos 0) 32 ∷ atLeast C 3 ∷ []) (sixteen (6 ∷ 10 ∷ []))
     -- beyond document 01's: of two overfull staircases, the one that ranks first
     ∷ reasonIs twoOverfull (minus 1) (stairs (pos 4 ∷ pos 2 ∷ [])) 8 (pos 6)
     -- an empty row, and one that goes backwards, beside a right plan
@@ -166,6 +205,10 @@ data Value : Type 0 where
   laidOut : List Row → List Row → Bool → Value
   twice : List Row → List Row → Value
   endings : List ℕ → Value
+  judged : Verdict → Value
+  file : List ℕ → Order → Value
+  booked : Verdict → List ℕ → Value
+  books : List ℕ → Value
 
 -- its value as computed, and as the case states it
 abbrev computed : Case → Value
@@ -181,6 +224,10 @@ computed (laidIs o bound amounts rows plan) =
     laidOut (layout o bound (amountsOf amounts)) (joined rows) (isRight o bound (numbersOf plan))
 computed (joinedIs rows plan) = twice (joined rows) (joined plan)
 computed (endsIs o bound amounts s jobs) = endings (endingJobs o bound (amountsOf amounts) s)
+computed (refusedIs o number carried) = judged (judge (orderRows limits o))
+computed (fileIs o bytes) = file (fileOf o) (orderIn bytes)
+computed (bookIs call counts verdict back) = booked (judgedWith (callOf call) counts) (givenBack (callOf call) counts)
+computed (booksAre calls counts) = books (bookOf calls)
 
 abbrev stated : Case → Value
 stated (leastIs o least) = leastOf accepted least
@@ -192,6 +239,10 @@ stated (noLine o bound reason) = standing false []
 stated (laidIs o bound amounts rows plan) = laidOut rows plan true
 stated (joinedIs rows plan) = twice plan plan
 stated (endsIs o bound amounts s jobs) = endings jobs
+stated (refusedIs o number carried) = judged (refused number carried)
+stated (fileIs o bytes) = file bytes o
+stated (bookIs call counts verdict back) = booked verdict back
+stated (booksAre calls counts) = books counts
 
 right-rows : (o : Order) (bound : ℤ) (rows : List Row) → isRight o bound (numbersOf rows) ≡ true → Right o bound rows
 right-rows o bound rows e =
@@ -226,6 +277,10 @@ case-holds (noLine o bound reason) e =
 case-holds (laidIs o bound amounts rows plan) e = (cc, cc, right-rows o bound plan cc)
 case-holds (joinedIs rows plan) e = (cc, cc)
 case-holds (endsIs o bound amounts s jobs) e = cc
+case-holds (refusedIs o number carried) e = cc
+case-holds (fileIs o bytes) e = (cc, cc)
+case-holds (bookIs call counts verdict back) e = (cc, cc)
+case-holds (booksAre calls counts) e = cc
 
 all-hold : (cs : List Case) → map computed cs ≡ map stated cs → All Holds cs
 all-hold [] e = tt
@@ -239,7 +294,8 @@ unfolding sum endAt endOf insert distinct dueTimes classes lastThatSuffices clas
     fitsSome numbersOf every everyTwo isRight owed classOwes owedFrom onHandFrom choices ranked firstSuch firstOverfull reasonOf
     weightAt weightFrom largest heaviest most leastReach leastLateness keep jobsOverEnd overfullStairs reasonsAt isOneOf sameList
     classesFrom lineOf composed readBack digitsWithin decimal signedDecimal placeByKey byFalling processorOrder jobOrder ends mark
-    fill sharesOf stretchRows rowsUpTo layout jobWhere joinRow joinRows
+    fill sharesOf stretchRows rowsUpTo layout jobWhere joinRow joinRows processorBytes jobBytes fileOf orderIn minutesBy added someOver
+    bookAfter leastRows earlierRows planRows
 all-computed = refl
 
 -- every case holds

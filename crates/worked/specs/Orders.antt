@@ -7,6 +7,10 @@ use Rattle.order.specs.Order.{Job, Order}
 abbrev job : ℕ → ℤ → ℕ → Job
 job time due need = record { time = time; due = due; need = need; maker = 1 }
 
+-- the same of a maker
+abbrev jobOfMaker : ℕ → ℕ → ℤ → ℕ → Job
+jobOfMaker maker time due need = record { time = time; due = due; need = need; maker = maker }
+
 abbrev order : List ℕ → List Job → Order
 order memories jobs = record { memories = memories; jobs = jobs }
 
@@ -49,3 +53,17 @@ wraps = order (8 ∷ 8 ∷ 4 ∷ []) (job 5 (pos 6) 8 ∷ job 5 (pos 6) 8 ∷ jo
 -- memory 4; jobs (3, 1, 0), (1, 9, 0), (5, 2, 0): at -1 the first and the last are over their ends
 abbrev pub twoLate : Order
 twoLate = order (4 ∷ []) (job 3 (pos 1) 0 ∷ job 1 (pos 9) 0 ∷ job 5 (pos 2) 0 ∷ [])
+
+-- document 02, §4: A's jobs of two makers; C of makers 0 and 17; nine jobs of which the first fits no processor and the last has no maker,
+-- and is due too late
+abbrev pub shared : Order
+shared = order (8 ∷ 4 ∷ []) (jobOfMaker 1 3 (pos 3) 8 ∷ jobOfMaker 2 3 (pos 3) 4 ∷ jobOfMaker 2 2 (pos 4) 2 ∷ [])
+
+abbrev pub ofMaker : ℕ → Order
+ofMaker maker = order (4 ∷ []) (jobOfMaker maker 3 (pos 10) 4 ∷ [])
+
+abbrev pub nineJobs : ℤ → Order
+nineJobs due =
+    order (4 ∷ [])
+    (job 1 (pos 1) 5 ∷ job 1 (pos 1) 4 ∷ job 1 (pos 1) 4 ∷ job 1 (pos 1) 4 ∷ job 1 (pos 1) 4 ∷ job 1 (pos 1) 4 ∷ job 1 (pos 1) 4
+    ∷ job 1 (pos 1) 4 ∷ jobOfMaker 17 1 due 4 ∷ [])
