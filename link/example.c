@@ -1,19 +1,20 @@
-/* Plans an order from C: two processors, three jobs. Prints the least lateness, a plan that meets it, and why -1 is too tight, in
- * due times and as a sentence. */
+/* Plans an order from C: two processors, three jobs of two makers. Prints the least lateness, a plan that meets it, why -1 is too
+ * tight, in due times and as a sentence, and the minutes booked for each maker. */
 #include "highboyrobin.h"
 #include <stdio.h>
 
 int main(void) {
   const uint32_t memories[] = {8, 4};
-  const uint32_t jobs[] = {/* time, due, need */ 3, 3, 8, 3, 3, 4, 2, 4, 2};
+  const uint32_t jobs[] = {/* time, due, need, maker */ 3, 3, 8, 1, 3, 3, 4, 2, 2, 4, 2, 2};
   static uint8_t file[HBR_MOST_BYTES];
   static uint32_t rows[4 * HBR_MOST_ROWS];
   static uint8_t line[HBR_MOST_LINE];
-  int32_t length[HBR_WRITE_ANSWER], least[HBR_LEAST_ANSWER], reason[HBR_REASON_ANSWER], written[HBR_SENTENCE_ANSWER];
+  static uint32_t book[HBR_MOST_MAKERS]; /* opened: sixteen zeros */
+  int32_t length[HBR_WRITE_ANSWER], least[HBR_BOOK_LEAST_ANSWER], reason[HBR_REASON_ANSWER], written[HBR_SENTENCE_ANSWER];
 
-  uint32_t result = hbr_write(memories, 2, jobs, 9, file, sizeof file, length, HBR_WRITE_ANSWER);
+  uint32_t result = hbr_write(memories, 2, jobs, 12, file, sizeof file, length, HBR_WRITE_ANSWER);
   if (result == 0)
-    result = hbr_least(file, (size_t)length[0], rows, 4 * HBR_MOST_ROWS, least, HBR_LEAST_ANSWER);
+    result = hbr_book_least(file, (size_t)length[0], rows, 4 * HBR_MOST_ROWS, book, HBR_MOST_MAKERS, least, HBR_BOOK_LEAST_ANSWER);
   if (result == 0)
     result = hbr_reason(file, (size_t)length[0], -1, reason, HBR_REASON_ANSWER);
   if (result == 0)
@@ -33,5 +34,6 @@ int main(void) {
       printf(" %d", reason[3 + k]);
     printf("\n%.*s\n", (int)written[0], (const char *)line);
   }
+  printf("booked: maker 1 %u minutes, maker 2 %u minutes\n", (unsigned)book[0], (unsigned)book[1]);
   return 0;
 }

@@ -1,9 +1,9 @@
-// Plans an order from Rust: two processors, three jobs. Prints the least lateness, a plan that meets it, and why -1 is too tight,
-// in due times and as a sentence.
+// Plans an order from Rust: two processors, three jobs of two makers. Prints the least lateness, a plan that meets it, why -1 is too
+// tight, in due times and as a sentence, and the minutes booked for each maker.
 #[allow(dead_code)]
 mod highboyrobin;
-use highboyrobin::{judge, least, reason, sentence, write};
-use highboyrobin::{Job, Reason, Refused, Row, MOST_BYTES, MOST_LINE};
+use highboyrobin::{book_least, judge, reason, sentence, write};
+use highboyrobin::{Book, Job, Reason, Refused, Row, MOST_BYTES, MOST_LINE};
 
 fn main() -> Result<(), Refused> {
     let memories = [8, 4];
@@ -12,16 +12,19 @@ fn main() -> Result<(), Refused> {
             time: 3,
             due: 3,
             need: 8,
+            maker: 1,
         },
         Job {
             time: 3,
             due: 3,
             need: 4,
+            maker: 2,
         },
         Job {
             time: 2,
             due: 4,
             need: 2,
+            maker: 2,
         },
     ];
     let mut bytes = [0; MOST_BYTES];
@@ -29,7 +32,8 @@ fn main() -> Result<(), Refused> {
     let file = &bytes[..length];
 
     let mut rows = vec![Row::default(); judge(file)?.rows];
-    let answer = least(file, &mut rows)?;
+    let mut book = Book::open();
+    let answer = book_least(file, &mut rows, &mut book)?;
     println!("least lateness {}", answer.lateness);
     for row in &rows[..answer.rows] {
         println!(
@@ -42,5 +46,7 @@ fn main() -> Result<(), Refused> {
         dues[..classes].iter().for_each(|due| print!(" {due}"));
         println!("\n{}", sentence(file, -1, &why, &mut [0; MOST_LINE])?);
     }
+    let [first, second, ..] = book.counts;
+    println!("booked: maker 1 {first} minutes, maker 2 {second} minutes");
     Ok(())
 }

@@ -32,7 +32,9 @@ Summed counts minutes i r = r ≡ tabulate mostMakers (λ k. gate k i (sumAt cou
 
 module _ (counts minutes : List ℕ) where
   pub no-sum : Summed counts minutes 0 (tabulate mostMakers (λ k. 0))
-  no-sum = tabulate-cong mostMakers _ (λ k. gate k 0 (sumAt counts minutes k)) (λ k l. sym (gate-out k 0 (sumAt counts minutes k) (omega arith)))
+  no-sum =
+      tabulate-cong mostMakers _ (λ k. gate k 0 (sumAt counts minutes k))
+      (λ k l. sym (gate-out k 0 (sumAt counts minutes k) (omega arith)))
 
   gate-other : (k i v : ℕ) → k ≢ i → gate k i v ≡ gate k (i + 1) v
   gate-other k i v other =

@@ -73,6 +73,6 @@ module _ (t : OrderTable) where
     all-minutes minutes is e = (
       rw is e,
       All-from _ minutes 0 (λ i b.
-      minutes-read (omega arith) minutes e i
-      (omega (arith, ap length e, length-tabulate mostMakers (minutesIn j)))),
+          minutes-read (omega arith) minutes e i
+          (omega (arith, ap length e, length-tabulate mostMakers (minutesIn j)))),
     )

@@ -1,15 +1,15 @@
 -- Which counts are over; how many minutes a maker's jobs have at most; and that the makers' minutes are those of all jobs.
 use Prim.Native.Nat.{ℕ, zero, suc, _+_, _*_, _≤_, _<_}
-use mathlib.Core.Path.{_≡_, refl, sym, ap, _∙_}
+use mathlib.Core.Path.{_≡_, refl, sym, _∙_}
 use mathlib.Core.Bool.{Bool, true, false, _||_}
-use mathlib.Core.List.{List, [], _∷_}
+use mathlib.Core.List.{List}
 use native.Mathlib.Omega.{arith}
 use native.Mathlib.Nat.{mul-le-mul-right}
 use borrow.Author.Tests.{lt-ltb, le-ltb, ltb-false}
 use lib.Dec.{ltb, eqb}
 use lib.ListN.{length, getD}
 use Rattle.sums.specs.Sum.{sum, sum-cong}
-use Rattle.sums.specs.Gate.{gate, gate-in}
+use Rattle.sums.specs.Gate.{gate-in}
 use Rattle.sums.specs.Lists.{All, total, only, tabulate}
 use Rattle.sums.specs.Members.{All-map}
 use Rattle.sums.specs.Places.{length-tabulate, getD-tabulate}
@@ -81,6 +81,7 @@ module _ (o : Order) (ok : Accepted o) where
 
   pub minutes-all : sum mostMakers (λ i. minutesFor o (suc i)) ≡ minutesOf o
   minutes-all =
+      let makers = accepted-iff o .0 ok .makers in
       sum-cong mostMakers _ _ (λ i l. sym (gate-in 0 1 (minutesFor o (suc i)) (omega arith)))
-      ∙ (by-number mostMakers (λ (job : Job). job .maker) (λ _. 0) 1 (o .jobs) (λ (job : Job). job .time) (accepted-iff o .0 ok .makers)
-      ∙ total-cong (o .jobs) _ _ (All-map _ _ (o .jobs) (λ (job : Job) h. gate-in 0 1 (job .time) (omega arith)) (accepted-iff o .0 ok .makers)))
+      ∙ (by-number mostMakers (λ (job : Job). job .maker) (λ _. 0) 1 (o .jobs) (λ (job : Job). job .time) makers
+      ∙ total-cong (o .jobs) _ _ (All-map _ _ (o .jobs) (λ (job : Job) h. gate-in 0 1 (job .time) (omega arith)) makers))

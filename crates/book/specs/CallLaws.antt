@@ -2,11 +2,11 @@
 -- were written, the sixteen together are the times of all their jobs, and a refused call gives the same book.
 use Prim.Native.Nat.{ℕ, zero, suc, _+_, _≤_, _<_}
 use mathlib.Core.Path.{_≡_, refl, sym, ap, _∙_}
-use mathlib.Core.List.{List, [], _∷_, _++_}
+use mathlib.Core.List.{List, [], _∷_}
 use native.Mathlib.Omega.{arith}
 use lib.ListN.{length, getD}
 use Rattle.sums.specs.Sum.{sum, sum-cong}
-use Rattle.sums.specs.Lists.{All, total, nth, tabulate}
+use Rattle.sums.specs.Lists.{All, total, nth}
 use Rattle.sums.specs.Members.{All-map}
 use Rattle.sums.specs.Places.{getD-tabulate}
 use Rattle.sums.specs.Totals.{total-cong, total-places, sum-total}

@@ -6,7 +6,5 @@ ghost use Rattle.book.specs.Book.{opened};
 pub fn open_book() -> Book
     ensures { λ r. ⌜ r .counts ≡ opened ⌝ }
 {
-    Book {
-        counts: [0u32; 16],
-    }
+    Book { counts: [0u32; 16] }
 }

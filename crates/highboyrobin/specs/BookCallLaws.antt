@@ -6,23 +6,34 @@ use mathlib.Core.List.{List, [], _∷_, _++_, map}
 use native.Mathlib.Omega.{arith}
 use borrow.Author.Tests.{le-ltb}
 use lib.IntN.{ℤ}
-use lib.ListN.{length, take, drop, length-append, take-append-drop}
+use lib.ListN.{length, drop, length-append, take-append-drop}
 use lib.Seq.{take-at, drop-at, length-take-le}
-use Rattle.sums.specs.Lists.{All, total, nth}
+use Rattle.sums.specs.Lists.{total, nth}
 use Rattle.sums.specs.Members.{All-of-map, in-All}
 use Rattle.order.specs.Order.{Order, Numbers}
-use Rattle.order.specs.Refusals.{limits, mostMakers, clear, TableRow, Verdict, accepted, refused, judge, orderRows, boundRow, tightRow}
-use Rattle.order.specs.Refusals.{fileRow, Accepted}
-use Rattle.order.specs.RefusalLaws.{judge-clear, judge-accepted, accepted-first}
+use Rattle.order.specs.Refusals.{
+  limits,
+  mostMakers,
+  TableRow,
+  Verdict,
+  accepted,
+  refused,
+  judge,
+  orderRows,
+  boundRow,
+  tightRow,
+  fileRow,
+}
+use Rattle.order.specs.RefusalLaws.{judge-accepted, accepted-first}
 use Rattle.order_file.specs.File.{goodFile, orderIn}
 use Rattle.book.specs.Book.{opened, minutesFor, minutesOf, minutesBy, mostBooked, bookRow, bookedBy}
 use Rattle.book.specs.BookLaws.{added-length}
-use Rattle.book.specs.Calls.{Call, judgedWith, givenBack, bookAfter, ordersWritten}
+use Rattle.book.specs.Calls.{Call, givenBack, bookAfter, ordersWritten}
 use Rattle.book.specs.CallLaws.{Judges, book-counts, book-length, book-sum, book-most}
 use Rattle.profile.specs.Search.{reasonOf}
 use Rattle.planner.specs.AnswerLaws.{least-begins, plan-begins}
 use Rattle.planner.specs.Rows.{bufferRow, isFound, leastRows, planRows}
-use Rattle.highboyrobin.specs.Results.{answerRow, fileCall, shortBookRow}
+use Rattle.highboyrobin.specs.Results.{answerRow, fileCall}
 use Rattle.highboyrobin.specs.Calls.{leastCall, planCall}
 use Rattle.highboyrobin.specs.BookCalls.{bookCall, countsIn, bookLeastCall, bookPlanCall, bookLeft}
 
@@ -140,4 +151,6 @@ module _ (calls : List Lent) (beyond : List ℕ) where
   lent-few maker n = rw left-first (book-most (map callOf calls) maker n)
 
   pub lent-beyond : drop mostMakers left ≡ beyond
-  lent-beyond = ap (drop mostMakers) left-parts ∙ drop-at (bookAfter (map callOf calls) opened) beyond mostMakers (book-length (map callOf calls) opened refl)
+  lent-beyond =
+      ap (drop mostMakers) left-parts
+      ∙ drop-at (bookAfter (map callOf calls) opened) beyond mostMakers (book-length (map callOf calls) opened refl)

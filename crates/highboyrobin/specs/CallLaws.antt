@@ -213,7 +213,8 @@ module _ (f : List ℕ) (bound : ℤ) (answer : List ℤ) (e : judge (reasonCall
           let clears : All (λ (r : TableRow). r .finding ≡ clear) rows
           = (
             ap whole (le-ltb lent 1 room),
-            All-append (λ (r : TableRow). r .finding ≡ clear) (fileRow (goodFile f) ∷ (orderRows limits (orderIn f) ++ (boundRow bound ∷ [])))
+            All-append (λ (r : TableRow). r .finding ≡ clear)
+                (fileRow (goodFile f) ∷ (orderRows limits (orderIn f) ++ (boundRow bound ∷ [])))
                 (bufferRow (orderIn f) numbers ∷ []) (c .1) (ap whole (le-ltb (numbers / 4) (rowsAsked (orderIn f)) (h .1)), tt),
           ) in
           judge-clear rows (tightRow (isFound reason) ∷ []) clears ∙ tight-found reason (λ n. h .0 (none-is .1 n))

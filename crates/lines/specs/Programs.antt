@@ -28,7 +28,7 @@ abbrev pub isRefused : Verdict → Bool
 isRefused accepted = false
 isRefused (refused refusal carried) = true
 
--- plan-order judges 12, 1 to 7 and 9
+-- plan-order judges 12, the rows of acceptance and 9
 unfoldable pub planOrderRows : List ℕ → List TableRow
 planOrderRows file = fileRow (goodFile file) ∷ leastRows (orderIn file) rowsLent
 
@@ -49,7 +49,7 @@ pub record PlanOrderOutput (file buffer after : List ℕ) (r : Output) : Type 0 
   pub put : Put buffer 0 text after (r .length)
   pub told : r .refused ≡ isRefused (judge (planOrderRows file))
 
--- try-bound judges 12, then 1 to 10, of a file and a bound
+-- try-bound judges 12, the rows of acceptance, then 8, 9 and 10, of a file and a bound
 unfoldable pub tryBoundRows : List ℕ → ℤ → List TableRow
 tryBoundRows file bound = fileRow (goodFile file) ∷ planRows (orderIn file) bound rowsLent
 

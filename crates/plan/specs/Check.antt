@@ -68,6 +68,6 @@ isRight o bound numbers =
     && (everyTwo noOverlap (rowsOf numbers)
     && every (wholeJob o (rowsOf numbers)) (tabulate (jobCount o) suc))
 
--- the check judges 1 to 8, then 11
+-- the check judges the rows of acceptance, 8, then 11
 unfoldable pub checkRows : Order → ℤ → ℕ → List TableRow
 checkRows o bound numbers = orderRows limits o ++ (boundRow bound ∷ rowsToCheckRow numbers ∷ [])

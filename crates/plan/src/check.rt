@@ -1,4 +1,4 @@
-// The plan check: refusals 1 to 8, then 11; else yes or no.
+// The plan check: the refusals of acceptance, 8, then 11; else yes or no.
 use super::Checked;
 use super::rows::rows_right;
 use order::Acceptance;

@@ -8,7 +8,7 @@ use lib.IntN.{ℤ}
 use Rattle.order.specs.Order.{Order}
 use Rattle.order.specs.Refusals.{TableRow, Verdict, accepted, refused, judge, answerBy}
 use Rattle.order.specs.RefusalLaws.{judge-refused-append, judge-accepted-append}
-use Rattle.order.specs.Table.{refusalTold, acceptanceTold}
+use Rattle.order.specs.Table.{acceptanceTold}
 use Rattle.order.specs.TableLaws.{refused-told}
 use Rattle.order.specs.declared.Acceptance.the-variants.{Accepted as Accepts, Refused as Refuses}
 use Rattle.order.specs.declared.Refusal.{Refusal}
@@ -21,7 +21,7 @@ use Rattle.profile.specs.Search.{nothing, reasonOf}
 use Rattle.reason.specs.declared.Reason.{Reason as CodeReason}
 use Rattle.reason.specs.declared.Tightness.{Tightness}
 use Rattle.reason.specs.Told.{whyOf, whyTold}
-use Rattle.planner.specs.Judged.{judgedTold, tightnessJudged, whyJudged, JudgedAt, JudgedLeast}
+use Rattle.planner.specs.Judged.{judgedTold, tightnessJudged, JudgedAt, JudgedLeast}
 use Rattle.planner.specs.Rows.{leastRows, planRows, bookedLeastRows, bookedPlanRows}
 use Rattle.planner.specs.Told.{plannedTold, rowsOf, reasonCarried, whyIn, ReasonTold, leastTold, leastCount, LeastIn}
 use Rattle.planner.specs.Written.{Written, BufferBy}

@@ -54,7 +54,8 @@ pub booked-plan-begins : (o : Order) (bound : ℤ) (n : ℕ) (counts : List ℕ)
     ≡ orderRows limits o ++ (boundRow bound ∷ bufferRow o n ∷ tightRow (isFound (reasonOf o bound)) ∷ bookRow o counts ∷ [])
 booked-plan-begins o bound n counts =
     ap (λ (rows : List TableRow). rows ++ (bookRow o counts ∷ [])) (plan-begins o bound n)
-    ∙ append-assoc (orderRows limits o) (boundRow bound ∷ bufferRow o n ∷ tightRow (isFound (reasonOf o bound)) ∷ []) (bookRow o counts ∷ [])
+    ∙ append-assoc (orderRows limits o) (boundRow bound ∷ bufferRow o n ∷ tightRow (isFound (reasonOf o bound)) ∷ [])
+    (bookRow o counts ∷ [])
 
 kept : (v : Verdict) (number job : ℕ) → v ≡ refused number job → (o : Order) (bound : ℤ) (rows rows′ : List ℕ) (count : ℕ) →
     BufferBy v o bound rows rows′ count → rows′ ≡ rows

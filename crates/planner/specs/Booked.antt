@@ -4,13 +4,13 @@ use Prim.Native.Nat.{ℕ, _≤_}
 use mathlib.Core.Path.{_≡_}
 use mathlib.Core.List.{List, [], _∷_, map}
 use lib.IntN.{ℤ}
-use Rattle.sums.specs.Lists.{All, total, nth}
+use Rattle.sums.specs.Lists.{total, nth}
 use Rattle.sums.specs.Members.{All-of-map, in-All}
 use Rattle.order.specs.Order.{Order, Numbers}
-use Rattle.order.specs.Refusals.{limits, mostMakers, accepted, refused, judge, orderRows, boundRow, tightRow, Accepted}
+use Rattle.order.specs.Refusals.{limits, mostMakers, orderRows, boundRow, tightRow}
 use Rattle.order.specs.RefusalLaws.{accepted-first}
 use Rattle.book.specs.Book.{opened, minutesFor, minutesOf, mostBooked}
-use Rattle.book.specs.Calls.{Call, judgedWith, givenBack, bookAfter, ordersWritten}
+use Rattle.book.specs.Calls.{Call, bookAfter, ordersWritten}
 use Rattle.book.specs.CallLaws.{Judges, book-counts, book-sum, book-most}
 use Rattle.profile.specs.Search.{reasonOf}
 use Rattle.planner.specs.Rows.{bufferRow, isFound, leastRows, earlierRows, planRows}

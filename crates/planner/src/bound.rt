@@ -1,4 +1,4 @@
-// The planner at a bound: refusals 1 to 10, in the table's order; else a right plan that meets the bound.
+// The planner at a bound: the refusals of acceptance, then 8, 9 and 10; else a right plan that meets the bound.
 use super::Judgement;
 use super::PlanAnswer;
 use super::Planned;

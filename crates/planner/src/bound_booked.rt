@@ -1,5 +1,5 @@
-// The planner at a bound with a book: refusals 1 to 10, in the table's order, and 14 last of all; else a right plan that meets the
-// bound, and its minutes are booked.
+// The planner at a bound with a book: the refusals of acceptance, 8, 9, 10, and 14 last of all; else a right plan that meets the bound,
+// and its minutes are booked.
 use super::Judgement;
 use super::PlanAnswer;
 use super::PlanBooked;

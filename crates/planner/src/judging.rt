@@ -48,7 +48,7 @@ fn refuse(refusal: Refusal) -> BoundJudged
     }
 }
 
-// Rows 1 to 10, of an order at a bound and a buffer of so many numbers.
+// The rows of acceptance, 8, 9 and 10, of an order at a bound and a buffer of so many numbers.
 pub fn judge_bound(order: Order, bound: i32, lent: usize) -> BoundJudged
     ensures { λ r. ⌜ JudgedAt (orderOf order) bound lent r ⌝ }
 {
@@ -89,7 +89,7 @@ fn refuse_least(refusal: Refusal) -> LeastJudged
     }
 }
 
-// Rows 1 to 7 and 9.
+// The rows of acceptance, and 9.
 pub fn judge_least(order: Order, lent: usize) -> LeastJudged
     ensures { λ r. ⌜ JudgedLeast (orderOf order) lent r ⌝ }
 {

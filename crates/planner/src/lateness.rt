@@ -1,4 +1,4 @@
-// The least lateness: refusals 1 to 7 and 9; else the least lateness and a right plan at it.
+// The least lateness: the refusals of acceptance, then 9; else the least lateness and a right plan at it.
 use super::Least;
 use super::judging::judge_least;
 use super::making::make_plan;

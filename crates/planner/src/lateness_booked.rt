@@ -1,5 +1,5 @@
-// The least lateness with a book: refusals 1 to 7, 13 and 9, and 14 last of all; else the least lateness and a right plan at it, and
-// its minutes are booked.
+// The least lateness with a book: the refusals of acceptance, 9, and 14 last of all; else the least lateness and a right plan at it,
+// and its minutes are booked.
 use super::Least;
 use super::LeastBooked;
 use super::judging::judge_least;

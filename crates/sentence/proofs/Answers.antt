@@ -38,7 +38,7 @@ use Rattle.sentence.specs.Handed.{handed}
 use Rattle.sentence.specs.Line.{composed, readBack}
 use Rattle.sentence.specs.Told.{composeRows, lineBy, readRows, recoveredBy}
 
--- rows 1 to 7, then 8, then others
+-- the rows of acceptance, then 8, then others
 module _ (o : Order) (bound : ℤ) (later : List TableRow) where
   abbrev rows : List TableRow
   rows = orderRows limits o ++ (boundRow bound ∷ later)

@@ -33,7 +33,7 @@ abbrev pub lineBy : Verdict → List ℕ → List ℕ → List ℕ
 lineBy accepted line entry = line ++ drop (length line) entry
 lineBy (refused number carried) line entry = entry
 
--- reading back judges 1 to 8
+-- reading back judges the rows of acceptance, then 8
 unfoldable pub readRows : Order → ℤ → List TableRow
 readRows o bound = orderRows limits o ++ (boundRow bound ∷ [])
 

@@ -1,4 +1,5 @@
-// Composing: the line of a reason, whoever hands it in. Refusals 1 to 8, then 9 where the line is longer than the buffer.
+// Composing: the line of a reason, whoever hands it in. The refusals of acceptance, 8, then 9 where the line is longer than the
+// buffer.
 use super::Composed;
 use super::line::put_line;
 use order::Acceptance;

@@ -1,6 +1,6 @@
-// Reading back: the reason whose line these bytes are. Refusals 1 to 8. A reason is taken from the numbers in the line, its own line
-// is composed, and the two are compared: no other line reads to it. What stands before `read_back` serves it alone, in part with a
-// `requires`.
+// Reading back: the reason whose line these bytes are. The refusals of acceptance, then 8. A reason is taken from the numbers in the
+// line, its own line is composed, and the two are compared: no other line reads to it. What stands before `read_back` serves it alone,
+// in part with a `requires`.
 use super::Recovered;
 use super::line::put_line;
 use super::scan::scan;

@@ -23,7 +23,8 @@ use Rattle.highboyrobin.proofs.book_least.hbr_book_least.Tie as tie
 returns : tie.Need-returns
 returns c =
     let a = c .before .before .before .before .args in
-    book-refused _ _ _ _ _ _ _ 255 0 (book-short (a .file .now) (length (a .answer .now)) 2 (length (a .book .now)) _ (c .if1 .taken)) _ refl
+    book-refused _ _ _ _ _ _ _ 255 0
+    (book-short (a .file .now) (length (a .answer .now)) 2 (length (a .book .now)) _ (c .if1 .taken)) _ refl
 
 returns-2 : tie.Need-returns-2
 returns-2 c =
@@ -41,17 +42,20 @@ result-of-requires : tie.Need-result-of-requires
 result-of-requires c κs =
     let f = c .before .before .before .before .before .before .before .before .before .args .file .now in
     let r = c .before .before .before .read-order in
-    carried-few _ _ (reader-refused f (r .result) (r .ensures .0) (c .before .status .given .0 .0) (c .before .status .given .1))
+    carried-few _ _
+    (reader-refused f (r .result) (r .ensures .0) (c .before .status .given .0 .0) (c .before .status .given .1))
     (read-carries f)
 
 returns-3 : tie.Need-returns-3
 returns-3 c =
-    let a = c .before .before .before .before .before .before .before .before .before .before .args in
+    let q = c .before .before .before .before in
+    let a = q .before .before .before .before .before .before .args in
     let f = a .file .now in
-    let r = c .before .before .before .before .read-order in
+    let r = q .read-order in
     book-told _ _ _ _ _ _ _ (c .before .before .status .given .0 .0)
-    (book-call-refused f (length (a .answer .now)) 2 (length (a .book .now)) (c .before .before .before .before .before .before .if1 .left) (c .before .before .before .before .before .if2 .left)
-    (r .result) (r .ensures .0) _ _ (booked-least-begins (orderIn f) (length (a .rows .now)) (countsIn (a .book .now))) _
+    (book-call-refused f (length (a .answer .now)) 2 (length (a .book .now)) (q .before .before .if1 .left)
+    (q .before .if2 .left) (r .result) (r .ensures .0) _ _
+    (booked-least-begins (orderIn f) (length (a .rows .now)) (countsIn (a .book .now))) _
     (c .before .before .status .given .1)) _ (c .result-of .ensures) _ refl
 
 enum-told : tie.Need-enum-told
@@ -69,44 +73,49 @@ enum-known-least c = search needs
 
 result-of-requires-2 : tie.Need-result-of-requires-2
 result-of-requires-2 c κs =
-    let s = c .before .before .before .before .before .before .before .before .before .before .before .before .before .before .before .before .before in
+    let p = c .before .before .before .before .before in
+    let q = p .before .before .before .before .before .before in
+    let s = q .before .before .before .before .before .before in
     let a = s .args in
     let f = a .file .now in
     let o = orderIn f in
-    let r = c .before .before .before .before .before .before .before .before .before .before .before .read-order .result in
-    let e = c .before .before .before .before .before .before .before .before .before .before .before .read-order .ensures .0 in
-    let ok = c .before .before .before .before .before .before .before .before .before .enum-told .given .1 in
-    let p = c .before .before .before .before .before .least-booked in
-    let room = c .before .before .before .before .before .before .before .before .before .before .before .before .before .if1 .left in
-    let enough = c .before .before .before .before .before .before .before .before .before .before .before .before .if2 .left in
-    let t = least-book-moved (orderOf (r .order)) o (a .rows .now) _ _ (countsIn (a .book .now)) (p .result) (order-is f r e ok)
-    (c .before .before .before .before .before .before .book-from .ensures) ((p .ensures .0, p .ensures .1 .1 .0), p .ensures .1 .1 .1) in
-    let h = least-book-refused o (a .rows .now) _ (countsIn (a .book .now)) (p .result) t (c .before .least .given .0 .0) (c .before .least .given .1) in
-    carried-few _ _ (h .0) (least-book-carries o (length (a .rows .now)) (countsIn (a .book .now)))
+    let r = q .read-order .result in
+    let e = q .read-order .ensures .0 in
+    let ok = p .before .before .before .before .enum-told .given .1 in
+    let told = p .least-booked in
+    let counts = countsIn (a .book .now) in
+    let g = c .before .least .given in
+    let t = least-book-moved (orderOf (r .order)) o (a .rows .now) _ _ counts (told .result)
+    (order-is f r e ok) (p .before .book-from .ensures) ((told .ensures .0, told .ensures .1 .1 .0), told .ensures .1 .1 .1) in
+    let h = least-book-refused o (a .rows .now) _ counts (told .result) t (g .0 .0) (g .1) in
+    carried-few _ _ (h .0) (least-book-carries o (length (a .rows .now)) counts)
 
 enum-known-least-2 : tie.Need-enum-known-least-2
 enum-known-least-2 c = search needs
 
 put-book-requires : tie.Need-put-book-requires
 put-book-requires c κs =
-    c .before .before .before .before .before .before .before .before .before .before .before .before .before .before .before .if2 .left
+    let p = c .before .before .before .before .before .before .before .before in
+    p .before .before .before .before .before .before .before .if2 .left
 
 put-least-requires : tie.Need-put-least-requires
 put-least-requires c κs =
-    let s = c .before .before .before .before .before .before .before .before .before .before .before .before .before .before .before .before .before .before .before .before .before .before .before .before in
+    let p = c .before .before .before .before .before .before .before .before .before .before .before .before in
+    let q = p .before .before .before .before .before .before in
+    let s = q .before .before .before .before .before .before in
     let a = s .args in
     let f = a .file .now in
     let o = orderIn f in
-    let r = c .before .before .before .before .before .before .before .before .before .before .before .before .before .before .before .before .before .before .read-order .result in
-    let e = c .before .before .before .before .before .before .before .before .before .before .before .before .before .before .before .before .before .before .read-order .ensures .0 in
-    let ok = c .before .before .before .before .before .before .before .before .before .before .before .before .before .before .before .before .enum-told .given .1 in
-    let p = c .before .before .before .before .before .before .before .before .before .before .before .before .least-booked in
-    let room = c .before .before .before .before .before .before .before .before .before .before .before .before .before .before .before .before .before .before .before .before .if1 .left in
-    let enough = c .before .before .before .before .before .before .before .before .before .before .before .before .before .before .before .before .before .before .before .if2 .left in
-    let t = least-book-moved (orderOf (r .order)) o (a .rows .now) _ _ (countsIn (a .book .now)) (p .result) (order-is f r e ok)
-    (c .before .before .before .before .before .before .before .before .before .before .before .before .before .book-from .ensures) ((p .ensures .0, p .ensures .1 .1 .0), p .ensures .1 .1 .1) in
+    let r = q .read-order .result in
+    let e = q .read-order .ensures .0 in
+    let ok = p .before .before .before .before .enum-told .given .1 in
+    let room = q .before .before .if1 .left in
+    let told = p .least-booked in
+    let counts = countsIn (a .book .now) in
+    let t = least-book-moved (orderOf (r .order)) o (a .rows .now) _ _ counts (told .result)
+    (order-is f r e ok) (p .before .book-from .ensures) ((told .ensures .0, told .ensures .1 .1 .0), told .ensures .1 .1 .1) in
     let g = c .before .before .before .before .before .before .before .before .least2 .given in
-    let h = least-book-at o (a .rows .now) _ (countsIn (a .book .now)) (p .result) t (g .0 .0) (g .0 .1 .0) (g .1) in
+    let h = least-book-at o (a .rows .now) _ counts (told .result) t (g .0 .0) (g .0 .1 .0) (g .1) in
     (omega (arith, written-few (order-accepted f r e ok) (h .2)), room)
 
 same-length : tie.Need-same-length
@@ -117,20 +126,25 @@ same-length-2 c = search needs
 
 returns-4 : tie.Need-returns-4
 returns-4 c =
-    let s = c .before .before .before .before .before .before .before .before .before .before .before .before .before .before .before .before .before .before in
+    let p = c .before .before .before .before .before .before in
+    let q = p .before .before .before .before .before .before in
+    let s = q .before .before .before .before .before .before in
     let a = s .args in
     let f = a .file .now in
     let o = orderIn f in
-    let r = c .before .before .before .before .before .before .before .before .before .before .before .before .read-order .result in
-    let e = c .before .before .before .before .before .before .before .before .before .before .before .before .read-order .ensures .0 in
-    let ok = c .before .before .before .before .before .before .before .before .before .before .enum-told .given .1 in
-    let p = c .before .before .before .before .before .before .least-booked in
-    let room = c .before .before .before .before .before .before .before .before .before .before .before .before .before .before .if1 .left in
-    let enough = c .before .before .before .before .before .before .before .before .before .before .before .before .before .if2 .left in
-    let t = least-book-moved (orderOf (r .order)) o (a .rows .now) _ _ (countsIn (a .book .now)) (p .result) (order-is f r e ok)
-    (c .before .before .before .before .before .before .before .book-from .ensures) ((p .ensures .0, p .ensures .1 .1 .0), p .ensures .1 .1 .1) in
-    let h = least-book-refused o (a .rows .now) _ (countsIn (a .book .now)) (p .result) t (c .before .before .least .given .0 .0) (c .before .before .least .given .1) in
-    book-told _ _ _ _ _ _ _ (c .before .before .least .given .0 .0) (book-call-read f (length (a .answer .now)) 2 (length (a .book .now)) room enough r e _ ok ∙ h .0)
+    let r = q .read-order .result in
+    let e = q .read-order .ensures .0 in
+    let ok = p .before .before .before .before .enum-told .given .1 in
+    let room = q .before .before .if1 .left in
+    let enough = q .before .if2 .left in
+    let told = p .least-booked in
+    let counts = countsIn (a .book .now) in
+    let g = c .before .before .least .given in
+    let t = least-book-moved (orderOf (r .order)) o (a .rows .now) _ _ counts (told .result)
+    (order-is f r e ok) (p .before .book-from .ensures) ((told .ensures .0, told .ensures .1 .1 .0), told .ensures .1 .1 .1) in
+    let h = least-book-refused o (a .rows .now) _ counts (told .result) t (g .0 .0) (g .1) in
+    book-told _ _ _ _ _ _ _ (g .0 .0)
+    (book-call-read f (length (a .answer .now)) 2 (length (a .book .now)) room enough r e _ ok ∙ h .0)
     _ (c .result-of2 .ensures) _ (h .1)
 
 same-length-3 : tie.Need-same-length-3
@@ -144,21 +158,25 @@ same-length-5 c = search needs
 
 returns-5 : tie.Need-returns-5
 returns-5 c =
-    let s = c .before .before .before .before .before .before .before .before .before .before .before .before .before .before .before .before .before .before .before .before .before .before .before .before .before .before in
+    let p = c .before .before .before .before .before .before .before .before .before .before .before .before .before .before in
+    let q = p .before .before .before .before .before .before in
+    let s = q .before .before .before .before .before .before in
     let a = s .args in
     let f = a .file .now in
     let o = orderIn f in
-    let r = c .before .before .before .before .before .before .before .before .before .before .before .before .before .before .before .before .before .before .before .before .read-order .result in
-    let e = c .before .before .before .before .before .before .before .before .before .before .before .before .before .before .before .before .before .before .before .before .read-order .ensures .0 in
-    let ok = c .before .before .before .before .before .before .before .before .before .before .before .before .before .before .before .before .before .before .enum-told .given .1 in
-    let p = c .before .before .before .before .before .before .before .before .before .before .before .before .before .before .least-booked in
-    let room = c .before .before .before .before .before .before .before .before .before .before .before .before .before .before .before .before .before .before .before .before .before .before .if1 .left in
-    let enough = c .before .before .before .before .before .before .before .before .before .before .before .before .before .before .before .before .before .before .before .before .before .if2 .left in
-    let t = least-book-moved (orderOf (r .order)) o (a .rows .now) _ _ (countsIn (a .book .now)) (p .result) (order-is f r e ok)
-    (c .before .before .before .before .before .before .before .before .before .before .before .before .before .before .before .book-from .ensures) ((p .ensures .0, p .ensures .1 .1 .0), p .ensures .1 .1 .1) in
+    let r = q .read-order .result in
+    let e = q .read-order .ensures .0 in
+    let ok = p .before .before .before .before .enum-told .given .1 in
+    let room = q .before .before .if1 .left in
+    let enough = q .before .if2 .left in
+    let told = p .least-booked in
+    let counts = countsIn (a .book .now) in
+    let t = least-book-moved (orderOf (r .order)) o (a .rows .now) _ _ counts (told .result) (order-is f r e ok)
+    (p .before .book-from .ensures) ((told .ensures .0, told .ensures .1 .1 .0), told .ensures .1 .1 .1) in
     let g = c .before .before .before .before .before .before .before .before .before .before .least2 .given in
-    let h = least-book-at o (a .rows .now) _ (countsIn (a .book .now)) (p .result) t (g .0 .0) (g .0 .1 .0) (g .1) in
-    book-done _ _ _ _ _ _ (a .book .now) _ (book-call-read f (length (a .answer .now)) 2 (length (a .book .now)) room enough r e _ ok) (h .0) _ _ _ (p .result .book .counts)
+    let h = least-book-at o (a .rows .now) _ counts (told .result) t (g .0 .0) (g .0 .1 .0) (g .1) in
+    book-done _ _ _ _ _ _ (a .book .now) _
+    (book-call-read f (length (a .answer .now)) 2 (length (a .book .now)) room enough r e _ ok) (h .0) _ _ _ (told .result .book .counts)
     (record {
       count = g .0 .1 .0;
       written = h .2;

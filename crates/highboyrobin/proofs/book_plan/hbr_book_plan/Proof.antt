@@ -21,7 +21,8 @@ use Rattle.highboyrobin.proofs.book_plan.hbr_book_plan.Tie as tie
 returns : tie.Need-returns
 returns c =
     let a = c .before .before .before .before .args in
-    book-refused _ _ _ _ _ _ _ 255 0 (book-short (a .file .now) (length (a .answer .now)) 1 (length (a .book .now)) _ (c .if1 .taken)) _ refl
+    book-refused _ _ _ _ _ _ _ 255 0
+    (book-short (a .file .now) (length (a .answer .now)) 1 (length (a .book .now)) _ (c .if1 .taken)) _ refl
 
 returns-2 : tie.Need-returns-2
 returns-2 c =
@@ -39,17 +40,20 @@ result-of-requires : tie.Need-result-of-requires
 result-of-requires c κs =
     let f = c .before .before .before .before .before .before .before .before .before .args .file .now in
     let r = c .before .before .before .read-order in
-    carried-few _ _ (reader-refused f (r .result) (r .ensures .0) (c .before .status .given .0 .0) (c .before .status .given .1))
+    carried-few _ _
+    (reader-refused f (r .result) (r .ensures .0) (c .before .status .given .0 .0) (c .before .status .given .1))
     (read-carries f)
 
 returns-3 : tie.Need-returns-3
 returns-3 c =
-    let a = c .before .before .before .before .before .before .before .before .before .before .args in
+    let q = c .before .before .before .before in
+    let a = q .before .before .before .before .before .before .args in
     let f = a .file .now in
-    let r = c .before .before .before .before .read-order in
+    let r = q .read-order in
     book-told _ _ _ _ _ _ _ (c .before .before .status .given .0 .0)
-    (book-call-refused f (length (a .answer .now)) 1 (length (a .book .now)) (c .before .before .before .before .before .before .if1 .left) (c .before .before .before .before .before .if2 .left)
-    (r .result) (r .ensures .0) _ _ (booked-plan-begins (orderIn f) (a .bound) (length (a .rows .now)) (countsIn (a .book .now))) _
+    (book-call-refused f (length (a .answer .now)) 1 (length (a .book .now)) (q .before .before .if1 .left)
+    (q .before .if2 .left) (r .result) (r .ensures .0) _ _
+    (booked-plan-begins (orderIn f) (a .bound) (length (a .rows .now)) (countsIn (a .book .now))) _
     (c .before .before .status .given .1)) _ (c .result-of .ensures) _ refl
 
 enum-told : tie.Need-enum-told
@@ -67,22 +71,23 @@ enum-known-planned c = search needs
 
 result-of-requires-2 : tie.Need-result-of-requires-2
 result-of-requires-2 c κs =
-    let s = c .before .before .before .before .before .before .before .before .before .before .before .before .before .before .before .before .before .before in
+    let p = c .before .before .before .before .before .before in
+    let q = p .before .before .before .before .before .before in
+    let s = q .before .before .before .before .before .before in
     let a = s .args in
     let f = a .file .now in
     let o = orderIn f in
-    let r = c .before .before .before .before .before .before .before .before .before .before .before .before .read-order .result in
-    let e = c .before .before .before .before .before .before .before .before .before .before .before .before .read-order .ensures .0 in
-    let ok = c .before .before .before .before .before .before .before .before .before .before .enum-told .given .1 in
-    let p = c .before .before .before .before .before .before .plan-booked in
-    let room = c .before .before .before .before .before .before .before .before .before .before .before .before .before .before .if1 .left in
-    let enough = c .before .before .before .before .before .before .before .before .before .before .before .before .before .if2 .left in
+    let r = q .read-order .result in
+    let e = q .read-order .ensures .0 in
+    let ok = p .before .before .before .before .enum-told .given .1 in
+    let told = p .plan-booked in
+    let counts = countsIn (a .book .now) in
+    let g = c .before .planned .given in
     let same = toZ-ofZ w32 (a .bound) (s .fits .bound) in
-    let t = book-moved (orderOf (r .order)) o _ (a .bound) (a .rows .now) _ _ (countsIn (a .book .now)) (p .result) (order-is f r e ok) same
-    (c .before .before .before .before .before .before .before .book-from .ensures) ((p .ensures .0, p .ensures .1 .1 .0), p .ensures .1 .1 .1) in
-    let h = booked-refused o (a .bound) (a .rows .now) _ (countsIn (a .book .now)) (p .result) t (c .before .planned .given .0 .0)
-    (c .before .planned .given .1) in
-    carried-few _ _ (h .0) (plan-book-carries o (a .bound) (length (a .rows .now)) (countsIn (a .book .now)))
+    let t = book-moved (orderOf (r .order)) o _ (a .bound) (a .rows .now) _ _ counts (told .result)
+    (order-is f r e ok) same (p .before .book-from .ensures) ((told .ensures .0, told .ensures .1 .1 .0), told .ensures .1 .1 .1) in
+    let h = booked-refused o (a .bound) (a .rows .now) _ counts (told .result) t (g .0 .0) (g .1) in
+    carried-few _ _ (h .0) (plan-book-carries o (a .bound) (length (a .rows .now)) counts)
 
 enum-told-2 : tie.Need-enum-told-2
 enum-told-2 c = search needs
@@ -92,25 +97,28 @@ enum-known-planned-2 c = search needs
 
 put-book-requires : tie.Need-put-book-requires
 put-book-requires c κs =
-    c .before .before .before .before .before .before .before .before .before .before .before .before .before .before .before .before .if2 .left
+    let p = c .before .before .before .before .before .before .before .before .before in
+    p .before .before .before .before .before .before .before .if2 .left
 
 put-count-requires : tie.Need-put-count-requires
 put-count-requires c κs =
-    let s = c .before .before .before .before .before .before .before .before .before .before .before .before .before .before .before .before .before .before .before .before .before .before .before .before .before in
+    let p = c .before .before .before .before .before .before .before .before .before .before .before .before .before in
+    let q = p .before .before .before .before .before .before in
+    let s = q .before .before .before .before .before .before in
     let a = s .args in
     let f = a .file .now in
     let o = orderIn f in
-    let r = c .before .before .before .before .before .before .before .before .before .before .before .before .before .before .before .before .before .before .before .read-order .result in
-    let e = c .before .before .before .before .before .before .before .before .before .before .before .before .before .before .before .before .before .before .before .read-order .ensures .0 in
-    let ok = c .before .before .before .before .before .before .before .before .before .before .before .before .before .before .before .before .before .enum-told .given .1 in
-    let p = c .before .before .before .before .before .before .before .before .before .before .before .before .before .plan-booked in
-    let room = c .before .before .before .before .before .before .before .before .before .before .before .before .before .before .before .before .before .before .before .before .before .if1 .left in
-    let enough = c .before .before .before .before .before .before .before .before .before .before .before .before .before .before .before .before .before .before .before .before .if2 .left in
+    let r = q .read-order .result in
+    let e = q .read-order .ensures .0 in
+    let ok = p .before .before .before .before .enum-told .given .1 in
+    let room = q .before .before .if1 .left in
+    let told = p .plan-booked in
+    let counts = countsIn (a .book .now) in
+    let g = c .before .before .before .before .before .before .before .before .planned2 .given in
     let same = toZ-ofZ w32 (a .bound) (s .fits .bound) in
-    let t = book-moved (orderOf (r .order)) o _ (a .bound) (a .rows .now) _ _ (countsIn (a .book .now)) (p .result) (order-is f r e ok) same
-    (c .before .before .before .before .before .before .before .before .before .before .before .before .before .before .book-from .ensures) ((p .ensures .0, p .ensures .1 .1 .0), p .ensures .1 .1 .1) in
-    let h = booked-rows o (a .bound) (a .rows .now) _ (countsIn (a .book .now)) (p .result) t (c .before .before .before .before .before .before .before .before .planned2 .given .0 .0)
-    (c .before .before .before .before .before .before .before .before .planned2 .given .1) in
+    let t = book-moved (orderOf (r .order)) o _ (a .bound) (a .rows .now) _ _ counts (told .result)
+    (order-is f r e ok) same (p .before .book-from .ensures) ((told .ensures .0, told .ensures .1 .1 .0), told .ensures .1 .1 .1) in
+    let h = booked-rows o (a .bound) (a .rows .now) _ counts (told .result) t (g .0 .0) (g .1) in
     (omega (arith, written-few (order-accepted f r e ok) (h .1)), room)
 
 same-length : tie.Need-same-length
@@ -121,22 +129,26 @@ same-length-2 c = search needs
 
 returns-4 : tie.Need-returns-4
 returns-4 c =
-    let s = c .before .before .before .before .before .before .before .before .before .before .before .before .before .before .before .before .before .before .before in
+    let p = c .before .before .before .before .before .before .before in
+    let q = p .before .before .before .before .before .before in
+    let s = q .before .before .before .before .before .before in
     let a = s .args in
     let f = a .file .now in
     let o = orderIn f in
-    let r = c .before .before .before .before .before .before .before .before .before .before .before .before .before .read-order .result in
-    let e = c .before .before .before .before .before .before .before .before .before .before .before .before .before .read-order .ensures .0 in
-    let ok = c .before .before .before .before .before .before .before .before .before .before .before .enum-told .given .1 in
-    let p = c .before .before .before .before .before .before .before .plan-booked in
-    let room = c .before .before .before .before .before .before .before .before .before .before .before .before .before .before .before .if1 .left in
-    let enough = c .before .before .before .before .before .before .before .before .before .before .before .before .before .before .if2 .left in
+    let r = q .read-order .result in
+    let e = q .read-order .ensures .0 in
+    let ok = p .before .before .before .before .enum-told .given .1 in
+    let room = q .before .before .if1 .left in
+    let enough = q .before .if2 .left in
+    let told = p .plan-booked in
+    let counts = countsIn (a .book .now) in
+    let g = c .before .before .planned .given in
     let same = toZ-ofZ w32 (a .bound) (s .fits .bound) in
-    let t = book-moved (orderOf (r .order)) o _ (a .bound) (a .rows .now) _ _ (countsIn (a .book .now)) (p .result) (order-is f r e ok) same
-    (c .before .before .before .before .before .before .before .before .book-from .ensures) ((p .ensures .0, p .ensures .1 .1 .0), p .ensures .1 .1 .1) in
-    let h = booked-refused o (a .bound) (a .rows .now) _ (countsIn (a .book .now)) (p .result) t (c .before .before .planned .given .0 .0)
-    (c .before .before .planned .given .1) in
-    book-told _ _ _ _ _ _ _ (c .before .before .planned .given .0 .0) (book-call-read f (length (a .answer .now)) 1 (length (a .book .now)) room enough r e _ ok ∙ h .0)
+    let t = book-moved (orderOf (r .order)) o _ (a .bound) (a .rows .now) _ _ counts (told .result)
+    (order-is f r e ok) same (p .before .book-from .ensures) ((told .ensures .0, told .ensures .1 .1 .0), told .ensures .1 .1 .1) in
+    let h = booked-refused o (a .bound) (a .rows .now) _ counts (told .result) t (g .0 .0) (g .1) in
+    book-told _ _ _ _ _ _ _ (g .0 .0)
+    (book-call-read f (length (a .answer .now)) 1 (length (a .book .now)) room enough r e _ ok ∙ h .0)
     _ (c .result-of2 .ensures) _ (h .1)
 
 same-length-3 : tie.Need-same-length-3
@@ -147,21 +159,25 @@ same-length-4 c = search needs
 
 returns-5 : tie.Need-returns-5
 returns-5 c =
-    let s = c .before .before .before .before .before .before .before .before .before .before .before .before .before .before .before .before .before in
+    let p = c .before .before .before .before .before in
+    let q = p .before .before .before .before .before .before in
+    let s = q .before .before .before .before .before .before in
     let a = s .args in
     let f = a .file .now in
     let o = orderIn f in
-    let r = c .before .before .before .before .before .before .before .before .before .before .before .read-order .result in
-    let e = c .before .before .before .before .before .before .before .before .before .before .before .read-order .ensures .0 in
-    let ok = c .before .before .before .before .before .before .before .before .before .enum-told .given .1 in
-    let p = c .before .before .before .before .before .plan-booked in
-    let room = c .before .before .before .before .before .before .before .before .before .before .before .before .before .if1 .left in
-    let enough = c .before .before .before .before .before .before .before .before .before .before .before .before .if2 .left in
+    let r = q .read-order .result in
+    let e = q .read-order .ensures .0 in
+    let ok = p .before .before .before .before .enum-told .given .1 in
+    let room = q .before .before .if1 .left in
+    let enough = q .before .if2 .left in
+    let told = p .plan-booked in
+    let counts = countsIn (a .book .now) in
     let same = toZ-ofZ w32 (a .bound) (s .fits .bound) in
-    let t = book-moved (orderOf (r .order)) o _ (a .bound) (a .rows .now) _ _ (countsIn (a .book .now)) (p .result) (order-is f r e ok) same
-    (c .before .before .before .before .before .before .book-from .ensures) ((p .ensures .0, p .ensures .1 .1 .0), p .ensures .1 .1 .1) in
-    let h = booked-tight o (a .bound) (a .rows .now) _ (countsIn (a .book .now)) (p .result) t _ (c .enum-told2 .given .1) in
-    book-refused _ _ _ _ _ _ _ 10 0 (book-call-read f (length (a .answer .now)) 1 (length (a .book .now)) room enough r e _ ok ∙ h .0) _ (h .1)
+    let t = book-moved (orderOf (r .order)) o _ (a .bound) (a .rows .now) _ _ counts (told .result)
+    (order-is f r e ok) same (p .before .book-from .ensures) ((told .ensures .0, told .ensures .1 .1 .0), told .ensures .1 .1 .1) in
+    let h = booked-tight o (a .bound) (a .rows .now) _ counts (told .result) t _ (c .enum-told2 .given .1) in
+    book-refused _ _ _ _ _ _ _ 10 0
+    (book-call-read f (length (a .answer .now)) 1 (length (a .book .now)) room enough r e _ ok ∙ h .0) _ (h .1)
 
 same-length-5 : tie.Need-same-length-5
 same-length-5 c = search needs
@@ -174,24 +190,28 @@ same-length-7 c = search needs
 
 returns-6 : tie.Need-returns-6
 returns-6 c =
-    let s = c .before .before .before .before .before .before .before .before .before .before .before .before .before .before .before .before .before .before .before .before .before .before .before .before .before .before .before in
+    let p = c .before .before .before .before .before .before .before .before .before .before .before .before .before .before .before in
+    let q = p .before .before .before .before .before .before in
+    let s = q .before .before .before .before .before .before in
     let a = s .args in
     let f = a .file .now in
     let o = orderIn f in
-    let r = c .before .before .before .before .before .before .before .before .before .before .before .before .before .before .before .before .before .before .before .before .before .read-order .result in
-    let e = c .before .before .before .before .before .before .before .before .before .before .before .before .before .before .before .before .before .before .before .before .before .read-order .ensures .0 in
-    let ok = c .before .before .before .before .before .before .before .before .before .before .before .before .before .before .before .before .before .before .before .enum-told .given .1 in
-    let p = c .before .before .before .before .before .before .before .before .before .before .before .before .before .before .before .plan-booked in
-    let room = c .before .before .before .before .before .before .before .before .before .before .before .before .before .before .before .before .before .before .before .before .before .before .before .if1 .left in
-    let enough = c .before .before .before .before .before .before .before .before .before .before .before .before .before .before .before .before .before .before .before .before .before .before .if2 .left in
+    let r = q .read-order .result in
+    let e = q .read-order .ensures .0 in
+    let ok = p .before .before .before .before .enum-told .given .1 in
+    let room = q .before .before .if1 .left in
+    let enough = q .before .if2 .left in
+    let told = p .plan-booked in
+    let counts = countsIn (a .book .now) in
+    let g = c .before .before .before .before .before .before .before .before .before .before .planned2 .given in
     let same = toZ-ofZ w32 (a .bound) (s .fits .bound) in
-    let t = book-moved (orderOf (r .order)) o _ (a .bound) (a .rows .now) _ _ (countsIn (a .book .now)) (p .result) (order-is f r e ok) same
-    (c .before .before .before .before .before .before .before .before .before .before .before .before .before .before .before .before .book-from .ensures) ((p .ensures .0, p .ensures .1 .1 .0), p .ensures .1 .1 .1) in
-    let h = booked-rows o (a .bound) (a .rows .now) _ (countsIn (a .book .now)) (p .result) t (c .before .before .before .before .before .before .before .before .before .before .planned2 .given .0 .0)
-    (c .before .before .before .before .before .before .before .before .before .before .planned2 .given .1) in
-    book-done _ _ _ _ _ _ (a .book .now) _ (book-call-read f (length (a .answer .now)) 1 (length (a .book .now)) room enough r e _ ok) (h .0) _ _ _ (p .result .book .counts)
+    let t = book-moved (orderOf (r .order)) o _ (a .bound) (a .rows .now) _ _ counts (told .result)
+    (order-is f r e ok) same (p .before .book-from .ensures) ((told .ensures .0, told .ensures .1 .1 .0), told .ensures .1 .1 .1) in
+    let h = booked-rows o (a .bound) (a .rows .now) _ counts (told .result) t (g .0 .0) (g .1) in
+    book-done _ _ _ _ _ _ (a .book .now) _
+    (book-call-read f (length (a .answer .now)) 1 (length (a .book .now)) room enough r e _ ok) (h .0) _ _ _ (told .result .book .counts)
     (record {
-      count = c .before .before .before .before .before .before .before .before .before .before .planned2 .given .0 .0;
+      count = g .0 .0;
       written = h .1;
       answered = c .before .put-count .ensures;
     }) (t .1) (c .before .before .before .before .before .put-book .ensures)

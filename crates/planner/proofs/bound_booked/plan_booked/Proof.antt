@@ -47,7 +47,8 @@ returns c =
     let j = c .before .before .before .before .before .before .before .judge-bound in
     let same = toZ-ofZ w32 (s .args .bound) (s .fits .bound) in
     let b = c .before .before .book-order in
-    full-booked o (s .args .bound) n (s .args .book) _ (judged-at same (j .ensures)) (s .args .rows .now) _ (c .before .before .before .enum-told .given .1)
+    full-booked o (s .args .bound) n (s .args .book) _ (judged-at same (j .ensures)) (s .args .rows .now) _
+    (c .before .before .before .enum-told .given .1)
     (booking-full o (s .args .book) _ (b .ensures) ∙ c .before .if1 .taken) (c .give3 .ensures)
 
 make-plan-requires : tie.Need-make-plan-requires

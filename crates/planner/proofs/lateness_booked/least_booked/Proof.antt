@@ -29,7 +29,8 @@ returns c =
     let o = orderOf (s .args .order) in
     let n = length (s .args .rows .now) in
     let j = c .before .before .before .before .judge-least in
-    least-refused-booked o n (s .args .book) _ (j .ensures) (s .args .rows .now) _ _ (c .before .before .status .given .1) (c .give .ensures)
+    least-refused-booked o n (s .args .book) _ (j .ensures) (s .args .rows .now) _ _ (c .before .before .status .given .1)
+    (c .give .ensures)
 
 enum-told : tie.Need-enum-told
 enum-told c = search needs
@@ -93,11 +94,12 @@ returns-3 c =
     let b = c .before .before .before .before .before .before .before .before .before .book-order in
     let room = c .before .before .before .before .before .before .before .before .if1 .left in
     let ok = least-order-good o n _ (j .ensures) is in
-    let l = least-told o ok _ (j .ensures .table-is is) _ (c .before .before .before .before .before .least-in .ensures) in
-    let e = read-least (c .before .before .before .before .before .least-in .result) (leastLateness o) l (least-in-range o ok) in
+    let late = c .before .before .before .before .before .least-in in
+    let l = least-told o ok _ (j .ensures .table-is is) _ (late .ensures) in
+    let e = read-least (late .result) (leastLateness o) l (least-in-range o ok) in
     least-booked o n (s .args .book) _ (j .ensures) (s .args .rows .now) _ is
     (booking-full o (s .args .book) _ (b .ensures) ∙ room) (is-least o ok) _ _ _ _ e
-    (written-at e (c .before .before .before .make-plan .ensures .0 o (least-made o n _ (j .ensures) is _ (c .before .before .before .before .before .least-in .ensures))))
+    (written-at e (c .before .before .before .make-plan .ensures .0 o (least-made o n _ (j .ensures) is _ (late .ensures))))
     (booking-counts o (s .args .book) _ (b .ensures) room) (c .give3 .ensures)
 
 pub least-booked-spec : {M : Type 1} → statement M
