@@ -2,7 +2,7 @@
 -- were written, the sixteen together are the times of all their jobs, and a refused call gives the same book.
 use Prim.Native.Nat.{ℕ, zero, suc, _+_, _≤_, _<_}
 use mathlib.Core.Path.{_≡_, refl, sym, ap, _∙_}
-use mathlib.Core.List.{List, [], _∷_}
+use mathlib.Core.List.{List, [], _∷_, _++_, map}
 use native.Mathlib.Omega.{arith}
 use lib.ListN.{length, getD}
 use Rattle.sums.specs.Sum.{sum, sum-cong}
@@ -15,12 +15,29 @@ use Rattle.order.specs.Refusals.{mostMakers, Verdict, accepted, refused, judge,
 use Rattle.order.specs.RefusalLaws.{judge-accepted, judge-accepted-append, accepted-first, whole-clear}
 use Rattle.book.specs.Book.{opened, minutesFor, minutesOf, minutesBy, booked, mostBooked, bookRow, bookedBy}
 use Rattle.book.specs.BookLaws.{minutes-all, added-length, added-at, added-few}
-use Rattle.book.specs.Calls.{Call, judgedWith, givenBack, bookAfter, writtenBy, ordersWritten}
+use Rattle.book.specs.Calls.{Call, judgedWith, givenBack, bookAfter, plannedBy, ordersWritten}
 
--- "a refused plan books nothing"
+-- "a refused plan books nothing": a refused call gives the book that it was given
 pub refused-keeps : (call : Call) (book : List ℕ) (number carried : ℕ) → judgedWith call book ≡ refused number carried →
     givenBack call book ≡ book
 refused-keeps call book number carried e = rw e
+
+-- so among calls, of whatever kind, one that is refused could as well be left out
+module _ {A : Type 0} (callOf : A → Call) where
+  after-more : (earlier later : List A) (book : List ℕ) →
+      bookAfter (map callOf (earlier ++ later)) book ≡ bookAfter (map callOf later) (bookAfter (map callOf earlier) book)
+  unfolding bookAfter
+  after-more [] later book = refl
+  after-more (call ∷ earlier) later book = after-more earlier later (givenBack (callOf call) book)
+
+  pub refused-left-out : (earlier : List A) (call : A) (later : List A) (book : List ℕ) (number carried : ℕ) →
+      judgedWith (callOf call) (bookAfter (map callOf earlier) book) ≡ refused number carried →
+      bookAfter (map callOf (earlier ++ (call ∷ later))) book ≡ bookAfter (map callOf (earlier ++ later)) book
+  unfolding bookAfter
+  refused-left-out earlier call later book number carried e =
+      after-more earlier (call ∷ later) book
+      ∙ (ap (bookAfter (map callOf later)) (refused-keeps (callOf call) (bookAfter (map callOf earlier) book) number carried e)
+      ∙ sym (after-more earlier later book))
 
 -- what one order adds to a count
 booked-at : (o : Order) (book : List ℕ) (i : ℕ) → i < mostMakers → getD (booked o book) i 0 ≡ getD book i 0 + minutesFor o (suc i)
@@ -39,7 +56,7 @@ count-after (call ∷ calls) book i l =
   where
     by : (v : Verdict) (later : List Order) →
         getD (bookedBy v (call .order) book) i 0 + total later (λ (o : Order). minutesFor o (suc i))
-        ≡ getD book i 0 + total (writtenBy v (call .order) later) (λ (o : Order). minutesFor o (suc i))
+        ≡ getD book i 0 + total (plannedBy v (call .order) later) (λ (o : Order). minutesFor o (suc i))
     by accepted later = omega (arith, booked-at (call .order) book i l)
     by (refused number carried) later = refl
 
@@ -74,7 +91,7 @@ orders-accepted (call ∷ calls) judges book =
     by (judgedWith call book) refl (orders-accepted calls (judges .1) (givenBack call book))
   where
     by : (v : Verdict) → judgedWith call book ≡ v → All Accepted (ordersWritten calls (givenBack call book)) →
-        All Accepted (writtenBy v (call .order) (ordersWritten calls (givenBack call book)))
+        All Accepted (plannedBy v (call .order) (ordersWritten calls (givenBack call book)))
     by accepted e later = (judges .0 (accepted-first (call .rows) (bookRow (call .order) book ∷ []) e), later)
     by (refused number carried) e later = later
 

@@ -23,11 +23,11 @@ bookAfter [] book = book
 bookAfter (call ∷ calls) book = bookAfter calls (givenBack call book)
 
 -- the orders whose plans were written
-abbrev pub writtenBy : Verdict → Order → List Order → List Order
-writtenBy accepted o later = o ∷ later
-writtenBy (refused number carried) o later = later
+abbrev pub plannedBy : Verdict → Order → List Order → List Order
+plannedBy accepted o later = o ∷ later
+plannedBy (refused number carried) o later = later
 
 unfoldable pub ordersWritten : List Call → List ℕ → List Order
 ordersWritten [] book = []
 ordersWritten (call ∷ calls) book =
-    writtenBy (judgedWith call book) (call .order) (ordersWritten calls (givenBack call book))
+    plannedBy (judgedWith call book) (call .order) (ordersWritten calls (givenBack call book))

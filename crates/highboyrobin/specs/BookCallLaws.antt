@@ -120,6 +120,20 @@ pub refused-leaves : (call : Lent) (book : List ℕ) (number carried : ℕ) → 
     leftBy call book ≡ book
 refused-leaves call book number carried e = rw e (take-append-drop mostMakers book)
 
+-- so among calls one that is refused could as well be left out
+after-more : (earlier later : List Lent) (book : List ℕ) → leftAfter (earlier ++ later) book ≡ leftAfter later (leftAfter earlier book)
+unfolding leftAfter
+after-more [] later book = refl
+after-more (call ∷ earlier) later book = after-more earlier later (leftBy call book)
+
+pub refused-left-out : (earlier : List Lent) (call : Lent) (later : List Lent) (book : List ℕ) (number carried : ℕ) →
+    judge (withBook call (leftAfter earlier book)) ≡ refused number carried →
+    leftAfter (earlier ++ (call ∷ later)) book ≡ leftAfter (earlier ++ later) book
+unfolding leftAfter
+refused-left-out earlier call later book number carried e =
+    after-more earlier (call ∷ later) book
+    ∙ (ap (leftAfter later) (refused-leaves call (leftAfter earlier book) number carried e) ∙ sym (after-more earlier later book))
+
 -- from sixteen zeros on, whatever stands beyond them
 module _ (calls : List Lent) (beyond : List ℕ) where
   abbrev pub left : List ℕ
