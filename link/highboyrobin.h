@@ -14,8 +14,8 @@
  * including `to`. In a plan of hbr_least or hbr_plan no row begins where another of its job on its processor ends: the two would be
  * one row.
  *
- * Books. A book is sixteen numbers, lent to hbr_book_least and hbr_book_plan: the minutes planned for maker 1, 2, .. 16 since it was
- * opened. It is opened by sixteen zeros. Lend each call the book that the last one left: then each number is the times of that
+ * Books. A book is sixteen numbers, lent to hbr_book_least and hbr_book_plan: the minutes planned for maker 1, 2, .. 16 since it
+ * was opened. It is opened by sixteen zeros. Lend each call the book that the last one left: then each number is the times of that
  * maker's jobs in all plans written with it, and the sixteen together are the times of all their jobs. Each is at most
  * HBR_MOST_BOOKED.
  *
@@ -72,7 +72,7 @@ extern "C" {
 #define HBR_MAKER_OUT_OF_RANGE 13 /* a job's maker is not 1 to 16; told after 6 and before 7 */
 #define HBR_BOOK_FULL 14          /* a number of the book would then be over 4000000000; told last of all */
 #define HBR_SHORT_REASON 253      /* the reason has under 19 numbers */
-#define HBR_SHORT_BOOK 253        /* the book has under 16 numbers */
+#define HBR_SHORT_BOOK 253        /* the book has under 16 numbers; the same number, since no function has both */
 #define HBR_PART_JOB 254          /* the numbers of the jobs are not four to a job */
 #define HBR_SHORT_ANSWER 255      /* the answer is shorter than the function's HBR_.._ANSWER */
 
