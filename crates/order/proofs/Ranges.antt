@@ -6,7 +6,9 @@ use native.Mathlib.Omega.{arith}
 use native.Mathlib.Numerals.{add-one}
 use borrow.Author.Tests.{le-leb, lt-leb}
 use lib.Dec.{leb}
+use mathlib.Core.List.{List}
 use lib.ListN.{getD}
+use Rattle.sums.specs.Lists.{tabulate}
 use Rattle.order.specs.Order.{Job}
 use Rattle.order.specs.Refusals.{clear, holds, first, fitsSome, timeInRange}
 use Rattle.order.specs.Table.{findingOf, jobAt, orderOf}
@@ -21,15 +23,14 @@ module _ (test : Job → Bool) (t : OrderTable) (j : ℕ) (before : (e : ℕ) �
   pub no-job-found : t .jobs ≤ j → findingOf 0 ≡ first test (orderOf t .jobs)
   no-job-found l = sym (none-tabulate test (t .jobs) (jobAt t) (λ e b. before e (omega arith)))
 
--- some processor of a struct has the memory; or none has
-module _ (need : ℕ) (t : OrderTable) (i : ℕ) where
-  pub processor-found : i < t .processors → need ≤ getD (t .memories) i 0 → true ≡ fitsSome need (orderOf t .memories)
-  processor-found l h = sym (fitsSome-tabulate need (t .processors) (λ k. getD (t .memories) k 0) i l h)
+-- some one of the first memories suffices; or none does
+module _ (need processors : ℕ) (memories : List ℕ) (i : ℕ) where
+  pub processor-found : i < processors → need ≤ getD memories i 0 → true ≡ fitsSome need (tabulate processors (λ k. getD memories k 0))
+  processor-found l h = sym (fitsSome-tabulate need processors (λ k. getD memories k 0) i l h)
 
-  pub no-processor-found : t .processors ≤ i → ((e : ℕ) → e < i → leb need (getD (t .memories) e 0) ≡ false) → false ≡ fitsSome need
-      (orderOf t .memories)
-  no-processor-found l before =
-      sym (fitsNone-tabulate need (t .processors) (λ k. getD (t .memories) k 0) (λ e b. before e (omega arith)))
+  pub no-processor-found : processors ≤ i → ((e : ℕ) → e < i → leb need (getD memories e 0) ≡ false) →
+      false ≡ fitsSome need (tabulate processors (λ k. getD memories k 0))
+  no-processor-found l before = sym (fitsNone-tabulate need processors (λ k. getD memories k 0) (λ e b. before e (omega arith)))
 
 pub finding-some : (j : ℕ) → 0 < j → findingOf j ≡ holds j
 finding-some zero h = absurd (omega arith)

@@ -7,8 +7,10 @@ use super::MOST_PROCESSORS;
 use super::Order;
 use super::Refusal;
 ghost use mathlib.Core.Path.{_≡_};
-ghost use Prim.Native.Nat.{_≤_};
+ghost use Prim.Native.Nat.{ℕ, _≤_};
 ghost use mathlib.Core.Bool.{not};
+ghost use lib.ListN.{getD};
+ghost use Rattle.sums.specs.Lists.{tabulate};
 ghost use Rattle.order.specs.Order.{Job};
 ghost use Rattle.order.specs.Refusals.{judge, countRows, orderRows, limits, first, timeInRange, dueInRange, makerInRange, fitsSome};
 ghost use Rattle.order.specs.Table.{orderOf, acceptanceTold, findingOf};
@@ -104,15 +106,14 @@ fn maker_in_range(maker: u32) -> bool
     false
 }
 
-// Whether some processor has at least this memory.
-fn fits_some(order: Order, need: u32) -> bool
-    requires { ⌜ order .processors ≤ 16 ⌝ }
-    ensures { λ r. ⌜ r ≡ fitsSome need (orderOf order .memories) ⌝ }
+// Whether some one of the first memories is at least the need.
+fn fits_some(memories: [u32; 16], processors: usize, need: u32) -> bool
+    requires { ⌜ processors ≤ 16 ⌝ }
+    ensures { λ r. ⌜ r ≡ fitsSome need (tabulate processors (λ (i : ℕ). getD memories i 0)) ⌝ }
 {
-    let processors = order.processors as usize;
     let mut i: usize = 0;
     while i < processors {
-        if need <= order.memories[i] {
+        if need <= memories[i] {
             return true;
         }
         i += 1;
@@ -125,10 +126,12 @@ fn first_unfit(order: Order) -> u32
     requires { ⌜ (order .processors ≤ 16) × (order .jobs ≤ 48) ⌝ }
     ensures { λ r. ⌜ findingOf r ≡ first (λ (job : Job). not (fitsSome (job .need) (orderOf order .memories))) (orderOf order .jobs) ⌝ }
 {
+    let memories = order.memories;
+    let processors = order.processors as usize;
     let jobs = order.jobs as usize;
     let mut j: usize = 0;
     while j < jobs {
-        let fits = fits_some(order, order.needs[j]);
+        let fits = fits_some(memories, processors, order.needs[j]);
         j += 1;
         if !fits {
             return j as u32;

@@ -1,24 +1,22 @@
 -- What the code reads of an order's struct: the job and the memory that a number names, and a job's end.
-use Prim.Native.Nat.{ℕ, zero, suc, _-_, _≤_, _<_}
+use Prim.Native.Nat.{ℕ, zero, suc, _-_, _≤_}
 use mathlib.Core.Path.{_≡_, ap, _∙_}
 use native.Mathlib.Omega.{arith}
 use lib.IntN.{ℤ}
 use lib.ListN.{getD}
-use lib.Signed.{mag}
 use mir.Val.{toZ, ofZ, SFits}
 use mir.ValLaws.{toZ-ofZ}
 use mir.Syntax.{w32}
 use Rattle.sums.specs.Places.{getD-tabulate}
 use Rattle.order.specs.Order.{endAt, noJob, jobOf, memoryOf}
 use Rattle.order.specs.Deadline.{cut}
-use Rattle.order.specs.Machine.{machine-back}
 use Rattle.order.specs.Table.{jobAt, orderOf}
 use Rattle.order.specs.declared.Order.{Order as OrderTable}
 
--- a due time of the struct and the bound, both read back
-pub read-end : (due bound : ℤ) → mag due < 2147483648 → SFits w32 bound →
+-- a due time and the bound, both read back
+pub read-both : (due bound : ℤ) → SFits w32 due → SFits w32 bound →
     cut (endAt (toZ w32 (ofZ w32 bound)) (toZ w32 (ofZ w32 due))) ≡ cut (endAt bound due)
-read-end due bound f g = rw (machine-back due f, toZ-ofZ w32 bound g)
+read-both due bound f g = rw (toZ-ofZ w32 due f, toZ-ofZ w32 bound g)
 
 module _ (t : OrderTable) where
   pub job-of : (j : ℕ) → 1 ≤ j → j ≤ t .jobs → jobOf (orderOf t) j ≡ jobAt t (j - 1)

@@ -1,13 +1,17 @@
 -- What the tests on a row find: where one fails, a row is not well formed; past them all, it is where it goes forward. And
 -- a well-formed row ends by its job's end exactly if it ends by the deadline.
 use Prim.Native.Nat.{ℕ, _-_, _≤_, _<_}
-use mathlib.Core.Path.{_≡_, sym, _∙_}
+use mathlib.Core.Path.{_≡_, sym, ap, _∙_}
 use mathlib.Core.Bool.{true, false, _&&_, and-false}
 use native.Mathlib.Omega.{arith}
 use borrow.Author.Tests.{le-leb, lt-leb}
 use lib.Dec.{leb, ltb}
 use lib.IntN.{ℤ, pos}
 use lib.ListN.{getD}
+use lib.Signed.{mag}
+use mir.Syntax.{w32}
+use mir.Val.{toZ, ofZ}
+use Rattle.order.specs.Machine.{machine-back}
 use Rattle.order.specs.Order.{endAt, endOf}
 use Rattle.order.specs.Deadline.{cut, cut-le}
 use Rattle.order.specs.Table.{orderOf}
@@ -67,3 +71,8 @@ module _ (t : OrderTable) (r : Row) where
         let some : 1 ≤ r .to = omega (arith, well-formed-iff (orderOf t) r .0 w .forward) in
         rw (e, job-of t (r .job) (its-job .0) (its-job .1))
         (sym (cut-le (endAt bound (getD (t .dues) (r .job - 1) (pos 0))) (r .to) some))
+
+    -- of the due time as the machine reads it back
+    pub ends-read : (bound due : ℤ) → due ≡ getD (t .dues) (r .job - 1) (pos 0) → mag due < 2147483648 →
+        leb (r .to) (cut (endAt bound (toZ w32 (ofZ w32 due)))) ≡ byEnd (orderOf t) bound r
+    ends-read bound due e f = ends bound _ (ap (λ (z : ℤ). cut (endAt bound z)) (machine-back due f ∙ e))

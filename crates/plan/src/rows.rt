@@ -6,11 +6,12 @@ use order::Order;
 ghost use mathlib.Core.Path.{_≡_};
 ghost use Prim.Native.Nat.{suc, _+_, _-_, _*_, _/_, _%_, _<_, _≤_};
 ghost use mathlib.Core.Bool.{true, _&&_};
-ghost use lib.Dec.{eqb};
+ghost use lib.Dec.{eqb, leb};
 ghost use lib.ListN.{length};
 ghost use Rattle.sums.specs.Lists.{tabulate};
-ghost use Rattle.order.specs.Order.{jobCount};
-ghost use Rattle.order.specs.Refusals.{Accepted, boundInRange};
+ghost use Rattle.order.specs.Order.{jobCount, endAt};
+ghost use Rattle.order.specs.Deadline.{cut};
+ghost use Rattle.order.specs.Refusals.{Accepted, dueInRange, boundInRange};
 ghost use Rattle.order.specs.Table.{orderOf};
 ghost use Rattle.plan.specs.Plan.{Row};
 ghost use Rattle.plan.specs.Check.{rowsOf, every, everyTwo, wellFormed, byEnd, noOverlap, wholeJob, isRight};
@@ -72,14 +73,12 @@ fn row_at(order: Order, rows: &[u32], i: usize) -> RowRead
     RowRead::Malformed
 }
 
-// Whether a well-formed row ends by its job's end.
-fn by_end(order: Order, bound: i32, piece: Piece) -> bool
-    requires { ⌜ Accepted (orderOf order) × (boundInRange bound ≡ true) ⌝ }
-    requires { ⌜ wellFormed (orderOf order) (rowOf piece) ≡ true ⌝ }
-    ensures { λ r. ⌜ r ≡ byEnd (orderOf order) bound (rowOf piece) ⌝ }
+// Whether a row ends by the end of a job with this due time, cut off at minute 0.
+fn by_end(due: i32, bound: i32, to: u32) -> bool
+    requires { ⌜ (dueInRange due ≡ true) × (boundInRange bound ≡ true) ⌝ }
+    ensures { λ r. ⌜ r ≡ leb to (cut (endAt bound due)) ⌝ }
 {
-    let j = (piece.job - 1) as usize;
-    piece.to <= order::deadline::deadline(order.dues[j], bound)
+    to <= order::deadline::deadline(due, bound)
 }
 
 // Whether every row is well formed and ends by its job's end, none being left over.
@@ -94,7 +93,8 @@ fn rows_good(order: Order, bound: i32, rows: &[u32]) -> bool
         let RowRead::Good(piece) = row_at(order, rows, i) else {
             return false;
         };
-        if !by_end(order, bound, piece) {
+        let at = (piece.job - 1) as usize;
+        if !by_end(order.dues[at], bound, piece.to) {
             return false;
         }
         i += 1;

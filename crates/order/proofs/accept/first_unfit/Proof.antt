@@ -9,16 +9,16 @@ use borrow.Author.Needs.{needs}
 use native.Mathlib.Omega.{arith}
 use Rattle.order.proofs.accept.first_unfit.Statement.{statement}
 use Rattle.order.proofs.accept.first_unfit.Tie as tie
-use Rattle.order.proofs.accept.first_unfit.Reads as reads
-use Rattle.order.proofs.accept.first_unfit.Lts as lts
-use Rattle.order.proofs.accept.fits_some.Reads as fits-some-reads
 
 abbrev Inv-loop : tie.InvT-loop
-Inv-loop order jobs j₀ j =
+Inv-loop order memories processors jobs j₀ j =
     (j ≤ jobs) × ((k : ℕ) → k < j → not (fitsSome (jobAt order k .need) (orderOf order .memories)) ≡ false)
 
 abbrev μ-loop : tie.MeasureT-loop
-μ-loop order jobs j₀ j = jobs - j
+μ-loop order memories processors jobs j₀ j = jobs - j
+
+cast-processors : tie.Need-cast-processors Inv-loop μ-loop
+cast-processors c = search needs
 
 cast-jobs : tie.Need-cast-jobs Inv-loop μ-loop
 cast-jobs c = search needs
@@ -44,7 +44,7 @@ cast-result c = search needs
 returns : tie.Need-returns Inv-loop μ-loop
 returns c =
     let l = c .before .before .before .before .loop in
-    let o = c .before .before .before .before .before .args .t1 in
+    let o = c .before .before .before .before .before .before .args .t1 in
     job-found _ o (l .j) (l .inv .1) (omega arith) (not-of-false _ _ (c .before .fits-some .ensures) (c .if1 .taken))
 
 loop-less : tie.Need-loop-less Inv-loop μ-loop
@@ -58,7 +58,7 @@ loop-again c =
 returns-2 : tie.Need-returns-2 Inv-loop μ-loop
 returns-2 c =
     let l = c .before .loop in
-    no-job-found _ (c .before .before .args .t1) (l .j) (l .inv .1) (omega arith)
+    no-job-found _ (c .before .before .before .args .t1) (l .j) (l .inv .1) (omega arith)
 
 pub first-unfit-spec : {M : Type 1} → statement M
 first-unfit-spec =
@@ -66,6 +66,7 @@ first-unfit-spec =
     (tie.spec
     Inv-loop
     μ-loop
+    cast-processors
     cast-jobs
     loop-holds
     mul-fits-some

@@ -10,17 +10,12 @@ use borrow.Author.Needs.{needs}
 use native.Mathlib.Omega.{arith}
 use Rattle.order.proofs.accept.fits_some.Statement.{statement}
 use Rattle.order.proofs.accept.fits_some.Tie as tie
-use Rattle.order.proofs.accept.fits_some.Reads as reads
-use Rattle.order.proofs.accept.fits_some.Lts as lts
 
 abbrev Inv-loop : tie.InvT-loop
-Inv-loop need order processors i₀ i = (i ≤ processors) × ((k : ℕ) → k < i → leb need (getD (order .memories) k 0) ≡ false)
+Inv-loop processors need memories i₀ i = (i ≤ processors) × ((k : ℕ) → k < i → leb need (getD memories k 0) ≡ false)
 
 abbrev μ-loop : tie.MeasureT-loop
-μ-loop need order processors i₀ i = processors - i
-
-cast-processors : tie.Need-cast-processors Inv-loop μ-loop
-cast-processors c = search needs
+μ-loop processors need memories i₀ i = processors - i
 
 loop-holds : tie.Need-loop-holds Inv-loop μ-loop
 loop-holds c = (search needs, below-none _)
@@ -28,13 +23,13 @@ loop-holds c = (search needs, below-none _)
 mul-if1 : tie.Need-mul-if1 Inv-loop μ-loop
 mul-if1 c = search needs
 
-element-copy-out-if1 : tie.Need-element-copy-out-if1 Inv-loop μ-loop
-element-copy-out-if1 c = search needs
+array-read-if1 : tie.Need-array-read-if1 Inv-loop μ-loop
+array-read-if1 c = search needs
 
 returns : tie.Need-returns Inv-loop μ-loop
 returns c =
-    let l = c .before .before .before .loop in
-    processor-found _ (c .before .before .before .before .args .t1) (l .i) (omega arith) (c .if1 .taken)
+    let s = c .before .before .before in
+    processor-found _ (s .args .processors) (s .args .t1) (c .before .before .loop .i) (omega arith) (c .if1 .taken)
 
 add-i : tie.Need-add-i Inv-loop μ-loop
 add-i c = search needs
@@ -43,14 +38,13 @@ loop-less : tie.Need-loop-less Inv-loop μ-loop
 loop-less c = search needs
 
 loop-again : tie.Need-loop-again Inv-loop μ-loop
-loop-again c =
-    let l = c .before .before .before .loop in
-    (search needs, below-more _ _ (l .inv .1) (lt-leb _ _ (c .if1 .left)))
+loop-again c = (search needs, below-more _ _ (c .before .before .loop .inv .1) (lt-leb _ _ (c .if1 .left)))
 
 returns-2 : tie.Need-returns-2 Inv-loop μ-loop
 returns-2 c =
     let l = c .before .loop in
-    no-processor-found _ (c .before .before .args .t1) (l .i) (omega arith) (l .inv .1)
+    let s = c .before .before in
+    no-processor-found _ (s .args .processors) (s .args .t1) (l .i) (omega arith) (l .inv .1)
 
 pub fits-some-spec : {M : Type 1} → statement M
 fits-some-spec =
@@ -58,10 +52,9 @@ fits-some-spec =
     (tie.spec
     Inv-loop
     μ-loop
-    cast-processors
     loop-holds
     mul-if1
-    element-copy-out-if1
+    array-read-if1
     returns
     add-i
     loop-less
