@@ -29,7 +29,8 @@ array-read-if1 c = search needs
 returns : tie.Need-returns Inv-loop μ-loop
 returns c =
     let s = c .before .before .before in
-    processor-found _ (s .args .processors) (s .args .t1) (c .before .before .loop .i) (omega arith) (c .if1 .taken)
+    processor-found (s .args .need) (s .args .processors) (s .args .t1) (c .before .before .loop .i) (omega arith)
+    (omega (arith, c .if1 .taken))
 
 add-i : tie.Need-add-i Inv-loop μ-loop
 add-i c = search needs
