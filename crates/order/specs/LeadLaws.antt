@@ -40,10 +40,10 @@ rest-of z n = add-swap z (pos n) (negℤ z) ∙ (ap (λ (x : ℤ). x +ℤ pos n)
 
 module _ (top : ℤ) where
   -- a lead is what a due time lacks to `top`
-  lead-is : (due : ℤ) (n : ℕ) → due +ℤ pos n ≡ top → lead top due ≡ n
+  pub lead-is : (due : ℤ) (n : ℕ) → due +ℤ pos n ≡ top → lead top due ≡ n
   lead-is due n e = ap (λ (z : ℤ). cut (z -ℤ due)) (sym e) ∙ ap cut (rest-of due n)
 
-  due-lead : (due : ℤ) → due ≤ℤ top → due +ℤ pos (lead top due) ≡ top
+  pub due-lead : (due : ℤ) → due ≤ℤ top → due +ℤ pos (lead top due) ≡ top
   due-lead due h = let g = le-gap due top h in ap (λ (n : ℕ). due +ℤ pos n) (lead-is due (g .0) (g .1)) ∙ g .1
 
   -- nothing is cut off of it

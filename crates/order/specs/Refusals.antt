@@ -134,9 +134,12 @@ roomRow lent asked = row 9 (whole (ltb lent asked))
 abbrev pub tightRow : Bool → TableRow
 tightRow tight = row 10 (whole tight)
 
--- row 11: four numbers are a row, and one to three left over are one more
+-- row 11, where so many are taken at most: four numbers are a row, and one to three left over are one more
+abbrev pub rowsUpToRow : ℕ → ℕ → TableRow
+rowsUpToRow most numbers = row 11 (whole (ltb most ((numbers + 3) / 4)))
+
 abbrev pub rowsToCheckRow : ℕ → TableRow
-rowsToCheckRow numbers = row 11 (whole (ltb mostRows ((numbers + 3) / 4)))
+rowsToCheckRow numbers = rowsUpToRow mostRows numbers
 
 -- row 12, which precedes all others
 abbrev pub fileRow : Bool → TableRow

@@ -22,6 +22,8 @@ use Rattle.order.specs.declared.Refusal.the-variants.{
   TooManyRows,
   BadFile,
   BookFull,
+  ReadyOutOfRange,
+  BadWindow,
 }
 use Rattle.order.specs.declared.Acceptance.{Acceptance}
 use Rattle.order.specs.declared.Acceptance.the-variants.{Accepted, Refused}
@@ -73,6 +75,8 @@ refusalTold BufferTooShort = refused 9 0
 refusalTold TooManyRows = refused 11 0
 refusalTold BadFile = refused 12 0
 refusalTold BookFull = refused 14 0
+refusalTold (ReadyOutOfRange job) = refused 15 job
+refusalTold (BadWindow processor) = refused 16 processor
 
 -- the number of a verdict, and what it carries; 0 where nothing is refused
 abbrev pub numberBy : Verdict → ℕ

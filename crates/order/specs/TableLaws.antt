@@ -23,6 +23,8 @@ use Rattle.order.specs.declared.Refusal.the-variants.{
   TooManyRows,
   BadFile,
   BookFull,
+  ReadyOutOfRange,
+  BadWindow,
 }
 
 -- the number of a refusal, and what it carries
@@ -40,6 +42,8 @@ refused-told BufferTooShort = (9, 0, refl)
 refused-told TooManyRows = (11, 0, refl)
 refused-told BadFile = (12, 0, refl)
 refused-told BookFull = (14, 0, refl)
+refused-told (ReadyOutOfRange j) = (15, j, refl)
+refused-told (BadWindow i) = (16, i, refl)
 
 -- none of them is 10, which comes with its reason
 pub not-ten : (r : Refusal) → eqb (numberBy (refusalTold r)) 10 ≡ false
@@ -56,6 +60,8 @@ not-ten BufferTooShort = refl
 not-ten TooManyRows = refl
 not-ten BadFile = refl
 not-ten BookFull = refl
+not-ten (ReadyOutOfRange j) = refl
+not-ten (BadWindow i) = refl
 
 -- where the first rows refuse, so does the whole table, whatever the values are that would have been answered
 pub refused-answer : {A : Type 0} (rows later : List TableRow) (r : Refusal) (a b : A) → refusalTold r ≡ judge rows →

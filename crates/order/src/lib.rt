@@ -24,7 +24,7 @@ pub struct Order {
     pub makers: [u32; 48],
 }
 
-// The refusals but 10, which comes with its reason; where one carries a job, the job's number.
+// The refusals but 10; where one carries a job or a processor, its number.
 pub enum Refusal {
     NoProcessor,
     TooManyProcessors,
@@ -39,6 +39,8 @@ pub enum Refusal {
     TooManyRows,
     BadFile,
     BookFull,
+    ReadyOutOfRange(u32),
+    BadWindow(u32),
 }
 
 pub enum Acceptance {

@@ -22,6 +22,8 @@ pub fn number_of(refusal: Refusal) -> u32
         Refusal::TooManyRows => 11,
         Refusal::BadFile => 12,
         Refusal::BookFull => 14,
+        Refusal::ReadyOutOfRange(_) => 15,
+        Refusal::BadWindow(_) => 16,
     }
 }
 
@@ -43,5 +45,7 @@ pub fn carried_of(refusal: Refusal) -> u32
         Refusal::TooManyRows => 0,
         Refusal::BadFile => 0,
         Refusal::BookFull => 0,
+        Refusal::ReadyOutOfRange(job) => job,
+        Refusal::BadWindow(processor) => processor,
     }
 }
