@@ -29,7 +29,8 @@ isRight-is o bound numbers =
     and-assoc (eqb (length numbers % 4) 0) (every (goodRow o bound) (rowsOf numbers))
     (everyTwo noOverlap (rowsOf numbers) && every (wholeJob o (rowsOf numbers)) (tabulate (jobCount o) suc))
 
-right-numbers : (o : Order) (bound : ℤ) (numbers : List ℕ) → isRight o bound numbers ≡ true → RightNumbers o bound numbers
+-- the definition answers true for the numbers of a right plan, however many, and for no others
+pub right-numbers : (o : Order) (bound : ℤ) (numbers : List ℕ) → isRight o bound numbers ≡ true → RightNumbers o bound numbers
 right-numbers o bound numbers e =
     let parts = sym (isRight-is o bound numbers) ∙ e in
     let h = both-true (eqb (length numbers % 4) 0) (rightRows o bound (rowsOf numbers)) parts in
@@ -39,7 +40,7 @@ right-numbers o bound numbers e =
       right = right-iff o bound (rowsOf numbers) .0 (h .1);
     }
 
-numbers-right : (o : Order) (bound : ℤ) (numbers : List ℕ) → RightNumbers o bound numbers → isRight o bound numbers ≡ true
+pub numbers-right : (o : Order) (bound : ℤ) (numbers : List ℕ) → RightNumbers o bound numbers → isRight o bound numbers ≡ true
 numbers-right o bound numbers h =
     let whole : length numbers % 4 ≡ 0 = omega (arith, ap length (h .are), length-numbers (h .rows)) in
     let same : rowsOf numbers ≡ h .rows = ap rowsOf (h .are) ∙ rows-of-numbers (h .rows) in

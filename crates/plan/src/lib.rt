@@ -2,7 +2,7 @@
 use order::Refusal;
 
 pub mod check; // check_plan
-mod rows; // rows of lent numbers, and the four rules
+pub mod rows; // rows of lent numbers, and the four rules
 
 // A row of a plan: the minutes from `from` up to but not including `to`.
 pub struct Piece {

@@ -1,5 +1,5 @@
-// Rows of lent numbers, four to a row, and the four rules of a right plan. Each function serves the check alone and may
-// have a `requires`.
+// Rows of lent numbers, four to a row, and the four rules of a right plan. Each function serves the checks, here and in the crates above,
+// and has a `requires`; `rows_right` and `rows_apart` are for 3,024 rows, all others for 8,064.
 use super::Piece;
 use super::RowRead;
 use order::Order;
@@ -18,8 +18,8 @@ ghost use Rattle.plan.specs.Check.{rowsOf, every, everyTwo, wellFormed, 
 ghost use Rattle.plan.specs.Inside.{rowOf, pieceAt, rowRead, Ranged, EachLength};
 
 // The four numbers of a whole row.
-fn piece_at(rows: &[u32], i: usize) -> Piece
-    requires { ⌜ (i < 3024) × (4 * i + 4 ≤ length (now rows)) ⌝ }
+pub fn piece_at(rows: &[u32], i: usize) -> Piece
+    requires { ⌜ (i < 8064) × (4 * i + 4 ≤ length (now rows)) ⌝ }
     ensures { λ r. ⌜ r ≡ pieceAt (now (rows .entry)) i ⌝ }
 {
     let at = 4 * i;
@@ -60,7 +60,7 @@ fn well_formed(order: Order, piece: Piece) -> bool
 
 // The row at a place.
 fn row_at(order: Order, rows: &[u32], i: usize) -> RowRead
-    requires { ⌜ (order .processors ≤ 16) × (order .jobs ≤ 48) × (i < 3024) ⌝ }
+    requires { ⌜ (order .processors ≤ 16) × (order .jobs ≤ 48) × (i < 8064) ⌝ }
     ensures { λ r. ⌜ r ≡ rowRead (orderOf order) (now (rows .entry)) i ⌝ }
 {
     if rows.len() < 4 * i + 4 {
@@ -82,8 +82,8 @@ fn by_end(due: i32, bound: i32, to: u32) -> bool
 }
 
 // Whether every row is well formed and ends by its job's end, none being left over.
-fn rows_good(order: Order, bound: i32, rows: &[u32]) -> bool
-    requires { ⌜ Accepted (orderOf order) × (boundInRange bound ≡ true) × (length (now rows) ≤ 12096) ⌝ }
+pub fn rows_good(order: Order, bound: i32, rows: &[u32]) -> bool
+    requires { ⌜ Accepted (orderOf order) × (boundInRange bound ≡ true) × (length (now rows) ≤ 32256) ⌝ }
     ensures { λ r. ⌜ r ≡ (eqb (length (now (rows .entry)) % 4) 0
         && every (λ (r : Row). wellFormed (orderOf order) r && byEnd (orderOf order) bound r) (rowsOf (now (rows .entry)))) ⌝ }
 {
@@ -103,8 +103,8 @@ fn rows_good(order: Order, bound: i32, rows: &[u32]) -> bool
 }
 
 // Whether no two rows overlap that share a job or a processor. A number is lent for each row, to be written over.
-fn apart_among(rows: &[u32], a: &mut [u16]) -> bool
-    requires { ⌜ (length (now rows) ≤ 12096) × (length (now a) ≡ length (now rows) / 4) × Ranged (now rows) ⌝ }
+pub fn apart_among(rows: &[u32], a: &mut [u16]) -> bool
+    requires { ⌜ (length (now rows) ≤ 32256) × (length (now a) ≡ length (now rows) / 4) × Ranged (now rows) ⌝ }
     ensures { λ r. ⌜ r ≡ everyTwo noOverlap (rowsOf (now (rows .entry))) ⌝ }
 {
     if !spans::apart_by(rows, 0, a) {
@@ -133,7 +133,7 @@ fn length_of(piece: Piece) -> u64
 
 // The lengths of each job's rows, added up.
 fn job_lengths(rows: &[u32]) -> [u64; 48]
-    requires { ⌜ (length (now rows) ≤ 12096) × Ranged (now rows) ⌝ }
+    requires { ⌜ (length (now rows) ≤ 32256) × Ranged (now rows) ⌝ }
     ensures { λ r. ⌜ EachLength r (now (rows .entry)) ⌝ }
 {
     let n = rows.len() / 4;
@@ -150,8 +150,8 @@ fn job_lengths(rows: &[u32]) -> [u64; 48]
 }
 
 // Whether the lengths of each job's rows add up to its time.
-fn jobs_whole(order: Order, rows: &[u32]) -> bool
-    requires { ⌜ (order .jobs ≤ 48) × (length (now rows) ≤ 12096) × Ranged (now rows) ⌝ }
+pub fn jobs_whole(order: Order, rows: &[u32]) -> bool
+    requires { ⌜ (order .jobs ≤ 48) × (length (now rows) ≤ 32256) × Ranged (now rows) ⌝ }
     ensures { λ r. ⌜ r ≡ every (wholeJob (orderOf order) (rowsOf (now (rows .entry))))
         (tabulate (jobCount (orderOf order)) suc) ⌝ }
 {

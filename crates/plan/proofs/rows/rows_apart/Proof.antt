@@ -15,7 +15,7 @@ slice-aggregate-apart-among c = sym (part-long _ _ (omega (arith, c .before .bef
 apart-among-requires : tie.Need-apart-among-requires
 apart-among-requires c κs =
     let s = c .before .before in
-    (s .pre .0, part-long _ _ (omega (arith, s .pre .0)) refl, s .pre .1)
+    (omega (arith, s .pre .0), part-long _ _ (omega (arith, s .pre .0)) refl, s .pre .1)
 
 returns : tie.Need-returns
 returns c = search needs

@@ -1,5 +1,6 @@
 -- The first rule that does not hold decides; the last decides alone.
 use mathlib.Core.Path.{sym, ap, _∙_}
+use native.Mathlib.Omega.{arith}
 use borrow.Author.Tests.{not-true, not-false}
 use mir.Syntax.{w32}
 use mir.ValLaws.{toZ-ofZ}
@@ -15,7 +16,7 @@ use Rattle.plan.proofs.rows.rows_right.Tie as tie
 rows-good-requires : tie.Need-rows-good-requires
 rows-good-requires c κs =
     let s = c .before in
-    (s .pre .0, ap boundInRange (toZ-ofZ w32 (s .args .bound) (s .fits .bound)) ∙ s .pre .1, s .pre .2)
+    (s .pre .0, ap boundInRange (toZ-ofZ w32 (s .args .bound) (s .fits .bound)) ∙ s .pre .1, omega (arith, s .pre .2))
 
 returns : tie.Need-returns
 returns c =
@@ -50,7 +51,7 @@ jobs-whole-requires c κs =
     let r = s .args .rows .now in
     let is = c .before .before .before .rows-good .ensures ∙ good-back o (s .args .bound) r (s .fits .bound) in (
       few-jobs (s .args .order) (s .pre .0),
-      s .pre .2,
+      omega (arith, s .pre .2),
       good-ranged o (s .args .bound) (s .pre .0) (s .pre .1) r (sym is ∙ not-false _ (c .before .before .if1 .left)),
     )
 
