@@ -1,4 +1,5 @@
--- The distinct due times of an order, by rising due time: the distinct leads of its jobs, by falling lead.
+-- The distinct ones of whole numbers, upwards, by their distinct leads, downwards; so the distinct due times of an order by the leads of
+-- its jobs.
 use Prim.Native.Nat.{ℕ, _≤_, _<_}
 use mathlib.Core.Path.{_≡_, sym, ap, _∙_, subst}
 use mathlib.Core.Bool.{true}
@@ -10,8 +11,8 @@ use lib.Dec.{ltb}
 use lib.IntN.{ℤ, pos}
 use lib.ListN.{length, getD}
 use lib.Signed.{ltZ, _≤ℤ_}
-use Rattle.sums.specs.Lists.{In, tabulate, downTo}
-use Rattle.sums.specs.Members.{All-in, in-at, at-in, in-map, map-in}
+use Rattle.sums.specs.Lists.{All, In, tabulate, downTo}
+use Rattle.sums.specs.Members.{All-in, in-All, in-at, at-in, in-map, map-in}
 use Rattle.sums.specs.Pairs.{Pairwise-at}
 use Rattle.sums.specs.Places.{length-tabulate, getD-tabulate, tabulate-cong, map-tabulate}
 use Rattle.order.specs.Order.{Order, Job, jobOf, noJob}
@@ -30,72 +31,98 @@ use Rattle.table.specs.SameMembers.{same-members, ltZ-never}
 use Rattle.order.specs.LeadLaws.{lead-due, due-back, due-falls, lead-most}
 use Rattle.sums.specs.Downwards.{Pairwise-down, down-in, in-down}
 
-module _ (top : ℤ) (o : Order) (a : Workable top o) (m : Members)
-    (d : DistinctOf (map (λ (job : Job). lead top (job .due)) (o .jobs)) m) (few : m .count ≤ 48) where
-  abbrev leads : List ℕ
-  leads = map (λ (job : Job). lead top (job .due)) (o .jobs)
+-- Whole numbers by their leads: the distinct ones, downwards, are those of the distinct leads, upwards.
+module _ (top : ℤ) (zs : List ℤ) (below : All (λ (z : ℤ). z ≤ℤ top) zs) (xs : List ℕ)
+    (from : (x : ℕ) → In x xs → (z : ℤ) × In z zs × (x ≡ lead top z)) (to : (z : ℤ) → In z zs → In (lead top z) xs)
+    (count : ℕ) (at : ℕ → ℕ) (list : tabulate count at ≡ distinct ltb xs) where
+  at-listed : (i : ℕ) → i < count → at i ≡ getD (distinct ltb xs) i 0
+  at-listed i l = sym (getD-tabulate count at 0 i l) ∙ ap (λ (ys : List ℕ). getD ys i 0) list
 
-  at-listed : (i : ℕ) → i < m .count → getD (m .at) i 0 ≡ getD (distinct ltb leads) i 0
-  at-listed i l = sym (getD-tabulate (m .count) (λ i. getD (m .at) i 0) 0 i l) ∙ ap (λ (xs : List ℕ). getD xs i 0) (d .list)
+  count-is : length (distinct ltb xs) ≡ count
+  count-is = sym (ap length list) ∙ length-tabulate count at
 
-  count-is : length (distinct ltb leads) ≡ m .count
-  count-is = sym (ap length (d .list)) ∙ length-tabulate (m .count) (λ i. getD (m .at) i 0)
+  whole-is : (z : ℤ) → In z zs → dueAt top (lead top z) ≡ z
+  whole-is z i = due-back top z (All-in (λ (z : ℤ). z ≤ℤ top) zs below z i)
 
-  due-is : (job : Job) → In job (o .jobs) → dueAt top (lead top (job .due)) ≡ job .due
-  due-is job i = due-back top (job .due) (All-in (λ (job : Job). job .due ≤ℤ top) (o .jobs) (a .dues) job i)
-
-  -- each entry is the lead of a job, and each job's lead is an entry
-  entry-job : (i : ℕ) → i < m .count → (job : Job) × In job (o .jobs) × (getD (m .at) i 0 ≡ lead top (job .due))
-  entry-job i l =
-      let r = in-map (λ (job : Job). lead top (job .due)) (o .jobs) (getD (distinct ltb leads) i 0)
-      (distinct-in ltb ltb-strict _ leads (at-in (distinct ltb leads) 0 i (omega (arith, count-is)))) in
+  -- each entry is the lead of one of them, and the lead of each is an entry
+  entry-whole : (i : ℕ) → i < count → (z : ℤ) × In z zs × (at i ≡ lead top z)
+  entry-whole i l =
+      let r = from (getD (distinct ltb xs) i 0)
+      (distinct-in ltb ltb-strict _ xs (at-in (distinct ltb xs) 0 i (omega (arith, count-is)))) in
       (r .0, r .1, at-listed i l ∙ r .2)
 
-  job-entry : (job : Job) → In job (o .jobs) → (i : ℕ) × (i < m .count) × (getD (m .at) i 0 ≡ lead top (job .due))
-  job-entry job h =
-      let r = in-at (distinct ltb leads) 0 (lead top (job .due))
-      (in-distinct ltb ltb-strict _ leads (map-in (λ (job : Job). lead top (job .due)) (o .jobs) job h)) in
-      let l : r .0 < m .count = omega (arith, count-is, r .1) in
+  pub whole-entry : (z : ℤ) → In z zs → (i : ℕ) × (i < count) × (at i ≡ lead top z)
+  whole-entry z h =
+      let r = in-at (distinct ltb xs) 0 (lead top z) (in-distinct ltb ltb-strict _ xs (to z h)) in
+      let l : r .0 < count = omega (arith, count-is, r .1) in
       (r .0, l, at-listed (r .0) l ∙ r .2)
 
-  falls : (i k : ℕ) → i < k → k < m .count → getD (m .at) k 0 < getD (m .at) i 0
+  falls : (i k : ℕ) → i < k → k < count → at k < at i
   falls i k l b =
       omega (
         arith,
         at-listed i (omega arith),
         at-listed k b,
-        ltb-true (getD (distinct ltb leads) k 0) (getD (distinct ltb leads) i 0)
-            (Pairwise-at (λ (x y : ℕ). ltb y x ≡ true) (distinct ltb leads) 0 (distinct-falls ltb ltb-strict leads) i k l
+        ltb-true (getD (distinct ltb xs) k 0) (getD (distinct ltb xs) i 0)
+            (Pairwise-at (λ (x y : ℕ). ltb y x ≡ true) (distinct ltb xs) 0 (distinct-falls ltb ltb-strict xs) i k l
             (omega (arith, count-is))),
       )
 
-  due-of-entry : (i : ℕ) → i < m .count → In (dueAt top (getD (m .at) i 0)) (map (λ (job : Job). job .due) (o .jobs))
-  due-of-entry i l =
-      let r = entry-job i l in
-      subst (λ (z : ℤ). In z (map (λ (job : Job). job .due) (o .jobs)))
-      (sym (ap (dueAt top) (r .2) ∙ due-is (r .0) (r .1)))
-      (map-in (λ (job : Job). job .due) (o .jobs) (r .0) (r .1))
+  entry-in : (i : ℕ) → i < count → In (dueAt top (at i)) zs
+  entry-in i l =
+      let r = entry-whole i l in
+      subst (λ (z : ℤ). In z zs) (sym (ap (dueAt top) (r .2) ∙ whole-is (r .0) (r .1))) (r .1)
+
+  pub distinct-by-leads : distinct ltZ zs ≡ downTo (λ i. dueAt top (at i)) count
+  distinct-by-leads =
+      same-members ltZ ltZ-strict ltZ-never _ _ (distinct-falls ltZ ltZ-strict zs)
+      (Pairwise-down (λ i. dueAt top (at i)) _ count (λ i k l b. due-falls top _ _ (falls i k l b)))
+      (λ z i.
+      let h = distinct-in ltZ ltZ-strict z zs i in
+      let e = whole-entry z h in
+      subst (λ (y : ℤ). In y (downTo (λ i. dueAt top (at i)) count)) (ap (dueAt top) (e .2) ∙ whole-is z h)
+      (in-down (λ i. dueAt top (at i)) count (e .0) (e .1)))
+      (λ z i.
+      let r = down-in (λ i. dueAt top (at i)) count z i in
+      in-distinct ltZ ltZ-strict z zs (subst (λ (y : ℤ). In y zs) (sym (r .2)) (entry-in (r .0) (r .1))))
+
+module _ (top : ℤ) (o : Order) (a : Workable top o) (m : Members)
+    (d : DistinctOf (map (λ (job : Job). lead top (job .due)) (o .jobs)) m) (few : m .count ≤ 48) where
+  abbrev dues : List ℤ
+  dues = map (λ (job : Job). job .due) (o .jobs)
+
+  abbrev leads : List ℕ
+  leads = map (λ (job : Job). lead top (job .due)) (o .jobs)
+
+  early : All (λ (z : ℤ). z ≤ℤ top) dues
+  early =
+      in-All (λ (z : ℤ). z ≤ℤ top) dues (λ z i.
+      let r = in-map (λ (job : Job). job .due) (o .jobs) z i in
+      subst (λ (y : ℤ). y ≤ℤ top) (sym (r .2)) (All-in (λ (job : Job). job .due ≤ℤ top) (o .jobs) (a .dues) (r .0) (r .1)))
+
+  from : (x : ℕ) → In x leads → (z : ℤ) × In z dues × (x ≡ lead top z)
+  from x i =
+      let r = in-map (λ (job : Job). lead top (job .due)) (o .jobs) x i in
+      (r .0 .due, map-in (λ (job : Job). job .due) (o .jobs) (r .0) (r .1), r .2)
+
+  to : (z : ℤ) → In z dues → In (lead top z) leads
+  to z i =
+      let r = in-map (λ (job : Job). job .due) (o .jobs) z i in
+      subst (λ (y : ℤ). In (lead top y) leads) (sym (r .2)) (map-in (λ (job : Job). lead top (job .due)) (o .jobs) (r .0) (r .1))
+
+  abbrev entry : ℕ → ℕ
+  entry i = getD (m .at) i 0
 
   pub grid-found : GridOf top o m
   unfolding dueTimes
   grid-found =
       record {
-        some = let r = job-entry (jobOf o 1) (at-in (o .jobs) noJob 0 (a .some-job)) in omega (arith, r .1);
+        some =
+            let r = whole-entry top dues early leads from to (m .count) entry (d .list) (jobOf o 1 .due)
+            (map-in (λ (job : Job). job .due) (o .jobs) (jobOf o 1) (at-in (o .jobs) noJob 0 (a .some-job))) in
+            omega (arith, r .1);
         few = few;
-        dues =
-            same-members ltZ ltZ-strict ltZ-never _ _
-            (distinct-falls ltZ ltZ-strict (map (λ (job : Job). job .due) (o .jobs)))
-            (Pairwise-down (λ i. dueAt top (getD (m .at) i 0)) _ (m .count) (λ i k l b. due-falls top _ _ (falls i k l b)))
-            (λ z i.
-            let r = in-map (λ (job : Job). job .due) (o .jobs) z (distinct-in ltZ ltZ-strict z _ i) in
-            let e = job-entry (r .0) (r .1) in
-            subst (λ (y : ℤ). In y (downTo (λ i. dueAt top (getD (m .at) i 0)) (m .count)))
-            (ap (dueAt top) (e .2) ∙ (due-is (r .0) (r .1) ∙ sym (r .2)))
-            (in-down (λ i. dueAt top (getD (m .at) i 0)) (m .count) (e .0) (e .1)))
-            (λ z i.
-            let r = down-in (λ i. dueAt top (getD (m .at) i 0)) (m .count) z i in
-            in-distinct ltZ ltZ-strict z _
-            (subst (λ (y : ℤ). In y (map (λ (job : Job). job .due) (o .jobs))) (sym (r .2)) (due-of-entry (r .0) (r .1))));
+        dues = distinct-by-leads top dues early leads from to (m .count) entry (d .list);
         beyond = d .beyond;
       }
 

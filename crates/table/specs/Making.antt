@@ -8,9 +8,9 @@ use lib.ListN.{length, getD}
 use Rattle.sums.specs.Sum.{sum-cong}
 use Rattle.sums.specs.Members.{All-at}
 use Rattle.sums.specs.Places.{length-tabulate, getD-tabulate}
-use Rattle.order.specs.Order.{Order, Job, jobCount, jobOf, noJob}
+use Rattle.order.specs.Order.{Order, Job, processorCount, jobCount, jobOf, memoryOf, noJob}
 use Rattle.order.specs.Sorted.{processorOrder, jobOrder}
-use Rattle.order.specs.Class.{classes, classOf, processorsIn, processorsTo}
+use Rattle.order.specs.Class.{classes, classFor, classOf, processorsIn, processorsTo}
 use Rattle.order.specs.RefusalLaws.{Acceptable, dues-in-range}
 use Rattle.order.specs.StructLaws.{job-count, processor-count}
 use Rattle.order.specs.Table.{orderOf, jobAt, padded}
@@ -25,9 +25,10 @@ use Rattle.order.specs.LeadLaws.{lead-most}
 use Rattle.table.specs.GridLaws.{grid-small}
 
 -- the table of a struct, from its parts
-pub tabled-made : (t : OrderTable) → t .jobs ≤ 48 → t .processors ≤ 16 → (m g : Members) (cs ls ps ms ns : List ℕ) →
+pub tabled-made : (t : OrderTable) → t .jobs ≤ 48 → t .processors ≤ 16 → (m g : Members) (cs ls ks ps ms ns : List ℕ) →
     ClassesOf (orderOf t) m → GridOf lastDue (orderOf t) g →
     RowOf (λ j. classOf (orderOf t) (jobAt t j)) (t .jobs) cs → RowOf (λ j. lead lastDue (getD (t .dues) j (pos 0))) (t .jobs) ls →
+    RowOf (λ i. classFor (orderOf t) (getD (t .memories) i 0)) (t .processors) ks →
     RowOf (λ i. processorsIn (orderOf t) (suc i)) 16 ps →
     ms ≡ padded 16 (processorOrder (orderOf t)) → ns ≡ padded 48 (jobOrder (orderOf t)) →
     Tabled lastDue (orderOf t) (record {
@@ -38,12 +39,13 @@ pub tabled-made : (t : OrderTable) → t .jobs ≤ 48 → t .processors ≤ 16 �
       times = t .times;
       classes = cs;
       leads = ls;
+      kinds = ks;
       procs = ps;
       grid = g .at;
       «by_memory» = ms;
       «by_need» = ns;
     })
-tabled-made t few-jobs few-processors m g cs ls ps ms ns c d hc hl hp hm hn =
+tabled-made t few-jobs few-processors m g cs ls ks ps ms ns c d hc hl hk hp hm hn =
     record {
       jobs = sym (job-count t);
       processors = sym (processor-count t);
@@ -54,6 +56,7 @@ tabled-made t few-jobs few-processors m g cs ls ps ms ns c d hc hl hp hm hn =
       times = λ j l. ap (λ (job : Job). job .time) (sym (job j l));
       leads = λ j l. hl .at j (few l) ∙ ap (λ (job : Job). lead lastDue (job .due)) (sym (job j l));
       classes-of = λ j l. hc .at j (few l) ∙ ap (classOf (orderOf t)) (sym (job j l));
+      kinds = λ i l. hk .at i (fewer l) ∙ ap (classFor (orderOf t)) (sym (memory i l));
       procs = hp .at;
       grid = d;
       by-memory = hm;
@@ -62,6 +65,12 @@ tabled-made t few-jobs few-processors m g cs ls ps ms ns c d hc hl hp hm hn =
   where
     few : {j : ℕ} → j < jobCount (orderOf t) → j < t .jobs
     few l = rw length-tabulate at l
+
+    fewer : {i : ℕ} → i < processorCount (orderOf t) → i < t .processors
+    fewer l = rw length-tabulate at l
+
+    memory : (i : ℕ) → i < processorCount (orderOf t) → memoryOf (orderOf t) (suc i) ≡ getD (t .memories) i 0
+    memory i l = getD-tabulate (t .processors) (λ i. getD (t .memories) i 0) 0 i (fewer l)
 
     job : (j : ℕ) → j < jobCount (orderOf t) → jobOf (orderOf t) (suc j) ≡ jobAt t j
     job j l = getD-tabulate (t .jobs) (jobAt t) noJob j (few l)

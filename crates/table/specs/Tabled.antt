@@ -6,9 +6,9 @@ use lib.ListN.{length, getD}
 use lib.IntN.{ℤ}
 use Rattle.sums.specs.Sum.{sum}
 use Rattle.sums.specs.Lists.{downTo}
-use Rattle.order.specs.Order.{Order, processorCount, jobCount, jobOf}
+use Rattle.order.specs.Order.{Order, processorCount, jobCount, jobOf, memoryOf}
 use Rattle.order.specs.Sorted.{dueTimes, processorOrder, jobOrder}
-use Rattle.order.specs.Class.{classes, classOf, processorsIn}
+use Rattle.order.specs.Class.{classes, classFor, classOf, processorsIn}
 use Rattle.order.specs.Table.{padded}
 use Rattle.order.specs.Lead.{lead, dueAt}
 use Rattle.table.specs.Downwards.{listed}
@@ -38,6 +38,7 @@ pub record Tabled (top : ℤ) (o : Order) (t : Table) : Type 0 where
   pub times : (j : ℕ) → j < jobCount o → getD (t .times) j 0 ≡ jobOf o (suc j) .time
   pub leads : (j : ℕ) → j < jobCount o → getD (t .leads) j 0 ≡ lead top (jobOf o (suc j) .due)
   pub classes-of : (j : ℕ) → j < jobCount o → getD (t .classes) j 0 ≡ classOf o (jobOf o (suc j))
+  pub kinds : (i : ℕ) → i < processorCount o → getD (t .kinds) i 0 ≡ classFor o (memoryOf o (suc i))
   pub procs : (i : ℕ) → i < 16 → getD (t .procs) i 0 ≡ processorsIn o (suc i)
   pub grid : GridOf top o (record { count = t .q; at = t .grid })
   pub by-memory : t .«by_memory» ≡ padded 16 (processorOrder o)

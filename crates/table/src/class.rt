@@ -96,12 +96,12 @@ fn one_if(c: u32, k: u32) -> u32
     0
 }
 
-// How many processors are in each class, class 1 first.
-pub fn processors_by_class(order: Order, classes: Members) -> [u32; 16]
-    requires { ⌜ Accepted (orderOf order) × ClassesOf (orderOf order) classes ⌝ }
+// How many processors are in each class, class 1 first, where `of` has the class of each.
+pub fn processors_by_class(order: Order, of: [u32; 16]) -> [u32; 16]
+    requires { ⌜ Accepted (orderOf order)
+        × RowOf (λ i. classFor (orderOf order) (getD (order .memories) i 0)) (order .processors) of ⌝ }
     ensures { λ r. ⌜ RowOf (λ i. processorsIn (orderOf order) (suc i)) 16 r ⌝ }
 {
-    let of = classes_of_processors(order, classes);
     let n = order.processors as usize;
     let mut r = [0u32; 16];
     let mut k: u32 = 0;

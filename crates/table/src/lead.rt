@@ -47,7 +47,7 @@ pub fn bound_of(reach: u32) -> i32
 }
 
 // The difference, 0 where it is negative.
-fn less(a: u32, b: u32) -> u32
+pub fn less(a: u32, b: u32) -> u32
     ensures { λ r. ⌜ r ≡ a - b ⌝ }
 {
     if a < b {

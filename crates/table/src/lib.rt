@@ -12,8 +12,8 @@ pub struct Members {
 }
 
 // Counts of jobs (n), processors (m), classes (s) and distinct due times (q); for each job its time, its class from 1 and its lead
-// (1,000,000 less the due time); the processors of each class; the leads of the distinct due times, by rising due time; the processors'
-// numbers by falling memory and the jobs' numbers by falling need, ties in input order, 0 beyond.
+// (1,000,000 less the due time); the class of each processor; the processors of each class; the leads of the distinct due times, by rising
+// due time; the processors' numbers by falling memory and the jobs' numbers by falling need, ties in input order, 0 beyond.
 pub struct Table {
     pub n: usize,
     pub m: usize,
@@ -22,6 +22,7 @@ pub struct Table {
     pub times: [u32; 48],
     pub classes: [u32; 48],
     pub leads: [u32; 48],
+    pub kinds: [u32; 16],
     pub procs: [u32; 16],
     pub grid: [u32; 48],
     pub by_memory: [u32; 16],

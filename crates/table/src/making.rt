@@ -2,6 +2,7 @@
 use super::Table;
 use super::class::classes_of;
 use super::class::classes_of_jobs;
+use super::class::classes_of_processors;
 use super::class::processors_by_class;
 use super::lead::grid_of;
 use super::lead::leads_of;
@@ -21,6 +22,7 @@ pub fn table_of(order: Order) -> Table
     let dues = grid_of(order);
     let times = order.times;
     let grid = dues.at;
+    let kinds = classes_of_processors(order, memories);
     Table {
         n: order.jobs as usize,
         m: order.processors as usize,
@@ -29,7 +31,8 @@ pub fn table_of(order: Order) -> Table
         times,
         classes: classes_of_jobs(order, memories),
         leads: leads_of(order),
-        procs: processors_by_class(order, memories),
+        kinds,
+        procs: processors_by_class(order, kinds),
         grid,
         by_memory: processor_order(order),
         by_need: job_order(order),

@@ -21,15 +21,12 @@ Inv-loop of n r₀ k₀ r k =
 abbrev μ-loop : tie.MeasureT-loop
 μ-loop of n r₀ k₀ r k = 16 - k
 
-classes-of-processors-requires : tie.Need-classes-of-processors-requires Inv-loop μ-loop
-classes-of-processors-requires c κs = search needs
-
 cast-n : tie.Need-cast-n Inv-loop μ-loop
 cast-n c = search needs
 
 loop-holds : tie.Need-loop-holds Inv-loop μ-loop
 loop-holds c =
-    let s = c .before .before in
+    let s = c .before in
     (few-processors (s .args .order) (s .pre .0), search needs, search needs, record { at = λ k h. absurd (omega arith) })
 
 cast-i : tie.Need-cast-i Inv-loop μ-loop
@@ -53,8 +50,8 @@ loop-less c = search needs
 loop-again : tie.Need-loop-again Inv-loop μ-loop
 loop-again c =
     let l = c .before .before .loop in
-    let of = c .before .before .before .before .classes-of-processors .result in
-    let n = c .before .before .before .before .before .args .order .processors in (
+    let of = c .before .before .before .before .args .of in
+    let n = c .before .before .before .before .args .order .processors in (
       search needs,
       search needs,
       search needs,
@@ -67,11 +64,10 @@ loop-again c =
 
 returns : tie.Need-returns Inv-loop μ-loop
 returns c =
-    let o = c .before .before .before .before .args .order in
-    let f = c .before .before .before .classes-of-processors in
+    let s = c .before .before .before in
     record {
       at = λ i h. c .before .loop .inv .3 .at i (omega arith)
-          ∙ processors-counted o (f .result) (suc i) (f .ensures);
+          ∙ processors-counted (s .args .order) (s .args .of) (suc i) (s .pre .1);
     }
 
 pub processors-by-class-spec : {M : Type 1} → statement M
@@ -80,7 +76,6 @@ processors-by-class-spec =
     (tie.spec
     Inv-loop
     μ-loop
-    classes-of-processors-requires
     cast-n
     loop-holds
     cast-i
