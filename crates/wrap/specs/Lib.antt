@@ -21,4 +21,5 @@ pub mod Ending
 pub mod EndingLaws
 pub mod Joined
 pub mod JoinedWhere
+pub mod LayoutSame
 pub mod LayoutJoined
