@@ -2,7 +2,7 @@
 -- flat amounts. The jobs' intervals play no part in it.
 use Prim.Native.Nat.{ℕ, suc, pred, _≤_}
 use mathlib.Core.Bool.{Bool, _&&_}
-use mathlib.Core.List.{List}
+use mathlib.Core.List.{List, []}
 use lib.Dec.{leb}
 use lib.ListN.{getD, take}
 use Rattle.sums.specs.Lists.{All, Pairwise, nth, keep}
@@ -18,17 +18,21 @@ use Rattle.table.specs.declared.Table.{Table}
 abbrev pub openAt : (opens closes : List ℕ) (start end : ℕ) → ℕ → Bool
 openAt opens closes start end i = leb (getD opens (pred i) 0) start && leb end (getD closes (pred i) 0)
 
--- the frame of lent numbers
-abbrev pub lentFrame : ℕ → (marks opens closes : List ℕ) → Frame
-lentFrame q marks opens closes =
+-- the frame of lent numbers: stretch s ends at marks[s], the first begins at minute 0
+abbrev pub frameLent : ℕ → (marks ready until opens closes : List ℕ) → Frame
+frameLent q marks ready until opens closes =
     record {
       stretches = q;
       mark = λ s. nth marks s 0;
-      ready = λ j. 0;
-      until = λ j. 0;
+      ready = λ j. getD ready (pred j) 0;
+      until = λ j. getD until (pred j) 0;
       opens = λ i. getD opens (pred i) 0;
       closes = λ i. getD closes (pred i) 0;
     }
+
+-- where the jobs' intervals play no part
+abbrev pub lentFrame : ℕ → (marks opens closes : List ℕ) → Frame
+lentFrame q marks opens closes = frameLent q marks [] [] opens closes
 
 -- the rows of a stretch of a frame, and of all, with processors and jobs in these orders
 unfoldable pub rowsIn : (processors jobs : List ℕ) → Frame → (ℕ → ℕ → ℕ) → ℕ → List Row

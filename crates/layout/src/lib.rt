@@ -1,5 +1,5 @@
 // McNaughton's wrap, running (document 01, "Plans"): the rows of amounts, stretch by stretch, on the processors that are open.
-mod opened; // the processors that are open in a stretch
+pub mod opened; // the processors that are open in a stretch
 mod rows; // one row, one piece, one share
 pub mod stretches; // the rows of a stretch, and of a plan
 

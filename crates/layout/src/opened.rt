@@ -1,5 +1,5 @@
-// Of the processors in their order, those that are open in a stretch. It serves this crate alone and has a
-// `requires`.
+// Of the processors in their order, those that are open in a stretch. Both functions serve this crate and those above, so that rooms and
+// rows go by the same; `open_processors` has a `requires`.
 use super::Kept;
 ghost use mathlib.Core.Path.{_≡_};
 ghost use mathlib.Core.Bool.{_&&_};
@@ -10,8 +10,8 @@ ghost use Rattle.sums.specs.Lists.{keep};
 ghost use Rattle.layout.specs.Laid.{Numbered};
 ghost use Rattle.layout.specs.Planned.{openAt};
 
-// Whether a window holds a stretch.
-fn is_open(opens: u32, closes: u32, start: u32, end: u32) -> bool
+// Whether a window, or a job's interval, holds a stretch.
+pub fn is_open(opens: u32, closes: u32, start: u32, end: u32) -> bool
     ensures { λ r. ⌜ r ≡ leb opens start && leb end closes ⌝ }
 {
     if start < opens {
