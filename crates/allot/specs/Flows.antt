@@ -1,60 +1,68 @@
--- A table at a bound as the engine's flow: with the deadlines of its jobs and the marks at which its stretches end.
-use Prim.Native.Nat.{ℕ, suc, _*_, _-_, _≤_, _<_}
-use mathlib.Core.Path.{_≡_}
+-- A table in a frame as the engine's flow.
+use Prim.Native.Nat.{ℕ, suc, pred, _*_, _-_, _≤_, _<_}
+use mathlib.Core.Bool.{_&&_}
 use mathlib.Core.List.{List}
 use lib.Dec.{leb}
-use lib.IntN.{ℤ}
-use lib.ListN.{getD}
-use Rattle.sums.specs.Sum.{sum}
-use Rattle.sums.specs.Lists.{only, nth}
+use lib.ListN.{length, getD, take}
+use Rattle.sums.specs.Lists.{total, only, nth, keep}
 use Rattle.amounts.specs.Flow.{Flow}
-use Rattle.order.specs.Order.{Order, jobCount, jobOf}
-use Rattle.order.specs.Deadline.{deadlineOf}
-use Rattle.wrap.specs.Stretches.{stretchCount, mark}
-use Rattle.table.specs.Tabled.{Tabled}
+use Rattle.wrap.specs.Frame.{Frame, lengthIn, capIn, openIn, Rising}
+use Rattle.layout.specs.Laid.{Numbered}
+use Rattle.layout.specs.Planned.{openAt}
 use Rattle.table.specs.declared.Table.{Table}
+use Rattle.allot.specs.Tables.{Kinds}
 
--- the length of stretch s: from the mark before it, 0 before the first, to its own
-abbrev pub lengthOn : List ℕ → ℕ → ℕ
-lengthOn marks s = getD marks s 0 - nth marks s 0
+-- how many of the processors that are open in stretch s are of the classes up to k
+abbrev pub openOn : Table → Frame → ℕ → ℕ → ℕ
+openOn t f s k = total (keep (openIn f s) (take (t .m) (t .«by_memory»))) (λ i. only (leb (getD (t .kinds) (pred i) 0) k) 1)
 
--- what a job with this deadline may have of stretch s: all of it, if it ends by the deadline
-abbrev pub capAt : List ℕ → ℕ → ℕ → ℕ
-capAt marks deadline s = only (leb (getD marks s 0) deadline) (lengthOn marks s)
-
-abbrev pub capOn : (deadlines marks : List ℕ) → ℕ → ℕ → ℕ
-capOn deadlines marks j s = capAt marks (getD deadlines j 0) s
-
--- the processors of the classes 1 to k, for the length of a stretch
-abbrev pub roomOn : Table → List ℕ → ℕ → ℕ → ℕ
-roomOn t marks s k = sum k (λ i. getD (t .procs) i 0) * lengthOn marks s
-
-abbrev pub flowOn : Table → (deadlines marks : List ℕ) → Flow
-flowOn t deadlines marks = record {
-  q = t .q;
+abbrev pub flowOn : Table → Frame → Flow
+flowOn t f = record {
+  q = f .stretches;
   n = t .n;
   time = λ j. getD (t .times) j 0;
   class = λ j. getD (t .classes) j 0;
-  cap = capOn deadlines marks;
-  room = roomOn t marks;
+  cap = λ j s. capIn f (suc j) s;
+  room = λ s k. openOn t f s k * lengthIn f s;
 }
 
--- the numbers are so small that no sum overflows, also where each minute is cut into 16 parts; the marks rise and the jobs have classes
-pub record Sized (t : Table) (marks : List ℕ) : Type 0 where
-  pub some-job : 1 ≤ t .n
-  pub few-jobs : t .n ≤ 48
-  pub some-stretch : 1 ≤ t .q
-  pub few-stretches : t .q ≤ 48
-  pub some-class : 1 ≤ t .s
-  pub few-classes : t .s ≤ 16
-  pub times-small : (j : ℕ) → j < t .n → getD (t .times) j 0 ≤ 1600000
-  pub classed : (j : ℕ) → j < t .n → (1 ≤ getD (t .classes) j 0) × (getD (t .classes) j 0 ≤ t .s)
-  pub marks-rise : (s : ℕ) → s < t .q → nth marks s 0 ≤ getD marks s 0
-  pub marks-small : (s : ℕ) → s < t .q → getD marks s 0 ≤ 176000016
-  pub few-processors : sum (t .s) (λ i. getD (t .procs) i 0) ≤ 16
+-- its caps and rooms by lent numbers: stretch s ends at marks[s], the first begins at minute 0
+abbrev pub capAt : List ℕ → (ready until s : ℕ) → ℕ
+capAt marks ready until s = only (leb ready (nth marks s 0) && leb (getD marks s 0) until) (getD marks s 0 - nth marks s 0)
 
--- a table, deadlines and marks are those of an order at a bound
-pub record TabledAt (top : ℤ) (o : Order) (bound : ℤ) (t : Table) (deadlines marks : List ℕ) : Type 0 where
-  pub tabled : Tabled top o t
-  pub deadlines-are : (j : ℕ) → j < jobCount o → getD deadlines j 0 ≡ deadlineOf bound (jobOf o (suc j))
-  pub marks-are : (s : ℕ) → s < stretchCount o → getD marks s 0 ≡ mark o bound (suc s)
+abbrev pub capOn : (marks ready until : List ℕ) → (j s : ℕ) → ℕ
+capOn marks ready until j s = capAt marks (getD ready j 0) (getD until j 0) s
+
+abbrev pub roomOn : (processors kinds marks opens closes : List ℕ) → (s k : ℕ) → ℕ
+roomOn processors kinds marks opens closes s k =
+    total (keep (openAt opens closes (nth marks s 0) (getD marks s 0)) processors) (λ i. only (leb (getD kinds (pred i) 0) k) 1)
+    * (getD marks s 0 - nth marks s 0)
+
+-- the numbers are so small that no sum overflows, also where each minute is cut into 16 parts; the marks rise, and jobs and processors
+-- have classes
+pub record Sized (t : Table) (f : Frame) : Type 0 where
+  pub few-jobs : t .n ≤ 48
+  pub few-processors : t .m ≤ 16
+  pub few-classes : t .s ≤ 16
+  pub few-stretches : f .stretches ≤ 128
+  pub classed : (j : ℕ) → j < t .n → (1 ≤ getD (t .classes) j 0) × (getD (t .classes) j 0 ≤ t .s)
+  pub numbered : Numbered (t .m) (t .«by_memory»)
+  pub kinds : Kinds (t .s) (t .kinds) (take (t .m) (t .«by_memory»))
+  pub rising : Rising f
+  pub marks-small : (s : ℕ) → s < f .stretches → f .mark (suc s) ≤ 176000016
+
+-- the lent lists are long enough for its jobs, its processors and q stretches
+pub record Long (t : Table) (q : ℕ) (marks ready until opens closes w : List ℕ) : Type 0 where
+  pub l-marks : q ≤ length marks
+  pub l-ready : t .n ≤ length ready
+  pub l-until : t .n ≤ length until
+  pub l-opens : t .m ≤ length opens
+  pub l-closes : t .m ≤ length closes
+  pub l-w : suc (t .n) * q ≤ length w
+
+-- and those that are written over
+pub record Lent (t : Table) (q : ℕ) (marks ready until opens closes cap room slack w : List ℕ) : Type 0 where
+  pub long : Long t q marks ready until opens closes w
+  pub l-cap : t .n * q ≤ length cap
+  pub l-room : q * suc (t .s) ≤ length room
+  pub l-slack : q * suc (t .s) ≤ length slack

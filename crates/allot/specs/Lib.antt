@@ -1,8 +1,10 @@
-pub mod Flows
 pub mod Tables
-pub mod GridMarks
+pub mod PutLaws
+pub mod Flows
 pub mod AtTop
 pub mod Holds
-pub mod OrderFlow
+pub mod InFrame
+pub mod LaidInFrame
+pub mod GridMarks
 pub mod Feasible
 pub mod Chosen

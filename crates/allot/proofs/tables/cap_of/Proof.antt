@@ -1,27 +1,20 @@
-use mathlib.Core.Path.{_∙_}
 use borrow.Author.Needs.{needs}
+use mathlib.Core.Path.{refl, sym, _∙_}
 use Rattle.allot.proofs.Shares.{cap-in, cap-out}
 use Rattle.allot.proofs.tables.cap_of.Statement.{statement}
 use Rattle.allot.proofs.tables.cap_of.Tie as tie
 
-mul-if1 : tie.Need-mul-if1
-mul-if1 c = search needs
+is-open-requires : tie.Need-is-open-requires
+is-open-requires c κs = search needs
 
-element-copy-out-if1 : tie.Need-element-copy-out-if1
-element-copy-out-if1 c = search needs
-
-length-of-requires : tie.Need-length-of-requires
-length-of-requires c κs = search needs
+sub-result : tie.Need-sub-result
+sub-result c = search needs
 
 returns : tie.Need-returns
-returns c =
-    let a = c .before .before .before .args in
-    c .length-of .ensures ∙ cap-in (a .marks .now) _ (a .s) (c .before .if1 .taken)
+returns c = cap-in _ _ _ (sym (c .before .is-open .ensures) ∙ c .if1 .taken) refl
 
 returns-2 : tie.Need-returns-2
-returns-2 c =
-    let a = c .before .before .args in
-    cap-out (a .marks .now) _ (a .s) (c .if1 .left)
+returns-2 c = cap-out _ _ (sym (c .before .is-open .ensures) ∙ c .if1 .left)
 
 pub cap-of-spec : {M : Type 1} → statement M
-cap-of-spec = tie.close (tie.spec mul-if1 element-copy-out-if1 length-of-requires returns returns-2)
+cap-of-spec = tie.close (tie.spec is-open-requires sub-result returns returns-2)

@@ -6,7 +6,7 @@ use lib.ListN.{length, length-set}
 use Rattle.sums.specs.Gate.{sum-mono}
 use Rattle.sums.specs.Sum.{sum}
 use Rattle.allot.proofs.Shares.{room-small}
-use Rattle.allot.proofs.Writing.{put-none, put-more}
+use Rattle.allot.specs.PutLaws.{put-none, put-more}
 use Rattle.allot.specs.Tables.{countOf, Put}
 use Rattle.allot.proofs.tables.put_rooms_row.Statement.{statement}
 use Rattle.allot.proofs.tables.put_rooms_row.Tie as tie
