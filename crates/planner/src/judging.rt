@@ -30,6 +30,7 @@ fn no_table() -> Table {
         times: [0u32; 48],
         classes: [0u32; 48],
         leads: [0u32; 48],
+        kinds: [0u32; 16],
         procs: [0u32; 16],
         grid: [0u32; 48],
         by_memory: [0u32; 16],

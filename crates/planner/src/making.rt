@@ -18,9 +18,25 @@ pub fn make_plan(t: Table, bound: i32, rows: &mut [u32]) -> usize
     let grid = t.grid;
     let deadlines = minutes_at(leads, reach);
     let marks = minutes_at(grid, reach);
-    let mut w = [0u32; 2352];
-    fill_amounts(t, deadlines, marks, &mut w);
+    let ready = [0u32; 48];
     let opens = [0u32; 16];
     let closes = [reach; 16];
+    let mut cap = [0u32; 2304];
+    let mut room = [0u32; 816];
+    let mut slack = [0u32; 816];
+    let mut w = [0u32; 2352];
+    fill_amounts(
+        t,
+        &marks,
+        t.q,
+        &ready,
+        &deadlines,
+        &opens,
+        &closes,
+        &mut cap,
+        &mut room,
+        &mut slack,
+        &mut w,
+    );
     lay_plan(t, &marks, t.q, &opens, &closes, &w, rows)
 }
