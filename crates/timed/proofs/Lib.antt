@@ -1,0 +1,11 @@
+mod Shifts
+mod Windows
+mod Gathering
+mod TimedMade
+mod Findings
+mod Refusing
+mod Ensuring
+mod InTimes
+mod Walks
+mod GoodRows
+mod Answers

@@ -1,0 +1,13 @@
+pub mod Times
+pub mod Changes
+pub mod ChangeLaws
+pub mod Rows
+pub mod NoneLaws
+pub mod Written
+pub mod Request
+pub mod Check
+pub mod CheckLaws
+pub mod Inside
+pub mod Leads
+pub mod LeadLaws
+pub mod Making
