@@ -11,17 +11,20 @@
  * hbr_write answers it.
  *
  * Rows of a plan are lent as numbers, four to a row: job, processor, from, to. A row takes the minutes from `from` up to but not
- * including `to`. In a plan of hbr_least or hbr_plan no row begins where another of its job on its processor ends: the two would be
- * one row.
+ * including `to`. In a plan that is written no row begins where another of its job on its processor ends: the two would be one row.
  *
  * Books. A book is sixteen numbers, lent to hbr_book_least and hbr_book_plan: the minutes planned for maker 1, 2, .. 16 since it
  * was opened. It is opened by sixteen zeros. Lend each call the book that the last one left: then each number is the times of that
  * maker's jobs in all plans written with it, and the sixteen together are the times of all their jobs. Each is at most
  * HBR_MOST_BOOKED.
  *
+ * Times. hbr_timed_rows, hbr_timed_plan and hbr_timed_check take beside the order a ready minute for each job, and for each
+ * processor one window as two numbers: the minute at which it opens and the one at which it closes; all from 0 to
+ * HBR_MOST_MINUTE, each window closing after it opens. ready_length is the number of jobs, windows_length twice that of processors.
+ *
  * Results. Each function returns 0 where it succeeds, else a refusal: its number is hbr_number(result), and the job that it is
- * about, 0 where it is about none, hbr_job(result). Of several refusals that apply the first is told: HBR_SHORT_ANSWER,
- * HBR_PART_JOB, HBR_SHORT_REASON or HBR_SHORT_BOOK, 12, then 1 to 6, 13, 7 to 11, 14.
+ * about, of 16 the processor, 0 where it is about none, hbr_job(result). Of several refusals that apply the first is told:
+ * HBR_SHORT_ANSWER, HBR_PART_JOB, HBR_SHORT_REASON or HBR_SHORT_BOOK, 12, HBR_WRONG_TIMES, then 1 to 6, 13, 7, 15, 16, 8 to 11, 14.
  *
  * Memory. You own every buffer; nothing is kept after a call, and nothing is allocated. Two buffers of one call must not overlap
  * unless both are const. Lengths count elements, not bytes. Pointers must be valid and aligned, not NULL, also where the length is
@@ -46,15 +49,18 @@
 extern "C" {
 #endif
 
-/* the most processors and jobs of an order, bytes of its file, rows of a plan, bytes of a reason's line; makers are numbered up to
- * HBR_MOST_MAKERS, and a book has as many numbers, none over HBR_MOST_BOOKED */
+/* the most processors and jobs of an order, bytes of its file, rows of a plan, rows of a plan with times, bytes of a reason's line;
+ * makers are numbered up to HBR_MOST_MAKERS, and a book has as many numbers, none over HBR_MOST_BOOKED; no ready minute, opening or
+ * closing is over HBR_MOST_MINUTE */
 #define HBR_MOST_PROCESSORS 16
 #define HBR_MOST_JOBS 48
 #define HBR_MOST_BYTES 844
 #define HBR_MOST_ROWS 3024
+#define HBR_MOST_TIMED_ROWS 8064
 #define HBR_MOST_LINE 541
 #define HBR_MOST_MAKERS 16
 #define HBR_MOST_BOOKED 4000000000u
+#define HBR_MOST_MINUTE 1000000
 
 /* refusals */
 #define HBR_NO_PROCESSOR 1        /* the order has no processor */
@@ -65,14 +71,17 @@ extern "C" {
 #define HBR_DUE_OUT_OF_RANGE 6    /* a job's due time is not -1000000 to 1000000 */
 #define HBR_FITS_NO_PROCESSOR 7   /* a job needs more memory than any processor has */
 #define HBR_BOUND_OUT_OF_RANGE 8  /* the bound is not -10000000 to 10000000 */
-#define HBR_BUFFER_TOO_SHORT 9    /* rows: as hbr_judge tells; file: 4 bytes a processor, 16 a job, and 12; line: its length */
-#define HBR_BOUND_TOO_TIGHT 10    /* no plan whatever meets the bound: hbr_reason tells why */
-#define HBR_TOO_MANY_ROWS 11      /* over 3024 rows to check */
+#define HBR_BUFFER_TOO_SHORT 9    /* rows: as hbr_judge, hbr_timed_rows tell; file: 4 bytes a processor, 16 a job, 12; line: its length */
+#define HBR_BOUND_TOO_TIGHT 10    /* no plan whatever meets the bound: hbr_reason tells why, but not with times */
+#define HBR_TOO_MANY_ROWS 11      /* over 3024 rows to check, with times over 8064 */
 #define HBR_BAD_FILE 12           /* the file is under 12 or over 844 bytes, or its lists and its trailer disagree */
 #define HBR_MAKER_OUT_OF_RANGE 13 /* a job's maker is not 1 to 16; told after 6 and before 7 */
 #define HBR_BOOK_FULL 14          /* a number of the book would then be over 4000000000; told last of all */
+#define HBR_READY_OUT_OF_RANGE 15 /* a job's ready minute is not 0 to 1000000; told after 7 and before 8 */
+#define HBR_BAD_WINDOW 16         /* a window is not in 0 to 1000000 or does not close after it opens; told after 15, before 8 */
 #define HBR_SHORT_REASON 253      /* the reason has under 19 numbers */
 #define HBR_SHORT_BOOK 253        /* the book has under 16 numbers; the same number, since no function has both */
+#define HBR_WRONG_TIMES 253       /* the ready minutes are not one to a job or the windows not two numbers to a processor; after 12 */
 #define HBR_PART_JOB 254          /* the numbers of the jobs are not four to a job */
 #define HBR_SHORT_ANSWER 255      /* the answer is shorter than the function's HBR_.._ANSWER */
 
@@ -156,6 +165,32 @@ uint32_t hbr_parse(const uint8_t *file, size_t file_length, int32_t bound, const
 #define HBR_CHECK_ANSWER 1
 uint32_t hbr_check(const uint8_t *file, size_t file_length, int32_t bound, const uint32_t *rows, size_t rows_length,
                    int32_t *answer, size_t answer_length);
+
+/* How many rows hbr_timed_plan asks to be lent at a bound: E * (jobs + processors - 1), where E counts the distinct whole numbers
+ * among the ready minutes, the jobs' ends at that bound, negative ones too, the openings and the closings. Refusals, in the order in
+ * which they are told: 255, 12, 253, 1 to 6, 13, 7, 15, 16, 8.
+ * answer[0] the rows, 2 to HBR_MOST_TIMED_ROWS: lend hbr_timed_plan 4 * answer[0] numbers. */
+#define HBR_TIMED_ROWS_ANSWER 1
+uint32_t hbr_timed_rows(const uint8_t *file, size_t file_length, int32_t bound, const uint32_t *ready, size_t ready_length,
+                        const uint32_t *windows, size_t windows_length, int32_t *answer, size_t answer_length);
+
+/* A plan as hbr_plan has it in which, too, no row begins before its job's ready minute or its processor's opening, nor has a `to`
+ * above that processor's closing; written from rows[0] on. rows_length counts numbers, not rows: it is 4 * rows. Refusals, in the
+ * order in which they are told: 255, 12, 253, 1 to 6, 13, 7, 15, 16, 8 to 10; 10 where there is no such plan whatever.
+ * answer[0] the number of rows written. */
+#define HBR_TIMED_PLAN_ANSWER 1
+uint32_t hbr_timed_plan(const uint8_t *file, size_t file_length, int32_t bound, const uint32_t *ready, size_t ready_length,
+                        const uint32_t *windows, size_t windows_length, uint32_t *rows, size_t rows_length, int32_t *answer,
+                        size_t answer_length);
+
+/* Whether rows, made by anybody and in any order, are a right plan as hbr_check has it and keep the ready minutes and windows.
+ * rows_length counts numbers, not rows: it is 4 * rows. Numbers left over after the last whole row make the plan wrong, and count
+ * as a row for 11, which here is over HBR_MOST_TIMED_ROWS rows. Refusals, in the order in which they are told: 255, 12, 253, 1 to 6,
+ * 13, 7, 15, 16, 8, 11. answer[0] 1 for yes, 0 for no. */
+#define HBR_TIMED_CHECK_ANSWER 1
+uint32_t hbr_timed_check(const uint8_t *file, size_t file_length, int32_t bound, const uint32_t *ready, size_t ready_length,
+                         const uint32_t *windows, size_t windows_length, const uint32_t *rows, size_t rows_length, int32_t *answer,
+                         size_t answer_length);
 
 /* Writes the order file of an order: memories, one number to a processor; jobs, four to a job: time, due time (a negative one
  * converted to uint32_t), need, maker. jobs_length counts numbers, not jobs: it is 4 * jobs. HBR_MOST_BYTES bytes are always enough

@@ -4,16 +4,20 @@
 //! listed. Due 10 means done by the close of minute 10, so the end is minute 11: a job's end is its due time plus the bound plus 1.
 //! An order is handed over as the bytes of an order file, which `write` makes. A refused call writes nothing.
 
-/// The most processors and jobs of an order, bytes of its file, rows of a plan, bytes of a reason's line.
+/// The most processors and jobs of an order, bytes of its file, rows of a plan, rows of a plan with times, bytes of a reason's line.
 pub const MOST_PROCESSORS: usize = 16;
 pub const MOST_JOBS: usize = 48;
 pub const MOST_BYTES: usize = 844;
 pub const MOST_ROWS: usize = 3024;
+pub const MOST_TIMED_ROWS: usize = 8064;
 pub const MOST_LINE: usize = 541;
 
 /// Makers are numbered from 1 to this; a book has as many counts, none over `MOST_BOOKED`.
 pub const MOST_MAKERS: usize = 16;
 pub const MOST_BOOKED: u32 = 4_000_000_000;
+
+/// The largest ready minute, opening and closing.
+pub const MOST_MINUTE: u32 = 1_000_000;
 
 /// The functions of the archive, as `highboyrobin.h` declares them. A slice is a pointer and a length in elements.
 pub mod raw {
@@ -98,6 +102,43 @@ pub mod raw {
             answer: *mut i32,
             answer_length: usize,
         ) -> u32;
+        pub fn hbr_timed_rows(
+            file: *const u8,
+            file_length: usize,
+            bound: i32,
+            ready: *const u32,
+            ready_length: usize,
+            windows: *const u32,
+            windows_length: usize,
+            answer: *mut i32,
+            answer_length: usize,
+        ) -> u32;
+        pub fn hbr_timed_plan(
+            file: *const u8,
+            file_length: usize,
+            bound: i32,
+            ready: *const u32,
+            ready_length: usize,
+            windows: *const u32,
+            windows_length: usize,
+            rows: *mut u32,
+            rows_length: usize,
+            answer: *mut i32,
+            answer_length: usize,
+        ) -> u32;
+        pub fn hbr_timed_check(
+            file: *const u8,
+            file_length: usize,
+            bound: i32,
+            ready: *const u32,
+            ready_length: usize,
+            windows: *const u32,
+            windows_length: usize,
+            rows: *const u32,
+            rows_length: usize,
+            answer: *mut i32,
+            answer_length: usize,
+        ) -> u32;
         pub fn hbr_write(
             memories: *const u32,
             memories_length: usize,
@@ -131,7 +172,16 @@ pub struct Row {
     pub to: u32,
 }
 
-/// Why a call was refused: the number of `highboyrobin.h`, and the job that it is about, 0 where it is about none.
+/// When a processor is open: the minutes from `opens` up to but not including `closes`.
+#[repr(C)]
+#[derive(Clone, Copy, Debug, PartialEq, Eq)]
+pub struct Window {
+    pub opens: u32,
+    pub closes: u32,
+}
+
+/// Why a call was refused: the number of `highboyrobin.h`, and the job that it is about, of 16 the processor, 0 where it is about
+/// none.
 #[derive(Clone, Copy, Debug, PartialEq, Eq)]
 pub struct Refused {
     pub number: u32,
@@ -152,11 +202,13 @@ impl Refused {
             8 => "the bound is not -10,000,000 to 10,000,000",
             9 => "the lent buffer is too short",
             10 => "no plan whatever meets the bound",
-            11 => "over 3,024 rows to check",
+            11 => "over 3,024 rows to check, with times over 8,064",
             12 => "the file is under 12 or over 844 bytes, or its lists and its trailer disagree",
             13 => "a job's maker is not 1 to 16",
             14 => "a count of the book would be over 4,000,000,000",
-            253 => "the reason has under 19 numbers, or the book under 16",
+            15 => "a ready minute is not 0 to 1,000,000",
+            16 => "a window is not in 0 to 1,000,000, or does not close after it opens",
+            253 => "the reason has under 19 numbers, the book under 16, or the times are not one to each job and processor",
             254 => "the numbers of the jobs are not four to a job",
             255 => "the answer is too short",
             _ => "no refusal has this number",
@@ -164,12 +216,13 @@ impl Refused {
     }
 }
 
-/// Number, job where it is about one, and words: `refusal 7 of job 2: a job fits no processor`.
+/// Number, job or processor where it is about one, and words: `refusal 7 of job 2: a job fits no processor`.
 impl core::fmt::Display for Refused {
     fn fmt(&self, out: &mut core::fmt::Formatter<'_>) -> core::fmt::Result {
         let (number, job, words) = (self.number, self.job, self.words());
-        match job {
-            0 => write!(out, "refusal {number}: {words}"),
+        match (number, job) {
+            (_, 0) => write!(out, "refusal {number}: {words}"),
+            (16, _) => write!(out, "refusal {number} of processor {job}: {words}"),
             _ => write!(out, "refusal {number} of job {job}: {words}"),
         }
     }
@@ -439,6 +492,89 @@ pub fn check(file: &[u8], bound: i32, rows: &[Row]) -> Result<bool, Refused> {
             file.as_ptr(),
             file.len(),
             bound,
+            at,
+            length,
+            answer.as_mut_ptr(),
+            answer.len(),
+        )
+    })?;
+    Ok(answer[0] == 1)
+}
+
+/// How many rows `timed_plan` asks to be lent at a bound, at most `MOST_TIMED_ROWS`: a ready minute for each job, a window for each
+/// processor, in the order of the file. Refusals: 12, 253 where they are not so many, 1 to 6, 13, 7, 15, 16, 8.
+pub fn timed_rows(
+    file: &[u8],
+    bound: i32,
+    ready: &[u32],
+    windows: &[Window],
+) -> Result<usize, Refused> {
+    let mut answer = [0; 1];
+    told(unsafe {
+        raw::hbr_timed_rows(
+            file.as_ptr(),
+            file.len(),
+            bound,
+            ready.as_ptr(),
+            ready.len(),
+            windows.as_ptr().cast(),
+            windows.len() * 2,
+            answer.as_mut_ptr(),
+            answer.len(),
+        )
+    })?;
+    Ok(answer[0] as usize)
+}
+
+/// `plan` with times as `timed_rows` has them: no row begins before its job's ready minute or its processor's opening, nor has a
+/// `to` above that processor's closing. Refusals: 12, 253, 1 to 6, 13, 7, 15, 16, 8 to 10; 10 where there is no such plan whatever.
+pub fn timed_plan(
+    file: &[u8],
+    bound: i32,
+    ready: &[u32],
+    windows: &[Window],
+    rows: &mut [Row],
+) -> Result<usize, Refused> {
+    let mut answer = [0; 1];
+    let (at, length) = (rows.as_mut_ptr().cast(), rows.len() * 4);
+    told(unsafe {
+        raw::hbr_timed_plan(
+            file.as_ptr(),
+            file.len(),
+            bound,
+            ready.as_ptr(),
+            ready.len(),
+            windows.as_ptr().cast(),
+            windows.len() * 2,
+            at,
+            length,
+            answer.as_mut_ptr(),
+            answer.len(),
+        )
+    })?;
+    Ok(answer[0] as usize)
+}
+
+/// Whether rows, made by anybody and in any order, are a right plan that meets the bound and keeps the times. Refusals: 12, 253, 1
+/// to 6, 13, 7, 15, 16, 8, 11: here over `MOST_TIMED_ROWS` rows.
+pub fn timed_check(
+    file: &[u8],
+    bound: i32,
+    ready: &[u32],
+    windows: &[Window],
+    rows: &[Row],
+) -> Result<bool, Refused> {
+    let mut answer = [0; 1];
+    let (at, length) = (rows.as_ptr().cast(), rows.len() * 4);
+    told(unsafe {
+        raw::hbr_timed_check(
+            file.as_ptr(),
+            file.len(),
+            bound,
+            ready.as_ptr(),
+            ready.len(),
+            windows.as_ptr().cast(),
+            windows.len() * 2,
             at,
             length,
             answer.as_mut_ptr(),

@@ -1,4 +1,4 @@
--- A refusal of an order carries at most 48: the number of one of its jobs.
+-- A refusal of an order carries at most 48: the number of one of its jobs or processors.
 use Prim.Native.Nat.{ℕ, suc, _+_, _/_, _≤_}
 use mathlib.Core.Path.{_≡_, refl, subst}
 use mathlib.Core.Bool.{Bool, true, false, cond, not}
@@ -24,8 +24,9 @@ use Rattle.order.specs.Refusals.{
   jobRows,
   orderRows,
   boundInRange,
+  boundRow,
 }
-use Rattle.order.specs.RefusalLaws.{judge-accepted-append, judge-refused-append, counts-in-limits}
+use Rattle.order.specs.RefusalLaws.{judge-accepted-append, judge-refused-append, counts-in-limits, accepted-iff}
 use Rattle.order.specs.Table.{carriedBy}
 use Rattle.order_file.specs.File.{goodFile, orderIn, readRows, fileLength, writeRows}
 use Rattle.plan.specs.Check.{checkRows}
@@ -35,6 +36,12 @@ use Rattle.sentence.specs.Handed.{handed}
 use Rattle.sentence.specs.Line.{composed}
 use Rattle.sentence.specs.Told.{composeRows, readRows as lineRows}
 use Rattle.book.specs.Book.{overBooked}
+use Rattle.sums.specs.Lists.{tabulate}
+use Rattle.sums.specs.Places.{length-tabulate}
+use Rattle.wrap.specs.FrameAt.{Times}
+use Rattle.timed.specs.Changes.{timedRowsAsked}
+use Rattle.timed.specs.Times.{minuteInRange, windowGood, readyRow, windowRow}
+use Rattle.timed.specs.Rows.{askedRows, earlierTimed, timedRows, noneTimed, mostTimedRows, timedCheckRows}
 use Rattle.planner.specs.Rows.{rowsAsked, isFound, leastRows, earlierRows, planRows, bookedLeastRows, bookedPlanRows}
 
 -- a refusal carries what its verdict carries
@@ -146,3 +153,43 @@ pub back-carries : (o : Order) (bound : ℤ) → carriedBy (judge (lineRows o bo
 unfolding lineRows
 back-carries o bound =
     append-carries (orderRows limits o) _ (order-carries o) (whole-carries 8 48 (not (boundInRange bound)) [] none-carries)
+
+-- one table after another, where the first accepts
+then-carries : (rows later : List TableRow) → carriedBy (judge rows) ≤ 48 →
+    (judge rows ≡ accepted → carriedBy (judge later) ≤ 48) → carriedBy (judge (rows ++ later)) ≤ 48
+then-carries rows later h l = decided (judge rows) refl
+  where
+    decided : (v : Verdict) → judge rows ≡ v → carriedBy (judge (rows ++ later)) ≤ 48
+    decided accepted e = rw (judge-accepted-append rows later e) (l e)
+    decided (refused n j) e = rw (judge-refused-append rows later n j e) (rw e at h)
+
+-- 15 carries a job and 16 a processor
+times-carries : (o : Order) (bound : ℤ) (t : Times) → jobCount o ≤ 48 → processorCount o ≤ 16 →
+    carriedBy (judge (readyRow o t ∷ windowRow o t ∷ boundRow bound ∷ [])) ≤ 48
+unfolding judge
+times-carries o bound t jobs processors =
+    first-carries 15 0 48 (λ j. not (minuteInRange (t .ready j))) (tabulate (jobCount o) suc) _
+    (omega (arith, length-tabulate (jobCount o) suc))
+    (first-carries 16 0 48 (λ i. not (windowGood (t .opens i) (t .closes i))) (tabulate (processorCount o) suc) _
+    (omega (arith, length-tabulate (processorCount o) suc))
+    (whole-carries 8 48 (not (boundInRange bound)) [] none-carries))
+
+pub asked-carries : (o : Order) (bound : ℤ) (t : Times) → carriedBy (judge (askedRows o bound t)) ≤ 48
+unfolding askedRows
+asked-carries o bound t =
+    then-carries (orderRows limits o) (readyRow o t ∷ windowRow o t ∷ boundRow bound ∷ []) (order-carries o)
+    (λ e. times-carries o bound t (accepted-iff o .0 e .few-jobs) (accepted-iff o .0 e .few-processors))
+
+pub timed-carries : (o : Order) (bound : ℤ) (t : Times) (n : ℕ) → carriedBy (judge (timedRows o bound t n)) ≤ 48
+unfolding earlierTimed timedRows
+timed-carries o bound t n =
+    append-carries (earlierTimed o bound t n) _
+    (append-carries (askedRows o bound t) _ (asked-carries o bound t)
+    (whole-carries 9 48 (ltb (n / 4) (timedRowsAsked o bound t)) [] none-carries))
+    (whole-carries 10 48 (noneTimed o bound t) [] none-carries)
+
+pub timed-check-carries : (o : Order) (bound : ℤ) (t : Times) (n : ℕ) → carriedBy (judge (timedCheckRows o bound t n)) ≤ 48
+unfolding timedCheckRows
+timed-check-carries o bound t n =
+    append-carries (askedRows o bound t) _ (asked-carries o bound t)
+    (whole-carries 11 48 (ltb mostTimedRows ((n + 3) / 4)) [] none-carries)

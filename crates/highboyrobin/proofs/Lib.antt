@@ -9,3 +9,8 @@ mod ChecksTold
 mod FilesTold
 mod SentenceTold
 mod BooksTold
+mod TimedAnswering
+mod TimedCalling
+mod TimedTold
+mod TimesTold
+mod TimesRead

@@ -1,8 +1,10 @@
 pub mod Results
 pub mod Places
 pub mod Calls
+pub mod TimedCalls
 pub mod BookCalls
 pub mod CallLaws
 pub mod BookCallLaws
+pub mod TimedCallLaws
 pub mod LineCallLaws
 pub mod Inside

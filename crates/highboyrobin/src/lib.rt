@@ -1,10 +1,14 @@
 // The part that makers link: thin functions over the proved entry points, for C and Rust. None has a `requires`, and a refused
 // call writes nothing. link/highboyrobin.h declares them.
+use order::Order;
+use timed::Times;
+
 mod answers; // what is written into a lent answer
 mod books; // a book from a lent one, and into it
 mod gathering; // an order from lists of numbers
 mod handing; // a reason from numbers
 mod results; // a refusal as the result of a call
+mod timing; // an order and the times beside it
 pub mod book_least; // hbr_book_least
 pub mod book_plan; // hbr_book_plan
 pub mod checking; // hbr_check
@@ -14,4 +18,20 @@ pub mod parsing; // hbr_parse
 pub mod planning; // hbr_plan
 pub mod reasoning; // hbr_reason
 pub mod sentencing; // hbr_sentence
+pub mod timed_check; // hbr_timed_check
+pub mod timed_plan; // hbr_timed_plan
+pub mod timed_rows; // hbr_timed_rows
 pub mod writing; // hbr_write
+
+// Whether an order and times were read, or the result of the call.
+pub enum TimedStatus {
+    Refused(u32),
+    Read,
+}
+
+// The order of a file and the times beside it; where they were not read, neither is looked at.
+pub struct TimedRead {
+    pub status: TimedStatus,
+    pub order: Order,
+    pub times: Times,
+}

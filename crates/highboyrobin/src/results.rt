@@ -7,8 +7,8 @@ ghost use Prim.Native.Nat.{_≤_};
 ghost use Rattle.order.specs.Table.{refusalTold, carriedBy};
 ghost use Rattle.highboyrobin.specs.Results.{resultOf};
 
-// The result where an answer is too short; where the jobs' numbers are not four to a job; where a reason has under 19 numbers, or a
-// book under 16. No refusal has these numbers.
+// The result where an answer is too short; where the jobs' numbers are not four to a job; where a reason has under 19 numbers, a
+// book under 16, or the times are not as long as the file's counts. No refusal has these numbers.
 pub const SHORT_ANSWER: u32 = 255;
 
 pub const PART_JOB: u32 = 254;
@@ -17,7 +17,11 @@ pub const SHORT_REASON: u32 = 253;
 
 pub const SHORT_BOOK: u32 = 253;
 
-// The result where no plan can meet the bound.
+pub const WRONG_TIMES: u32 = 253;
+
+// The result where a file is bad; where no plan can meet the bound.
+pub const BAD_FILE: u32 = 12;
+
 pub const TOO_TIGHT: u32 = 10;
 
 // A refusal as a result.

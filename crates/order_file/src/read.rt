@@ -1,4 +1,5 @@
-// The reader: refusal 12, then 1 to 7 with 13 after 6. Only `read_order` is a public entry point; the others serve it.
+// The reader: refusal 12, then 1 to 7 with 13 after 6. Only `read_order` is a public entry point; the others serve it, `read_trailer` the
+// crates above too.
 use super::JOB_WIDTH;
 use super::LONGEST_FILE;
 use super::Lists;
@@ -39,7 +40,7 @@ fn lists_agree(processors: usize, jobs: usize, processors_at: usize, jobs_at: us
 }
 
 // The trailer of a file, where the lists and it agree.
-fn read_trailer(file: &[u8]) -> Trailer
+pub fn read_trailer(file: &[u8]) -> Trailer
     ensures { λ r. ⌜ r ≡ trailerOf (now (file .entry)) ⌝ }
     ensures { λ r. ⌜ Within (now (file .entry)) r ⌝ }
 {
