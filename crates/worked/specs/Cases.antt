@@ -1,14 +1,19 @@
--- Document 01's cases with a ●, the lines of document 02, §1, joined rows of §2, ends of §3, makers and books of §4, and more: one
--- table, and one theorem that every case holds of the definitions.
-use Prim.Native.Nat.{ℕ, suc}
+-- Document 01's cases with a ●, the lines of document 02, §1, joined rows of §2, ends of §3, makers and books of §4, ready minutes and
+-- windows of §5, and more: one table, and one theorem that every case holds of the definitions.
+use Prim.Native.Nat.{ℕ, suc, _-_, _≤_}
 use Prim.Native.String.{String}
 use mathlib.Core.Path.{_≡_, refl, sym, ap, _∙_, subst}
 use mathlib.Core.Bool.{Bool, true, false, true≢false}
 use mathlib.Core.List.{List, [], _∷_, _++_, map}
+use native.Mathlib.Decide.{decLt}
+use native.Mathlib.Omega.{arith}
+use borrow.Author.Tests.{ltb-true, lt-ltb, le-ltb}
+use lib.Dec.{ltb}
 use lib.IntN.{ℤ, pos, negℤ}
-use Rattle.sums.specs.Sum.{sum}
+use Rattle.sums.specs.Sum.{sum, sum-cong}
+use Rattle.sums.specs.Gate.{gate, gate-in, gate-out}
 use lib.ListN.{getD}
-use Rattle.sums.specs.Lists.{All, keep, nth, tabulate}
+use Rattle.sums.specs.Lists.{All, keep, nth, only, tabulate}
 use Rattle.sums.specs.Same.{sameList}
 use Rattle.order.specs.Order.{Order, processorCount, endAt, endOf}
 use Rattle.order.specs.Sorted.{insert, distinct, dueTimes, placeByKey, byFalling, processorOrder, jobOrder}
@@ -40,8 +45,19 @@ use Rattle.sums.specs.Most.{largest, most}
 use Rattle.wrap.specs.Stretches.{ends, mark}
 use Rattle.wrap.specs.Layout.{fill, sharesOf, stretchRows, rowsUpTo, layout}
 use Rattle.wrap.specs.Ending.{jobWhere, endsWith}
+use Rattle.wrap.specs.Frame.{lies, openOrder, openTo, stretchRowsIn, inTurn, layoutIn}
+use Rattle.wrap.specs.FrameAt.{Times, RightTimed, timed-in}
+use Rattle.wrap.specs.FrameFlow.{flowIn}
+use Rattle.amounts.specs.Flow.{Flow, covered, left, right, feasible-no-cut}
+use Rattle.order.specs.Deadline.{deadlineOf}
+use Rattle.feasible.specs.FramePlan.{plan-amounts-in}
+use Rattle.timed.specs.Changes.{changes, changeTimes, changeCount, markAt, timedFrame, timedRowsAsked}
+use Rattle.timed.specs.ChangeLaws.{timed-framed}
+use Rattle.timed.specs.Rows.{askedRows, earlierTimed}
+use Rattle.timed.specs.Check.{isRightTimed}
+use Rattle.timed.specs.CheckLaws.{timed-yes}
 use Rattle.feasible.specs.Least.{is-least}
-use Rattle.worked.specs.Orders.{A, B, C, D, needZero, overdue, twoOverfull, twoLate, onTop, chain, wraps, shared, ofMaker, nineJobs}
+use Rattle.worked.specs.Orders.{A, B, C, D, needZero, overdue, twoOverfull, twoLate, onTop, chain, wraps, shared, ofMaker, nineJobs, twoEarly}
 
 -- amounts by job, and for each job by stretch
 abbrev pub amountsOf : List (List ℕ) → ℕ → ℕ → ℕ
@@ -55,7 +71,9 @@ endingJobs o bound a s =
 -- a case: a least lateness; a reason at a bound with its minutes owed and on hand; a plan and whether it is right; the line of a reason,
 -- and a reason that does not stand; amounts with their layout and its joined rows; rows and the joined ones; amounts, a stretch and the
 -- job that each processor ends it with; what an order is refused with; its file; a booked call with the counts handed in, what its table
--- answers, and the counts given back; and the counts after booked calls from opening on
+-- answers, and the counts given back; the counts after booked calls from opening on; of an order with times the number of its changes and
+-- of the rows asked for, what is refused before 10 with a buffer of so many numbers, a plan that keeps the times and one that does not,
+-- amounts with their joined rows, and that there is no plan, by what each stretch's classes have at most
 pub data Case : Type 0 where
   leastIs : Order → ℤ → Case
   reasonIs : Order → ℤ → Reason → ℕ → ℤ → Case
@@ -70,6 +88,12 @@ pub data Case : Type 0 where
   fileIs : Order → List ℕ → Case
   bookIs : Booking → List ℕ → Verdict → List ℕ → Case
   booksAre : List Booking → List ℕ → Case
+  changesAre : Order → ℤ → Times → ℕ → ℕ → Case
+  timedRefusedIs : Order → ℤ → Times → ℕ → Verdict → Case
+  timedRightIs : Order → ℤ → Times → List Row → Case
+  timedWrongIs : Order → ℤ → Times → List Row → Case
+  timedLaidIs : Order → ℤ → Times → List (List ℕ) → List Row → Case
+  timedTightIs : Order → ℤ → Times → List ℕ → Case
 
 -- what a case says, in the words of the definitions
 abbrev pub Holds : Case → Type 0
@@ -89,6 +113,13 @@ Holds (refusedIs o number carried) = judge (orderRows limits o) ≡ refused numb
 Holds (fileIs o file) = (fileOf o ≡ file) × (orderIn file ≡ o)
 Holds (bookIs call counts verdict back) = (judgedWith (callOf call) counts ≡ verdict) × (givenBack (callOf call) counts ≡ back)
 Holds (booksAre calls counts) = bookOf calls ≡ counts
+Holds (changesAre o bound t count rows) = (changeCount o bound t ≡ count) × (timedRowsAsked o bound t ≡ rows)
+Holds (timedRefusedIs o bound t numbers verdict) = judge (earlierTimed o bound t numbers) ≡ verdict
+Holds (timedRightIs o bound t rows) = RightTimed 1 o bound t rows
+Holds (timedWrongIs o bound t rows) = ¬ RightTimed 1 o bound t rows
+Holds (timedLaidIs o bound t amounts plan) =
+    (joined (layoutIn o (timedFrame o bound t) (amountsOf amounts)) ≡ plan) × RightTimed 1 o bound t plan
+Holds (timedTightIs o bound t cut) = (p : ℕ) → 1 ≤ p → (rows : List Row) → ¬ RightTimed p o bound t rows
 
 -- a row: job, processor, from, to; and a row of job 1 on processor 1
 abbrev row : ℕ → ℕ → ℕ → ℕ → Row
@@ -100,6 +131,15 @@ piece from to = row 1 1 from to
 -- sixteen numbers: those given, and 0 beyond
 abbrev sixteen : List ℕ → List ℕ
 sixteen xs = padded 16 xs
+
+-- ready minutes by job, and windows by processor
+abbrev times : List ℕ → List (ℕ × ℕ) → Times
+times ready windows =
+    record {
+      ready = λ j. nth ready j 0;
+      opens = λ i. nth windows i (0, 0) .0;
+      closes = λ i. nth windows i (0, 0) .1;
+    }
 
 -- minus 8 is -8
 abbrev minus : ℕ → ℤ
@@ -175,6 +215,42 @@ cases =
     -- two makers, over calls of which some are refused
     ∷ booksAre [] (sixteen [])
     ∷ booksAre (atLeast shared 32 ∷ atBound C (minus 9) 4 ∷ atBound shared (pos 0) 32 ∷ atLeast C 3 ∷ []) (sixteen (6 ∷ 10 ∷ []))
+    -- document 02, §5: ready at minute 5, and a window too short and just long enough
+    ∷ changesAre C (minus 4) (times (5 ∷ []) ((0, 100) ∷ [])) 4 4
+    ∷ timedTightIs C (minus 4) (times (5 ∷ []) ((0, 100) ∷ [])) (0 ∷ 0 ∷ 0 ∷ 0 ∷ [])
+    ∷ changesAre C (minus 3) (times (5 ∷ []) ((0, 100) ∷ [])) 4 4
+    ∷ timedLaidIs C (minus 3) (times (5 ∷ []) ((0, 100) ∷ [])) ((0 ∷ 0 ∷ 3 ∷ 0 ∷ []) ∷ []) (piece 5 8 ∷ [])
+    ∷ timedWrongIs C (minus 3) (times (5 ∷ []) ((0, 100) ∷ [])) (piece 4 7 ∷ [])
+    ∷ timedTightIs C (pos 0) (times (0 ∷ []) ((4, 6) ∷ [])) (1 ∷ 1 ∷ 1 ∷ 1 ∷ [])
+    ∷ timedTightIs C (pos 10000000) (times (0 ∷ []) ((4, 6) ∷ [])) (1 ∷ 1 ∷ 1 ∷ 1 ∷ [])
+    ∷ changesAre C (minus 4) (times (0 ∷ []) ((4, 7) ∷ [])) 3 3
+    ∷ timedLaidIs C (minus 4) (times (0 ∷ []) ((4, 7) ∷ [])) ((0 ∷ 0 ∷ 3 ∷ []) ∷ []) (piece 4 7 ∷ [])
+    ∷ timedWrongIs C (pos 0) (times (0 ∷ []) ((4, 7) ∷ [])) (piece 5 8 ∷ [])
+    -- ready after its end
+    ∷ timedTightIs C (minus 4) (times (8 ∷ []) ((0, 100) ∷ [])) (0 ∷ 0 ∷ 0 ∷ 0 ∷ [])
+    -- windows that touch
+    ∷ timedRightIs D (minus 2) (times (0 ∷ 0 ∷ 0 ∷ []) ((0, 2) ∷ (2, 9) ∷ [])) (row 1 1 0 1 ∷ row 2 1 1 2 ∷ row 3 2 2 3 ∷ [])
+    ∷ timedWrongIs D (minus 2) (times (0 ∷ 0 ∷ 0 ∷ []) ((0, 2) ∷ (2, 9) ∷ [])) (row 1 1 0 1 ∷ row 2 1 1 2 ∷ row 3 2 1 2 ∷ [])
+    ∷ timedWrongIs D (minus 2) (times (0 ∷ 0 ∷ 0 ∷ []) ((0, 2) ∷ (2, 9) ∷ [])) (row 1 1 0 1 ∷ row 2 1 1 2 ∷ row 3 1 2 3 ∷ [])
+    -- both, and rows joined over a stretch
+    ∷ changesAre A (pos 0) (times (0 ∷ 0 ∷ 1 ∷ []) ((0, 4) ∷ (1, 6) ∷ [])) 5 20
+    ∷ timedLaidIs A (pos 0) (times (0 ∷ 0 ∷ 1 ∷ []) ((0, 4) ∷ (1, 6) ∷ []))
+    ((0 ∷ 1 ∷ 2 ∷ 0 ∷ 0 ∷ []) ∷ (0 ∷ 0 ∷ 3 ∷ 0 ∷ 0 ∷ []) ∷ (0 ∷ 0 ∷ 1 ∷ 1 ∷ 0 ∷ []) ∷ [])
+    (row 1 1 0 3 ∷ row 2 1 3 4 ∷ row 2 2 1 3 ∷ row 3 2 3 5 ∷ [])
+    ∷ timedLaidIs onTop (pos 0) (times (0 ∷ 1 ∷ []) ((0, 9) ∷ (0, 9) ∷ []))
+    ((0 ∷ 1 ∷ 2 ∷ 1 ∷ 0 ∷ []) ∷ (0 ∷ 0 ∷ 2 ∷ 0 ∷ 0 ∷ []) ∷ [])
+    (row 1 1 0 4 ∷ row 2 2 1 3 ∷ [])
+    -- ends below 0 count, so a buffer of 4 rows is too short before the bound is too tight
+    ∷ changesAre twoEarly (minus 20) (times (0 ∷ 0 ∷ []) ((0, 7) ∷ [])) 4 8
+    ∷ timedRefusedIs twoEarly (minus 20) (times (0 ∷ 0 ∷ []) ((0, 7) ∷ [])) 16 (refused 9 0)
+    ∷ timedRefusedIs twoEarly (minus 20) (times (0 ∷ 0 ∷ []) ((0, 7) ∷ [])) 32 accepted
+    ∷ timedTightIs twoEarly (minus 20) (times (0 ∷ 0 ∷ []) ((0, 7) ∷ [])) (0 ∷ 0 ∷ 0 ∷ 0 ∷ [])
+    -- 15 and 16 stand after 7 and before 8, 15 first; a window of no length, and the last minute
+    ∷ timedRefusedIs D (pos 10000001) (times (0 ∷ 1000001 ∷ 0 ∷ []) ((0, 9) ∷ (7, 7) ∷ [])) 0 (refused 15 2)
+    ∷ timedRefusedIs D (pos 10000001) (times (0 ∷ 1000000 ∷ 0 ∷ []) ((0, 9) ∷ (7, 7) ∷ [])) 0 (refused 16 2)
+    ∷ timedRefusedIs D (pos 10000001) (times (0 ∷ 1000000 ∷ 0 ∷ []) ((0, 1000001) ∷ (7, 7) ∷ [])) 0 (refused 16 1)
+    ∷ timedRefusedIs D (pos 10000001) (times (0 ∷ 1000000 ∷ 0 ∷ []) ((0, 9) ∷ (7, 8) ∷ [])) 0 (refused 8 0)
+    ∷ timedRefusedIs D (pos 10000000) (times (0 ∷ 1000000 ∷ 0 ∷ []) ((0, 9) ∷ (7, 1000000) ∷ [])) 0 (refused 9 0)
     -- beyond document 01's: of two overfull staircases, the one that ranks first
     ∷ reasonIs twoOverfull (minus 1) (stairs (pos 4 ∷ pos 2 ∷ [])) 8 (pos 6)
     -- an empty row, and one that goes backwards, beside a right plan
@@ -209,6 +285,19 @@ data Value : Type 0 where
   file : List ℕ → Order → Value
   booked : Verdict → List ℕ → Value
   books : List ℕ → Value
+  changed : ℕ → ℕ → Value
+  timedLaid : List Row → Bool → Value
+
+-- whether the jobs must have more inside a cut of classes, one for each stretch, than there is room: each its time less what it can have
+-- outside, in the stretches whose class is below its own
+abbrev insideOf : Flow → (ℕ → ℕ) → ℕ
+insideOf flow cut =
+    sum (flow .n) (λ j. flow .time j - sum (flow .q) (λ s. only (ltb (cut s) (flow .class j)) (flow .cap j s)))
+
+abbrev overfullBy : Order → ℤ → Times → List ℕ → Bool
+overfullBy o bound t cut =
+    let flow = flowIn o (timedFrame o bound t) in
+    ltb (right flow (λ s. getD cut s 0)) (insideOf flow (λ s. getD cut s 0))
 
 -- its value as computed, and as the case states it
 abbrev computed : Case → Value
@@ -228,6 +317,13 @@ computed (refusedIs o number carried) = judged (judge (orderRows limits o))
 computed (fileIs o bytes) = file (fileOf o) (orderIn bytes)
 computed (bookIs call counts verdict back) = booked (judgedWith (callOf call) counts) (givenBack (callOf call) counts)
 computed (booksAre calls counts) = books (bookOf calls)
+computed (changesAre o bound t count rows) = changed (changeCount o bound t) (timedRowsAsked o bound t)
+computed (timedRefusedIs o bound t numbers verdict) = judged (judge (earlierTimed o bound t numbers))
+computed (timedRightIs o bound t rows) = checked (isRightTimed o bound t (numbersOf rows))
+computed (timedWrongIs o bound t rows) = checked (isRightTimed o bound t (numbersOf rows))
+computed (timedLaidIs o bound t amounts plan) =
+    timedLaid (joined (layoutIn o (timedFrame o bound t) (amountsOf amounts))) (isRightTimed o bound t (numbersOf plan))
+computed (timedTightIs o bound t cut) = checked (overfullBy o bound t cut)
 
 abbrev stated : Case → Value
 stated (leastIs o least) = leastOf accepted least
@@ -243,6 +339,12 @@ stated (refusedIs o number carried) = judged (refused number carried)
 stated (fileIs o bytes) = file bytes o
 stated (bookIs call counts verdict back) = booked verdict back
 stated (booksAre calls counts) = books counts
+stated (changesAre o bound t count rows) = changed count rows
+stated (timedRefusedIs o bound t numbers verdict) = judged verdict
+stated (timedRightIs o bound t rows) = checked true
+stated (timedWrongIs o bound t rows) = checked false
+stated (timedLaidIs o bound t amounts plan) = timedLaid plan true
+stated (timedTightIs o bound t cut) = checked true
 
 right-rows : (o : Order) (bound : ℤ) (rows : List Row) → isRight o bound (numbersOf rows) ≡ true → Right o bound rows
 right-rows o bound rows e =
@@ -253,6 +355,39 @@ right-rows o bound rows e =
 
 rows-right : (o : Order) (bound : ℤ) (rows : List Row) → Right o bound rows → isRight o bound (numbersOf rows) ≡ true
 rows-right o bound rows r = isRight-iff o bound (numbersOf rows) .1 (record { rows = rows; are = refl; right = r })
+
+timed-rows : (o : Order) (bound : ℤ) (t : Times) (rows : List Row) → isRightTimed o bound t (numbersOf rows) ≡ true →
+    RightTimed 1 o bound t rows
+timed-rows o bound t rows e =
+    let h = timed-yes o bound t (numbersOf rows) .0 e in
+    let same : h .rows ≡ rows
+    = sym (rows-of-numbers (h .rows)) ∙ ap rowsOf (sym (h .are)) ∙ rows-of-numbers rows in
+    subst (RightTimed 1 o bound t) same (h .right)
+
+rows-timed : (o : Order) (bound : ℤ) (t : Times) (rows : List Row) → RightTimed 1 o bound t rows →
+    isRightTimed o bound t (numbersOf rows) ≡ true
+rows-timed o bound t rows r = timed-yes o bound t (numbersOf rows) .1 (record { rows = rows; are = refl; right = r })
+
+gate-test : (a b v : ℕ) → gate a b v ≡ only (ltb a b) v
+gate-test a b v =
+    elim (decLt a b) [
+      | yes h ↦ gate-in a b v h ∙ sym (ap (λ (x : Bool). only x v) (lt-ltb a b h))
+      | no h ↦ gate-out a b v (omega arith) ∙ sym (ap (λ (x : Bool). only x v) (le-ltb a b (omega arith)))
+    ]
+
+inside-is : (flow : Flow) (cut : ℕ → ℕ) → left flow cut ≡ insideOf flow cut
+unfolding left covered
+inside-is flow cut =
+    sum-cong (flow .n) _ _ (λ j l.
+    ap (λ (x : ℕ). flow .time j - x) (sum-cong (flow .q) _ _ (λ s b. gate-test (cut s) (flow .class j) (flow .cap j s))))
+
+-- what the jobs must have inside a cut exceeds the room there: so no rows are right, in any parts
+cut-tight : (o : Order) (bound : ℤ) (t : Times) (cut : List ℕ) → overfullBy o bound t cut ≡ true →
+    (p : ℕ) → 1 ≤ p → (rows : List Row) → ¬ RightTimed p o bound t rows
+cut-tight o bound t cut e p parts rows R =
+    let f = timedFrame o bound t in
+    feasible-no-cut (plan-amounts-in o f (timed-framed o bound t) (timed-in p o bound t _ _ rows R) parts) (λ s. getD cut s 0)
+    (rw (inside-is (flowIn o f) (λ s. getD cut s 0)) (ltb-true _ _ e))
 
 -- a case whose value is computed as stated holds
 case-holds : (c : Case) → computed c ≡ stated c → Holds c
@@ -281,6 +416,14 @@ case-holds (refusedIs o number carried) e = cc
 case-holds (fileIs o bytes) e = (cc, cc)
 case-holds (bookIs call counts verdict back) e = (cc, cc)
 case-holds (booksAre calls counts) e = cc
+case-holds (changesAre o bound t count rows) e = (cc, cc)
+case-holds (timedRefusedIs o bound t numbers verdict) e = cc
+case-holds (timedRightIs o bound t rows) e = timed-rows o bound t rows cc
+case-holds (timedWrongIs o bound t rows) e =
+    let no-plan : isRightTimed o bound t (numbersOf rows) ≡ false = cc in
+    λ r. true≢false (sym (rows-timed o bound t rows r) ∙ no-plan)
+case-holds (timedLaidIs o bound t amounts plan) e = (cc, timed-rows o bound t plan cc)
+case-holds (timedTightIs o bound t cut) e = cut-tight o bound t cut cc
 
 all-hold : (cs : List Case) → map computed cs ≡ map stated cs → All Holds cs
 all-hold [] e = tt
@@ -295,7 +438,8 @@ unfolding sum endAt endOf insert distinct dueTimes classes lastThatSuffices clas
     weightAt weightFrom largest heaviest most leastReach leastLateness keep jobsOverEnd overfullStairs reasonsAt isOneOf sameList
     classesFrom lineOf composed readBack digitsWithin decimal signedDecimal placeByKey byFalling processorOrder jobOrder ends mark
     fill sharesOf stretchRows rowsUpTo layout jobWhere joinRow joinRows processorBytes jobBytes fileOf orderIn minutesBy added someOver
-    bookAfter leastRows earlierRows planRows
+    bookAfter leastRows earlierRows planRows changes changeTimes markAt askedRows earlierTimed isRightTimed lies openOrder openTo
+    stretchRowsIn inTurn layoutIn deadlineOf right
 all-computed = refl
 
 -- every case holds

@@ -67,3 +67,7 @@ nineJobs due =
     order (4 ∷ [])
     (job 1 (pos 1) 5 ∷ job 1 (pos 1) 4 ∷ job 1 (pos 1) 4 ∷ job 1 (pos 1) 4 ∷ job 1 (pos 1) 4 ∷ job 1 (pos 1) 4 ∷ job 1 (pos 1) 4
     ∷ job 1 (pos 1) 4 ∷ jobOfMaker 17 1 due 4 ∷ [])
+
+-- document 02, §5: two jobs due at 10 and 11 on one processor; at -20 both ends are below 0
+abbrev pub twoEarly : Order
+twoEarly = order (4 ∷ []) (job 3 (pos 10) 4 ∷ job 3 (pos 11) 4 ∷ [])
