@@ -3,7 +3,7 @@
 Document 01, "Errors that a planner of this kind invites", names many of these;
 document 02's sentences of the reason give those of its lines, those of fewer
 hand-overs those of joined rows, those of the due minute those of ends; makers and
-the book stand in broken_makers.py.
+the book stand in broken_makers.py, ready minutes and windows in broken_timed.py.
 Each variant replaces one name of one module while one test runs.
 
     broken.py          runs all variants; exits 1 if one of them is not caught
@@ -19,6 +19,7 @@ from collections import namedtuple
 
 import answers
 import broken_makers
+import broken_timed
 import flow
 import join
 import judge
@@ -904,8 +905,9 @@ ENDS = [
 ]
 
 MAKERS = [Variant(*variant) for variant in broken_makers.VARIANTS]
+TIMED = [Variant(*variant) for variant in broken_timed.VARIANTS]
 VARIANTS = (LATENESS + REASONS + REFUSALS + PLANS + LAYOUTS + JOININGS + SEARCHES
-            + FILES + SENTENCES + ENDS + MAKERS)
+            + FILES + SENTENCES + ENDS + MAKERS + TIMED)
 
 
 def caught(variant):

@@ -3,10 +3,13 @@
 Document 01: "compared with a plain search over small orders". The orders have
 equal memories, equal jobs, ties in need, needs of 0 and of 4,294,967,295,
 negative due times and due times that are all equal. Document 02, §4: "Each job
-gains a maker number, 1 to 16": they have jobs of one maker and of several.
+gains a maker number, 1 to 16": they have jobs of one maker and of several. §5: "a
+ready minute [..] for each job and one window [..] for each processor": times of small
+orders, many of them equal, windows that touch and windows that are long.
 """
 
 import orders
+import timed
 
 MEMORIES = ((4,), (0,), (4294967295,), (4, 8), (0, 4294967295), (1, 2, 3),
             (0, 1, 4294967295), (2, 4, 8), (4294967294, 4294967295))
@@ -120,3 +123,29 @@ def wide(draw, m, n, time_most, due_most):
     jobs = [(draw.between(1, time_most), draw.between(-due_most, due_most),
              draw.between(0, max(memories))) for _ in range(n)]
     return by_makers(draw, memories, jobs)
+
+
+def window(draw, last):
+    """A window of minutes up to about this one."""
+    opening = draw.one_of((0, 0, 1, 2, draw.below(last)))
+    length = draw.one_of((1, 2, 3, last, draw.between(1, last), 1000000 - opening))
+    return opening, opening + length
+
+
+def times(draw, order, last=8):
+    """Ready minutes and windows in which something changes up to about this minute."""
+    latest = draw.one_of((0, 1, 2, last // 2, last))
+    windows = [window(draw, last) for _ in order.memories]
+    form = draw.below(6)
+    if form == 0:
+        windows = windows[:1] * order.m
+    elif form == 1:
+        middle = draw.between(1, last)
+        windows = [draw.one_of(((0, middle), (middle, 2 * last))) for _ in windows]
+    return timed.times([draw.between(0, latest) for _ in order.jobs], windows)
+
+
+def wide_open(order):
+    """Every job is ready at minute 0, every window as long as may be."""
+    return timed.times([0] * len(order.jobs[:orders.JOBS_MOST]),
+                       [(0, 1000000)] * len(order.memories[:orders.PROCESSORS_MOST]))

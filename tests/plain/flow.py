@@ -11,9 +11,14 @@ fits and its minutes may move on to a larger memory. A plan exists exactly when
 all minutes of all jobs arrive.
 """
 
+from collections import namedtuple
+
 import orders
 
 NO_LIMIT = 1 << 60
+
+# A stretch of time and the memories of the processors on hand in it.
+Stretch = namedtuple("Stretch", "begin end memories")
 
 
 class Network:
@@ -76,37 +81,40 @@ def stretch_ends(order, bound, parts):
                    if orders.end(job, bound) > 0})
 
 
-def build(order, bound, parts):
-    """The network, and its edges from job to stretch as {(job, stretch): edge}."""
+def stretches(order, bound, parts):
+    """The stretches up to the last end; every processor is on hand in each."""
     cuts = stretch_ends(order, bound, parts)
-    ranked = sorted(order.memories, reverse=True)
-    network = Network(2 + order.n + len(cuts) * order.m)
+    return [Stretch(begin, end, order.memories)
+            for begin, end in zip([0] + cuts, cuts)]
+
+
+def build(order, stretches, may_run, parts):
+    """The network, and its edges from job to stretch as {(job, stretch): edge};
+    `may_run` says whether a job (from 0) may get minutes of a stretch."""
+    network = Network(2 + order.n + len(stretches) * order.m)
     source, sink = 0, 1
     shares = {}
     for job, one in enumerate(order.jobs):
         network.add(source, 2 + job, parts * one.time)
-        last = sum(memory >= one.need for memory in ranked) - 1
-        begin = 0
-        for stretch, cut in enumerate(cuts):
-            if last >= 0 and cut <= orders.end(one, bound, parts):
-                node = 2 + order.n + stretch * order.m + last
-                shares[job, stretch] = network.add(2 + job, node, cut - begin)
-            begin = cut
-    begin = 0
-    for stretch, cut in enumerate(cuts):
-        for rank in range(order.m):
-            node = 2 + order.n + stretch * order.m + rank
-            network.add(node, sink, cut - begin)
+        for place, stretch in enumerate(stretches):
+            fit = [memory for memory in stretch.memories if memory >= one.need]
+            if fit and may_run(job, stretch):
+                node = 2 + order.n + place * order.m + len(fit) - 1
+                shares[job, place] = network.add(
+                    2 + job, node, stretch.end - stretch.begin)
+    for place, stretch in enumerate(stretches):
+        for rank in range(len(stretch.memories)):
+            node = 2 + order.n + place * order.m + rank
+            network.add(node, sink, stretch.end - stretch.begin)
             if rank:
                 network.add(node, node - 1, NO_LIMIT)
-        begin = cut
     return network, shares
 
 
-def amounts(order, bound, parts=1):
+def arriving(order, stretches, may_run, parts):
     """What each job gets in each stretch, as {(job, stretch): amount} with both
-    from 0 and no amount of 0; None if no right plan meets the bound."""
-    network, shares = build(order, bound, parts)
+    from 0 and no amount of 0; None if not all minutes of all jobs arrive."""
+    network, shares = build(order, stretches, may_run, parts)
     if network.most(0, 1) != parts * sum(job.time for job in order.jobs):
         return None
     given = {}
@@ -115,6 +123,14 @@ def amounts(order, bound, parts=1):
         if amount:
             given[key] = amount
     return given
+
+
+def amounts(order, bound, parts=1):
+    """What each job gets in each stretch; None if no right plan meets the bound."""
+    return arriving(
+        order, stretches(order, bound, parts),
+        lambda job, stretch: stretch.end <= orders.end(order.jobs[job], bound, parts),
+        parts)
 
 
 def meets(order, bound, parts=1):

@@ -33,9 +33,8 @@ def parts(row, stretches):
     return [part for part in cut if part[1] < part[2]]
 
 
-def own_amounts(order, bound, rows):
-    """What the plan's own rows give each job in each stretch."""
-    stretches = wrap.stretches(order, bound)
+def amounts_in(stretches, rows):
+    """What rows give each job in each of these stretches."""
     amounts = {}
     for row in rows:
         for place, begin, to in parts(row, stretches):
@@ -44,10 +43,14 @@ def own_amounts(order, bound, rows):
     return amounts
 
 
-def row_order(order, bound, rows):
+def own_amounts(order, bound, rows):
+    """What the plan's own rows give each job in each stretch."""
+    return amounts_in(wrap.stretches(order, bound), rows)
+
+
+def in_place(order, stretches, rows):
     # "Rows stand by stretch, then by that processor order, then by `from`." "A
     # joined row stands where its earliest part stood."
-    stretches = wrap.stretches(order, bound)
     rank = {number: place
             for place, number in enumerate(wrap.processor_order(order))}
     keys = [(begins_in(row, stretches), rank[row[1]], row[2]) for row in rows]
@@ -55,6 +58,10 @@ def row_order(order, bound, rows):
         if one >= next_one:
             return f"row {number + 1} stands in a wrong place"
     return None
+
+
+def row_order(order, bound, rows):
+    return in_place(order, wrap.stretches(order, bound), rows)
 
 
 def nothing_to_join(order, bound, rows):
@@ -65,9 +72,8 @@ def nothing_to_join(order, bound, rows):
     return None
 
 
-def laid_and_joined(order, bound, rows):
+def as_wanted(rows, wanted):
     """Row by row, "the rows written are their layout", joined."""
-    wanted = join.plan(order, bound, own_amounts(order, bound, rows))
     for number, (row, other) in enumerate(zip(rows, wanted), 1):
         if tuple(row) != other:
             return (f"row {number}: {' '.join(map(str, row))} is not the wrap's "
@@ -75,6 +81,10 @@ def laid_and_joined(order, bound, rows):
     if len(rows) != len(wanted):
         return f"{len(rows)} rows, but the wrap, joined, has {len(wanted)}"
     return None
+
+
+def laid_and_joined(order, bound, rows):
+    return as_wanted(rows, join.plan(order, bound, own_amounts(order, bound, rows)))
 
 
 def broken(order, bound, rows, count):

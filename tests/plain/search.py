@@ -16,12 +16,15 @@ import itertools
 import orders
 
 
-def runs_together(order):
+def runs_together(order, on_hand=None):
     """Every set of jobs that can run in one minute, each as a dict from job to
-    processor (both from 0), larger sets first."""
+    processor (both from 0), larger sets first. `on_hand` are the processors that
+    are on hand, all where none are named."""
+    if on_hand is None:
+        on_hand = range(order.m)
     found = {}
-    for picks in itertools.product([None, *range(order.n)], repeat=order.m):
-        run = {job: processor for processor, job in enumerate(picks)
+    for picks in itertools.product([None, *range(order.n)], repeat=len(on_hand)):
+        run = {job: processor for processor, job in zip(on_hand, picks)
                if job is not None}
         busy = sum(job is not None for job in picks)
         if len(run) == busy and all(
@@ -31,19 +34,20 @@ def runs_together(order):
     return sorted(found.values(), key=len, reverse=True)
 
 
-def from_minute(minute, left, ends, runs, dead):
+def from_minute(minute, left, ends, runs_in, dead):
     """Rows from this minute on that give each job what is left of its time, or
-    None if there are none. `dead` holds the states known to have none."""
+    None if there are none. `runs_in` gives the sets that can run in a minute;
+    `dead` holds the states known to have none."""
     if not any(left):
         return []
     if (minute, left) in dead:
         return None
     if all(not rest or rest <= end - minute for rest, end in zip(left, ends)):
-        for run in runs:
+        for run in runs_in(minute):
             if all(left[job] for job in run):
                 after = tuple(rest - (job in run)
                               for job, rest in enumerate(left))
-                rows = from_minute(minute + 1, after, ends, runs, dead)
+                rows = from_minute(minute + 1, after, ends, runs_in, dead)
                 if rows is not None:
                     return [(job + 1, processor + 1, minute, minute + 1)
                             for job, processor in run.items()] + rows
@@ -51,12 +55,18 @@ def from_minute(minute, left, ends, runs, dead):
     return None
 
 
-def plan(order, bound, parts=1):
-    """A right plan in so many parts a minute, or None if there is none. Each
-    row is one part long."""
+def plan_of(order, bound, parts, runs_in):
+    """A right plan of the sets that `runs_in` gives for each part of a minute, or
+    None if there is none. Each row is one part long."""
     ends = [orders.end(job, bound, parts) for job in order.jobs]
     times = tuple(parts * job.time for job in order.jobs)
-    return from_minute(0, times, ends, runs_together(order), set())
+    return from_minute(0, times, ends, runs_in, set())
+
+
+def plan(order, bound, parts=1):
+    """A right plan in so many parts a minute, or None if there is none."""
+    runs = runs_together(order)
+    return plan_of(order, bound, parts, lambda minute: runs)
 
 
 def meets(order, bound, parts=1):

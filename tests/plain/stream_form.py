@@ -12,6 +12,9 @@ A stream is a sequence of records; every number takes 4 bytes, little-endian
     6  compose  ORDER, bound, REASON, room (bytes of the lent buffer)
     7  parse    ORDER, bound, F, then the F bytes of a line
     8  book     BOOK, K (from 1), then K calls
+    9  asked    ORDER, bound, TIMES
+    10 timed    ORDER, bound, TIMES, room (numbers)
+    11 watch    ORDER, bound, TIMES, R, then R numbers (the lent rows)
 
 ORDER is m, n, then min(m, 16) memories, then min(n, 48) jobs as time, due, need,
 maker. A count beyond its array stands for the list of that many: the given ones,
@@ -26,15 +29,22 @@ BOOK is sixteen numbers, the counts of makers 1 to 16. A call is which (1 least
 lateness, 2 planning at a bound), ORDER, bound (not looked at by the least
 lateness), room (numbers). Document 02, §4: "each call being given the book that
 the last one gave back"; the first is given BOOK.
+
+TIMES is min(n, 48) ready minutes, then min(m, 16) windows, each its opening and its
+closing. Document 02, §5: "a ready minute [..] for each job and one window, opening
+to closing minute in the same range, for each processor"; they are unsigned.
 """
 
 import struct
 from collections import namedtuple
 
 import orders
+import timed
 
 KINDS = {"read": 1, "check": 2, "least": 3, "plan": 4, "write": 5, "compose": 6,
-         "parse": 7, "book": 8}
+         "parse": 7, "book": 8, "asked": 9, "timed": 10, "watch": 11}
+# The kinds that are given times.
+TIMED = ("asked", "timed", "watch")
 # One for each class that there can be.
 DUES = orders.PROCESSORS_MOST
 # One count for each maker.
@@ -61,6 +71,20 @@ def pack_order(order):
     return words(order.m, order.n, *memories, *(x for job in jobs for x in job))
 
 
+def pack_times(order, given):
+    assert len(given.ready) == min(order.n, orders.JOBS_MOST)
+    assert len(given.windows) == min(order.m, orders.PROCESSORS_MOST)
+    return words(*given.ready, *(x for window in given.windows for x in window))
+
+
+def pack_timed(order, bound, given, *rest):
+    """What a record with times has behind its kind. The rest is nothing, a room or
+    the lent rows."""
+    if rest and not isinstance(rest[0], int):
+        rest = len(rest[0]), *rest[0]
+    return pack_order(order) + words(bound) + pack_times(order, given) + words(*rest)
+
+
 def pack_call(call):
     assert call.which in (LEAST, PLAN)
     return (words(call.which) + pack_order(call.order)
@@ -78,6 +102,8 @@ def pack(record):
         assert len(book) == COUNTS and calls
         return (head + words(*book, len(calls))
                 + b"".join(pack_call(call) for call in calls))
+    if record.kind in TIMED:
+        return head + pack_timed(*record.values)
     order, *numbers = record.values
     if record.kind == "check":
         bound, rows = numbers
@@ -122,6 +148,21 @@ class Source:
     def call(self):
         return Call(self.word(), self.order(), self.signed(), self.word())
 
+    def times(self, order):
+        ready = [self.word() for _ in order.jobs]
+        return timed.times(ready, [(self.word(), self.word())
+                                   for _ in order.memories])
+
+    def rows(self):
+        return [self.word() for _ in range(self.word())]
+
+    def timed(self, kind):
+        order, bound = self.order(), self.signed()
+        given = self.times(order)
+        rest = {"asked": lambda: (), "timed": lambda: (self.word(),),
+                "watch": lambda: (self.rows(),)}
+        return order, bound, given, *rest[kind]()
+
     def data_of_length(self):
         length = self.word()
         self.at += length
@@ -133,10 +174,11 @@ class Source:
         if kind == "book":
             book = tuple(self.word() for _ in range(COUNTS))
             return book, tuple(self.call() for _ in range(self.word()))
+        if kind in TIMED:
+            return self.timed(kind)
         order = self.order()
         if kind == "check":
-            bound, count = self.signed(), self.word()
-            return order, bound, [self.word() for _ in range(count)]
+            return order, self.signed(), self.rows()
         if kind == "plan":
             return order, self.signed(), self.word()
         if kind == "compose":

@@ -1,29 +1,38 @@
 """The stored streams: their form, and their tiny cases by search over all plans."""
 
+import functools
 import unittest
 
 import cases
 import orders
 import search
 import stream_form
+import timed
+import timed_search
 
 BOUNDS_NEAR = 60
 
 
+def lines_told(record, first):
+    """How many lines a case tells, by its first line."""
+    if first.startswith("order "):
+        return 1 + sum(map(int, first.split()[1:]))
+    if record.kind == "book":
+        return 2 * len(record.values[1])
+    return 2 if record.kind == "timed" and first == "meets" else 1
+
+
+@functools.cache
 def stored():
     """The records of the stored stream with the expected lines of each."""
     data = cases.STORED["stdin"].read_bytes()
     lines = cases.STORED["stdout"].read_text().splitlines()
-    told = []
+    told, at = [], 0
     for record in stream_form.unpack(data):
-        count = 1
-        if lines[0].startswith("order "):
-            count += sum(map(int, lines[0].split()[1:]))
-        elif record.kind == "book":
-            count = 2 * len(record.values[1])
-        told.append((record, lines[:count]))
-        lines = lines[count:]
-    assert not lines
+        count = lines_told(record, lines[at])
+        told.append((record, lines[at:at + count]))
+        at += count
+    assert at == len(lines)
     return told
 
 
@@ -78,6 +87,28 @@ class Form(unittest.TestCase):
             "08000000 10000000 feffffff 04000000 02000000 00000000 00000000 05000000 "
             "00000000"))
 
+    def test_times_by_hand(self):
+        order = orders.order([8, 4], [(3, -1, 8, 16)])
+        given = timed.times([7], [(1, 2), (3, 4294967295)])
+        begin = ("02000000 01000000 08000000 04000000 03000000 ffffffff 08000000 "
+                 "10000000 feffffff 07000000 01000000 02000000 03000000 ffffffff")
+        for kind, rest, wanted in (
+                ("asked", (), "09000000 " + begin),
+                ("timed", (12,), "0a000000 " + begin + " 0c000000"),
+                ("watch", ([],), "0b000000 " + begin + " 00000000"),
+                ("watch", ([5, 6],), "0b000000 " + begin
+                 + " 02000000 05000000 06000000")):
+            record = stream_form.Record(kind, (order, -2, given, *rest))
+            data = stream_form.pack(record)
+            self.assertEqual(data.hex(" ", 4), wanted)
+            self.assertEqual(stream_form.unpack(data + bytes(4)), [record])
+
+    def test_times_beyond_the_arrays(self):
+        many = orders.order([4] * 17, [(1, 1, 1)] * 49, 17, 49)
+        given = timed.times(range(48), [(place, 99) for place in range(16)])
+        data = stream_form.pack(stream_form.Record("asked", (many, 0, given)))
+        self.assertEqual(len(data), 4 * (3 + 16 + 4 * 48 + 1 + 48 + 2 * 16))
+
     def test_sizes(self):
         data = cases.STORED["stdin"].read_bytes()
         self.assertLess(len(data), cases.BYTES_MOST)
@@ -98,7 +129,9 @@ class Stored(unittest.TestCase):
             "read": {*of_order, 12}, "check": {*of_order, 8, 11},
             "write": {*of_order, 9}, "least": {*of_order, 9},
             "plan": {*of_order, 8, 9}, "compose": {*of_order, 8, 9},
-            "parse": {*of_order, 8}, "book": {*of_order, 8, 9, 14}})
+            "parse": {*of_order, 8}, "book": {*of_order, 8, 9, 14},
+            "asked": {*of_order, 8, 15, 16}, "timed": {*of_order, 8, 9, 15, 16},
+            "watch": {*of_order, 8, 11, 15, 16}})
 
     def test_a_file_of_over_844_bytes(self):
         lengths = {len(record.values[0]) for record, _ in stored()
@@ -123,6 +156,27 @@ class Stored(unittest.TestCase):
                 continue
             seen[record.kind] += 1
         self.assertGreater(min(seen.values()), 400)
+
+    def test_tiny_cases_with_times_by_search(self):
+        told = {"meets": 0, "tight": 0}
+        for record, lines in stored():
+            if (record.kind == "timed" and lines[0] in told
+                    and small(record.values[0])
+                    and abs(record.values[1]) < BOUNDS_NEAR):
+                order, bound, given, _ = record.values
+                self.assertEqual(timed_search.meets(order, bound, given),
+                                 lines[0] == "meets", (order, bound, given))
+                self.assertEqual(lines[1:], ["yes"] * (lines[0] == "meets"))
+                told[lines[0]] += 1
+        self.assertGreater(min(told.values()), 400)
+
+    def test_checks_with_times(self):
+        told = {kind: [lines[0] for record, lines in stored() if record.kind == kind]
+                for kind in ("watch", "timed")}
+        for answer in ("yes", "no"):
+            self.assertGreater(told["watch"].count(answer), 400)
+        self.assertEqual(told["watch"].count("refused 11 0"), 1)
+        self.assertGreater(told["timed"].count("refused 9 0"), 100)
 
     def test_round_trip(self):
         for record, lines in stored():
@@ -191,6 +245,12 @@ class Stored(unittest.TestCase):
                     self.assertGreaterEqual(call.room, 0)
             elif record.kind == "check":
                 self.assertLessEqual(len(record.values[2]), 12104)
+            elif record.kind == "watch":
+                self.assertLessEqual(len(record.values[3]), 32264)
+            elif record.kind == "timed":
+                self.assertTrue(0 <= record.values[3] <= 32264)
+            elif record.kind == "asked":
+                continue
             else:
                 self.assertLessEqual(record.values[-1], 12104)
                 self.assertGreaterEqual(record.values[-1], 0)

@@ -29,10 +29,12 @@ def job_order(order):
                   key=lambda number: (-order.jobs[number - 1].need, number))
 
 
-def layout(order, begin, end, given):
-    """The rows of one stretch; `given` is {job number: amount}. Runs over the
-    last processor where the amounts exceed the stretch (IndexError)."""
-    processors = processor_order(order)
+def layout(order, begin, end, given, processors=None):
+    """The rows of one stretch; `given` is {job number: amount}, `processors` are
+    filled in their order, all where none are named. Runs over the last processor
+    where the amounts exceed the stretch (IndexError)."""
+    if processors is None:
+        processors = processor_order(order)
     rows, place, minute = [], 0, begin
     for job in job_order(order):
         amount = given.get(job, 0)
@@ -46,14 +48,15 @@ def layout(order, begin, end, given):
     return rows
 
 
+def given_in(stretch, amounts):
+    """The amounts of one stretch by job number; `amounts` as the flow gives them."""
+    return {job + 1: amount for (job, at), amount in amounts.items() if at == stretch}
+
+
 def by_stretch(order, bound, amounts):
     """The rows of each stretch; `amounts` as the flow gives them."""
-    rows = []
-    for stretch, (begin, end) in enumerate(stretches(order, bound)):
-        given = {job + 1: amount for (job, at), amount in amounts.items()
-                 if at == stretch}
-        rows.append(layout(order, begin, end, given))
-    return rows
+    return [layout(order, begin, end, given_in(stretch, amounts))
+            for stretch, (begin, end) in enumerate(stretches(order, bound))]
 
 
 def plan(order, bound, amounts):

@@ -3,7 +3,8 @@
 mod books; // booked calls, one after the other
 mod print; // words, numbers and answers on standard output
 mod sentences; // the cases of a reason's line, composed and read back
-mod stream; // numbers, orders, reasons, books and files of the stream
+mod stream; // numbers, orders, reasons, books, times and files of the stream
+mod timing; // the cases with ready minutes and windows
 
 use libc::STDOUT_FILENO;
 use order::Acceptance;
@@ -61,7 +62,12 @@ fn check_case() {
     let bound = order_file::bytes::to_signed(stream::number());
     let mut rows = [0u32; 12104];
     let n = stream::numbers(&mut rows);
-    match plan::check::check_plan(order, bound, &rows[..n]) {
+    print_checked(plan::check::check_plan(order, bound, &rows[..n]));
+}
+
+// The line of a check.
+fn print_checked(checked: Checked) {
+    match checked {
         Checked::Yes => print::text(b"yes\n"),
         Checked::No => print::text(b"no\n"),
         Checked::Refused(refusal) => print::refused(refusal),
@@ -156,6 +162,9 @@ fn main() {
             6 => sentences::compose_case(),
             7 => sentences::parse_case(),
             8 => books::book_case(),
+            9 => timing::asked_case(),
+            10 => timing::timed_case(),
+            11 => timing::watch_case(),
             _ => return,
         }
     }

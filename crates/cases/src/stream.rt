@@ -1,10 +1,11 @@
-// What the stream of cases holds: numbers of four bytes, orders, reasons, books, files, rows. At its end every number reads 0.
+// What the stream of cases holds: numbers of four bytes, orders, reasons, books, times, files, rows. At its end every number reads 0.
 use book::Book;
 use libc::STDIN_FILENO;
 use order::Order;
 use reason::Reason;
 use reason::Tightness;
 use reason::Why;
+use timed::Times;
 ghost use Prim.Native.Nat.{_≤_};
 ghost use lib.ListN.{length};
 
@@ -89,6 +90,32 @@ pub fn book() -> Book {
         counts[i] = number();
     }
     Book { counts }
+}
+
+// The ready minutes of so many jobs.
+fn ready_minutes(jobs: u32) -> [u32; 48] {
+    let mut out = [0u32; 48];
+    for j in 0..48usize {
+        out[j] = number_if((j as u32) < jobs);
+    }
+    out
+}
+
+// Ready minutes of so many jobs, and windows of so many processors.
+pub fn times(jobs: u32, processors: u32) -> Times {
+    let ready = ready_minutes(jobs);
+    let mut opens = [0u32; 16];
+    let mut closes = [0u32; 16];
+    for i in 0..16usize {
+        let wanted = (i as u32) < processors;
+        opens[i] = number_if(wanted);
+        closes[i] = number_if(wanted);
+    }
+    Times {
+        ready,
+        opens,
+        closes,
+    }
 }
 
 // The due times of a reason.

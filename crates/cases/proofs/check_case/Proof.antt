@@ -8,8 +8,6 @@ use Rattle.cases.proofs.check_case.Lts as lts
 use Rattle.cases.proofs.stream.number.Reads as number-reads
 use Rattle.cases.proofs.stream.numbers.Reads as numbers-reads
 use Rattle.cases.proofs.stream.order.Reads as order-reads
-use Rattle.cases.proofs.print.refused.Reads as refused-reads
-use Rattle.cases.proofs.print.text.Reads as text-reads
 use Rattle.order_file.proofs.bytes.to_signed.Reads as to-signed-reads
 use Rattle.plan.proofs.check.check_plan.Reads as check-plan-reads
 
@@ -37,38 +35,11 @@ slice-aggregate-check-plan c = simp length-take (omega arith)
 check-plan-requires : tie.Need-check-plan-requires
 check-plan-requires c κs = search needs
 
-enum-told : tie.Need-enum-told
-enum-told c = search needs
-
-slice-aggregate-text : tie.Need-slice-aggregate-text
-slice-aggregate-text c = search needs
-
-text-requires : tie.Need-text-requires
-text-requires c κs = search needs
-
-enum-told-2 : tie.Need-enum-told-2
-enum-told-2 c = search needs
-
-slice-aggregate-text-2 : tie.Need-slice-aggregate-text-2
-slice-aggregate-text-2 c = search needs
-
-text-requires-2 : tie.Need-text-requires-2
-text-requires-2 c κs = search needs
-
-enum-known-refusal : tie.Need-enum-known-refusal
-enum-known-refusal c = search needs
-
-refused-requires : tie.Need-refused-requires
-refused-requires c κs = search needs
+print-checked-requires : tie.Need-print-checked-requires
+print-checked-requires c κs = search needs
 
 returns : tie.Need-returns
 returns c = search needs
-
-returns-2 : tie.Need-returns-2
-returns-2 c = search needs
-
-returns-3 : tie.Need-returns-3
-returns-3 c = search needs
 
 pub check-case-spec : {M : Type 1} → statement M
 check-case-spec =
@@ -82,14 +53,5 @@ check-case-spec =
     array-share-prefix-rows
     slice-aggregate-check-plan
     check-plan-requires
-    enum-told
-    slice-aggregate-text
-    text-requires
-    enum-told-2
-    slice-aggregate-text-2
-    text-requires-2
-    enum-known-refusal
-    refused-requires
-    returns
-    returns-2
-    returns-3)
+    print-checked-requires
+    returns)

@@ -39,6 +39,15 @@ parse-case-requires c κs = search needs
 book-case-requires : tie.Need-book-case-requires Inv-loop μ-loop
 book-case-requires c κs = search needs
 
+asked-case-requires : tie.Need-asked-case-requires Inv-loop μ-loop
+asked-case-requires c κs = search needs
+
+timed-case-requires : tie.Need-timed-case-requires Inv-loop μ-loop
+timed-case-requires c κs = search needs
+
+watch-case-requires : tie.Need-watch-case-requires Inv-loop μ-loop
+watch-case-requires c κs = search needs
+
 returns : tie.Need-returns Inv-loop μ-loop
 returns c = search needs
 
@@ -70,6 +79,9 @@ main-spec =
     compose-case-requires
     parse-case-requires
     book-case-requires
+    asked-case-requires
+    timed-case-requires
+    watch-case-requires
     returns
     add-k
     loop-less
