@@ -1,5 +1,5 @@
-/* The archive without a C library: this program brings its own memcpy and memset. Order C has the least lateness -8. Linux on
- * x86-64. */
+/* The archive without a C library: this program brings its own memcpy and memset. Order C has the least lateness -8; its job, ready
+ * at 5 on a processor that is open up to 100, runs from 5 to 8 at -3. Linux on x86-64. */
 #include "../../link/highboyrobin.h"
 
 void *memcpy(void *to, const void *from, size_t count) {
@@ -18,9 +18,10 @@ void *memset(void *to, int value, size_t count) {
 int begin(void) {
   const uint32_t memories[] = {4};
   const uint32_t jobs[] = {3, 10, 4, 1};
+  const uint32_t ready[] = {5}, windows[] = {0, 100};
   static uint8_t file[HBR_MOST_BYTES];
-  static uint32_t rows[4], book[HBR_MOST_MAKERS];
-  int32_t length[HBR_WRITE_ANSWER], least[HBR_LEAST_ANSWER];
+  static uint32_t rows[16], book[HBR_MOST_MAKERS];
+  int32_t length[HBR_WRITE_ANSWER], least[HBR_LEAST_ANSWER], asked[HBR_TIMED_ROWS_ANSWER];
   if (hbr_write(memories, 1, jobs, 4, file, sizeof file, length, HBR_WRITE_ANSWER) != 0)
     return 1;
   if (hbr_least(file, (size_t)length[0], rows, 4, least, HBR_LEAST_ANSWER) != 0)
@@ -29,7 +30,16 @@ int begin(void) {
     return 3;
   if (hbr_book_least(file, (size_t)length[0], rows, 4, book, HBR_MOST_MAKERS, least, HBR_BOOK_LEAST_ANSWER) != 0)
     return 4;
-  return least[0] == -8 && book[0] == 3 && book[1] == 0 ? 0 : 5;
+  if (least[0] != -8 || book[0] != 3 || book[1] != 0)
+    return 5;
+  if (hbr_timed_rows(file, (size_t)length[0], -3, ready, 1, windows, 2, asked, HBR_TIMED_ROWS_ANSWER) != 0 || asked[0] != 4)
+    return 6;
+  if (hbr_timed_plan(file, (size_t)length[0], -3, ready, 1, windows, 2, rows, 16, asked, HBR_TIMED_PLAN_ANSWER) != 0 ||
+      asked[0] != 1 || rows[2] != 5 || rows[3] != 8)
+    return 7;
+  if (hbr_timed_check(file, (size_t)length[0], -3, ready, 1, windows, 2, rows, 4, asked, HBR_TIMED_CHECK_ANSWER) != 0)
+    return 8;
+  return asked[0] == 1 ? 0 : 9;
 }
 
 /* the stack is aligned to 16 bytes here; 60 leaves the program */

@@ -6,7 +6,7 @@
 #define KEPT 77
 
 static int32_t answer[HBR_REASON_ANSWER];
-static uint32_t rows[4 * (HBR_MOST_ROWS + 1)];
+static uint32_t rows[4 * (HBR_MOST_TIMED_ROWS + 1)];
 static uint8_t line[HBR_MOST_LINE];
 static uint8_t file[HBR_MOST_BYTES];
 static uint32_t memories[HBR_MOST_PROCESSORS + 1];
@@ -128,6 +128,40 @@ static void of_books(size_t length) {
   refused(hbr_book_least(file, length, rows, 4, book, HBR_MOST_MAKERS + 1, answer, HBR_BOOK_LEAST_ANSWER), HBR_BOOK_FULL, 0);
 }
 
+/* the three calls with times on this order are refused alike at a bound that is out of range, with no room and too many rows */
+static void timed(const uint8_t *own, size_t length, const uint32_t *ready, size_t ready_length, const uint32_t *windows,
+                  size_t windows_length, size_t answer_length, uint32_t number, uint32_t job) {
+  const int32_t bound = 10000001;
+  refused(hbr_timed_rows(own, length, bound, ready, ready_length, windows, windows_length, answer, answer_length), number, job);
+  refused(hbr_timed_plan(own, length, bound, ready, ready_length, windows, windows_length, rows, 0, answer, answer_length), number,
+          job);
+  refused(hbr_timed_check(own, length, bound, ready, ready_length, windows, windows_length, rows, 4 * (HBR_MOST_TIMED_ROWS + 1),
+                          answer, answer_length),
+          number, job);
+}
+
+/* the refusals of the calls with times on the same order, in the order in which they are told, and the last that is in range */
+static void of_times(size_t length) {
+  const uint32_t late[] = {HBR_MOST_MINUTE + 1}, last[] = {HBR_MOST_MINUTE}, start[] = {0};
+  const uint32_t shut[] = {7, 7}, backwards[] = {8, 7}, far[] = {0, HBR_MOST_MINUTE + 1}, whole[] = {0, HBR_MOST_MINUTE};
+  const uint32_t soon[] = {4, 6};
+  timed(file, 11, late, 0, shut, 2, 0, HBR_SHORT_ANSWER, 0);
+  timed(file, 11, late, 0, shut, 2, 1, HBR_BAD_FILE, 0);
+  timed(file, length, late, 0, shut, 2, 1, HBR_WRONG_TIMES, 0);
+  timed(file, length, late, 1, shut, 1, 1, HBR_WRONG_TIMES, 0);
+  timed(file, length, late, 1, shut, 2, 1, HBR_READY_OUT_OF_RANGE, 1);
+  timed(file, length, last, 1, shut, 2, 1, HBR_BAD_WINDOW, 1);
+  timed(file, length, last, 1, backwards, 2, 1, HBR_BAD_WINDOW, 1);
+  timed(file, length, last, 1, far, 2, 1, HBR_BAD_WINDOW, 1);
+  timed(file, length, last, 1, whole, 2, 1, HBR_BOUND_OUT_OF_RANGE, 0);
+  const int32_t most = 10000000;
+  const size_t too_many = 4 * HBR_MOST_TIMED_ROWS + 1;
+  refused(hbr_timed_plan(file, length, most, start, 1, soon, 2, rows, 15, answer, HBR_TIMED_PLAN_ANSWER), HBR_BUFFER_TOO_SHORT, 0);
+  refused(hbr_timed_plan(file, length, most, start, 1, soon, 2, rows, 16, answer, HBR_TIMED_PLAN_ANSWER), HBR_BOUND_TOO_TIGHT, 0);
+  refused(hbr_timed_check(file, length, most, start, 1, soon, 2, rows, too_many, answer, HBR_TIMED_CHECK_ANSWER), HBR_TOO_MANY_ROWS,
+          0);
+}
+
 /* the refusals of a call on an accepted order: memory 4, job (3, 10, 4) */
 static void of_calls(void) {
   if (write(1, 4, 1, 3, 10, 4) != 0)
@@ -142,6 +176,7 @@ static void of_calls(void) {
   refused(hbr_reason(file, length, -1, answer, HBR_REASON_ANSWER - 1), HBR_SHORT_ANSWER, 0);
   of_lines(length);
   of_books(length);
+  of_times(length);
   memset(file, 0, 11);
   refused(hbr_judge(file, 11, answer, HBR_JUDGE_ANSWER), HBR_BAD_FILE, 0);
   refused(hbr_parse(file, 11, -1, line, 0, answer, HBR_PARSE_ANSWER), HBR_BAD_FILE, 0);

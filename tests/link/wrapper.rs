@@ -6,8 +6,9 @@ mod highboyrobin;
 use highboyrobin::{
     book_least, book_plan, check, judge, least, parse, plan, reason, sentence, write,
 };
-use highboyrobin::{Book, Job, Least, Reason, Refused, Row, Sizes};
-use highboyrobin::{MOST_BOOKED, MOST_BYTES, MOST_LINE, MOST_MAKERS};
+use highboyrobin::{timed_check, timed_plan, timed_rows};
+use highboyrobin::{Book, Job, Least, Reason, Refused, Row, Sizes, Window};
+use highboyrobin::{MOST_BOOKED, MOST_BYTES, MOST_LINE, MOST_MAKERS, MOST_MINUTE, MOST_TIMED_ROWS};
 
 const KEPT: Row = Row {
     job: 7,
@@ -205,6 +206,74 @@ fn books() {
     assert_eq!(book.minutes(1), Some(MOST_BOOKED));
 }
 
+// the window of these two minutes
+fn window([opens, closes]: [u32; 2]) -> Window {
+    Window { opens, closes }
+}
+
+// C ready at 5 with a window from 0 to 100; D with a window that closes where the other one opens
+fn times() {
+    let (mut of_c, mut of_d) = ([0; MOST_BYTES], [0; MOST_BYTES]);
+    let length = write(&[4], &[job((3, 10, 4))], &mut of_c).unwrap();
+    let c = &of_c[..length];
+    let length = write(&[8, 8], &[job((1, 4, 1)); 3], &mut of_d).unwrap();
+    let d = &of_d[..length];
+
+    let (ready, open) = ([5], [window([0, 100])]);
+    let mut rows = [KEPT; 5];
+    assert_eq!(timed_rows(c, -3, &ready, &open), Ok(4));
+    let told = timed_plan(c, -4, &ready, &open, &mut rows);
+    assert_eq!(told, Err(refused(10, 0)));
+    let told = timed_plan(c, -3, &ready, &open, &mut rows[..3]);
+    assert_eq!(told, Err(refused(9, 0)));
+    assert_eq!(rows, [KEPT; 5]);
+    assert_eq!(timed_plan(c, -3, &ready, &open, &mut rows), Ok(1));
+    let row = Row {
+        job: 1,
+        processor: 1,
+        from: 5,
+        to: 8,
+    };
+    assert_eq!(rows, [row, KEPT, KEPT, KEPT, KEPT]);
+    assert_eq!(timed_check(c, -3, &ready, &open, &[row]), Ok(true));
+    assert_eq!(timed_check(c, -3, &[6], &open, &[row]), Ok(false));
+    let short = [window([0, 7])];
+    assert_eq!(timed_check(c, -3, &ready, &short, &[row]), Ok(false));
+
+    let halves = [window([0, 2]), window([2, 9])];
+    let mut rows = [KEPT; 16];
+    assert_eq!(timed_rows(d, -2, &[0; 3], &halves), Ok(16));
+    assert_eq!(timed_plan(d, -2, &[0; 3], &halves, &mut rows), Ok(3));
+    assert_eq!(timed_check(d, -2, &[0; 3], &halves, &rows[..3]), Ok(true));
+    let told = timed_check(d, -2, &[0; 3], &halves, &[KEPT; MOST_TIMED_ROWS + 1]);
+    assert_eq!(told, Err(refused(11, 0)));
+    times_refused(c, d);
+}
+
+// one ready minute to a job, one window to a processor, all in range
+fn times_refused(c: &[u8], d: &[u8]) {
+    let whole = window([0, MOST_MINUTE]);
+    let late = [0, MOST_MINUTE + 1, u32::MAX];
+    let shut = [whole, window([7, 7])];
+    let cases: [(&[u8], &[u32], &[Window], Refused); 6] = [
+        (&c[1..], &[], &[], refused(12, 0)),
+        (c, &[], &[whole], refused(253, 0)),
+        (c, &[0], &[whole, whole], refused(253, 0)),
+        (d, &late, &shut, refused(15, 2)),
+        (d, &[MOST_MINUTE; 3], &shut, refused(16, 2)),
+        (d, &[MOST_MINUTE; 3], &[whole, whole], refused(8, 0)),
+    ];
+    for (file, ready, windows, told) in cases {
+        let mut rows = [KEPT; 1];
+        let bound = -10_000_001;
+        assert_eq!(timed_rows(file, bound, ready, windows), Err(told));
+        let plan = timed_plan(file, bound, ready, windows, &mut rows);
+        assert_eq!(plan, Err(told));
+        assert_eq!(timed_check(file, bound, ready, windows, &rows), Err(told));
+        assert_eq!(rows, [KEPT]);
+    }
+}
+
 // number and words of each row of the table of refusals
 fn table() -> Vec<(u32, &'static str)> {
     let page = include_str!("../../docs/LINKING.md");
@@ -225,13 +294,14 @@ fn words() {
     let table = table();
     let mut numbers: Vec<u32> = table.iter().map(|row| row.0).collect();
     numbers.sort();
-    let all = (1..=14).chain([253, 254, 255]).collect::<Vec<u32>>();
+    let all = (1..=16).chain([253, 254, 255]).collect::<Vec<u32>>();
     assert_eq!(numbers, all);
     for (number, words) in table {
         let plain: Box<dyn std::error::Error> = refused(number, 0).into();
         assert_eq!(plain.to_string(), format!("refusal {number}: {words}"));
-        let of_job = refused(number, 48).to_string();
-        assert_eq!(of_job, format!("refusal {number} of job 48: {words}"));
+        let of_one = refused(number, 12).to_string();
+        let one = if number == 16 { "processor" } else { "job" };
+        assert_eq!(of_one, format!("refusal {number} of {one} 12: {words}"));
     }
     let empty = job((0, 5, 1));
     let told = write(&[4], &[empty], &mut [0; MOST_BYTES]).unwrap_err();
@@ -240,8 +310,8 @@ fn words() {
         "refusal 5 of job 1: a job's time is not 1 to 100,000"
     );
     assert_eq!(
-        refused(15, 0).to_string(),
-        "refusal 15: no refusal has this number"
+        refused(17, 0).to_string(),
+        "refusal 17: no refusal has this number"
     );
 }
 
@@ -252,6 +322,7 @@ fn main() {
     line_of_c();
     line_of_b();
     books();
+    times();
     words();
     println!("wrapper: every function answers as it should");
 }

@@ -2,10 +2,11 @@
 //! flow against the staircases, the table of completions against trying each, tiny orders against a
 //! search minute by minute, its plans against the four rules, its joined rows against its rows as
 //! laid out, its files against their reader, its two readers of lines against each other, its books
-//! against the orders.
+//! against the orders, its plans with ready minutes and windows against a search with them.
 
 mod books;
 mod joins;
+mod times;
 
 use crate::draw::lines::changed;
 use crate::draw::orders::{tiny, LARGE_FAMILIES, SMALL_FAMILIES};
@@ -32,10 +33,18 @@ pub fn run(small: u64, large: u64) -> Result<u64, String> {
         }
     }
     for seed in 0..small {
-        let order = tiny(&mut Random::new(seed));
+        let mut random = Random::new(seed);
+        let order = tiny(&mut random);
         searched(&order)?;
+        times::searched(&mut random, &order)?;
     }
-    Ok(2 * small + large)
+    for seed in 0..small / 2 {
+        let mut random = Random::new(seed);
+        let (_, family) = SMALL_FAMILIES[seed as usize % SMALL_FAMILIES.len()];
+        let order = family(&mut random);
+        times::agree(&mut random, &order)?;
+    }
+    Ok(2 * small + small / 2 + large)
 }
 
 fn agrees(order: &Order) -> Result<(), String> {

@@ -3,7 +3,10 @@
 //! plan", where a job that goes on over the end of a stretch on its processor has one row.
 
 use crate::expect::Expected;
-use crate::independent::{clipped, joined, left_to_join, right, rows_asked, Order};
+use crate::independent::{
+    clipped, joined, left_to_join, right, rows_asked, timed_clipped, timed_joined, timed_right,
+    timed_rows_asked, Order, Row, Times,
+};
 use crate::lent::{rows_of, Call};
 
 /// What is wrong with a call's result and with what it left in its buffers, or none.
@@ -35,10 +38,16 @@ pub fn wrong(
         }
         Expected::Plan {
             bound,
+            times,
             lateness,
             book,
         } => {
-            let rows = match planned(&order(), *bound, lateness.is_some().into(), after) {
+            let made = Made {
+                order: order(),
+                bound: i64::from(*bound),
+                times: times.as_ref(),
+            };
+            let rows = match planned(&made, lateness.is_some().into(), after) {
                 Ok(rows) => rows,
                 Err(wrong) => return Some(wrong),
             };
@@ -53,27 +62,62 @@ pub fn wrong(
     unequal(&should, after)
 }
 
+/// What a plan was made of: at a bound, with ready minutes and windows or without.
+struct Made<'a> {
+    order: Order,
+    bound: i64,
+    times: Option<&'a Times>,
+}
+
+impl Made<'_> {
+    /// How many rows it may have at most.
+    fn asked(&self) -> usize {
+        match self.times {
+            None => rows_asked(&self.order),
+            Some(times) => timed_rows_asked(&self.order, times, self.bound),
+        }
+    }
+
+    /// Whether the numbers are a right plan, which keeps the times.
+    fn right(&self, numbers: &[u32]) -> bool {
+        match self.times {
+            None => right(&self.order, self.bound, numbers),
+            Some(times) => timed_right(&self.order, times, self.bound, numbers),
+        }
+    }
+
+    /// The joined layout of the amounts that the rows of a right plan themselves give.
+    fn laid_out_again(&self, rows: &[Row]) -> Vec<Row> {
+        let Made {
+            ref order, bound, ..
+        } = *self;
+        match self.times {
+            None => joined(order, bound, &clipped(order, bound, rows)),
+            Some(times) => {
+                let amounts = timed_clipped(order, times, bound, rows);
+                timed_joined(order, times, bound, &amounts)
+            }
+        }
+    }
+}
+
 /// The rows written, by the count at this place of the answer, or what is wrong with them.
-fn planned<'a>(
-    order: &Order,
-    bound: i32,
-    count_at: usize,
-    after: &'a Call,
-) -> Result<&'a [u32], String> {
+fn planned<'a>(made: &Made, count_at: usize, after: &'a Call) -> Result<&'a [u32], String> {
     let told = after.answer.content()[count_at];
     match usize::try_from(told) {
-        Ok(count) if count <= rows_asked(order) => {
+        Ok(count) if count <= made.asked() => {
             let rows = &after.rows.content()[..4 * count];
-            wrong_rows(order, bound.into(), rows).map_or(Ok(rows), Err)
+            wrong_rows(made, rows).map_or(Ok(rows), Err)
         }
         _ => Err(format!("{told} rows written")),
     }
 }
 
-/// What is wrong with rows as a plan of the planner at this bound: clipped to the stretches they
-/// give amounts, and they must be the layout of these, joined.
-fn wrong_rows(order: &Order, bound: i64, numbers: &[u32]) -> Option<String> {
-    if !right(order, bound, numbers) {
+/// What is wrong with rows as a plan of the planner: clipped to the stretches they give amounts, and
+/// they must be the layout of these, joined.
+fn wrong_rows(made: &Made, numbers: &[u32]) -> Option<String> {
+    let bound = made.bound;
+    if !made.right(numbers) {
         return Some(format!("no right plan at {bound}"));
     }
     let rows = rows_of(numbers);
@@ -81,7 +125,7 @@ fn wrong_rows(order: &Order, bound: i64, numbers: &[u32]) -> Option<String> {
         let (row, next) = (rows[place], rows[next]);
         return Some(format!("row {next:?} continues row {row:?}"));
     }
-    let should = joined(order, bound, &clipped(order, bound, &rows));
+    let should = made.laid_out_again(&rows);
     let told = || format!("not the joined layout of its amounts at {bound}: {should:?}");
     (should != rows).then(told)
 }
@@ -92,6 +136,8 @@ fn unequal(should: &Call, is: &Call) -> Option<String> {
         ("file", is.file.unequal_at(&should.file)),
         ("memories", is.memories.unequal_at(&should.memories)),
         ("jobs", is.jobs.unequal_at(&should.jobs)),
+        ("ready", is.ready.unequal_at(&should.ready)),
+        ("windows", is.windows.unequal_at(&should.windows)),
         ("rows", is.rows.unequal_at(&should.rows)),
         ("book", is.book.unequal_at(&should.book)),
         ("reason", is.reason.unequal_at(&should.reason)),

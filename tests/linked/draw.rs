@@ -1,10 +1,11 @@
-//! Seeded draws: the same seed gives the same orders, files, row lists, reasons, lines, books and
-//! buffers on every machine.
+//! Seeded draws: the same seed gives the same orders, files, row lists, reasons, lines, books, times
+//! and buffers on every machine.
 
 pub mod books;
 pub mod bounds;
 pub mod damage;
 pub mod files;
+pub mod keeping;
 pub mod lengths;
 pub mod lines;
 pub mod lists;
@@ -13,6 +14,7 @@ pub mod orders;
 mod packed;
 pub mod reasons;
 pub mod sharp;
+pub mod times;
 
 /// The splitmix64 generator.
 pub struct Random(u64);

@@ -1,8 +1,10 @@
 //! What a call must answer, wholly by the independent implementation. "Of several refusals that
-//! apply the first is told": 255, 254 or 253, 12, then 1 to 11 upwards with 13 right after 6, and 14
-//! last of all.
+//! apply the first is told": 255, 254 or 253, 12, then 1 to 11 upwards with 13 right after 6, 15 and 16
+//! right before 8, and 14 last of all; but 253 of ready minutes and windows comes after 12.
 
-use crate::independent::{self, Job, Order, Reason, Refusal, MAKERS, MOST_ROWS};
+use crate::independent::{
+    self, Job, Order, Reason, Refusal, Times, MAKERS, MOST_ROWS, MOST_TIMED_ROWS,
+};
 use crate::lent::Call;
 use crate::library::{Function, REASON_NUMBERS};
 use std::ops::RangeInclusive;
@@ -14,10 +16,11 @@ pub enum Expected {
     Refused(Refusal),
     /// These numbers in the answer, and nothing else written.
     Answer(Vec<i32>),
-    /// The rows of a plan at this bound; the answer is the lateness, if asked for, and the row
-    /// count; these counts in the book, if it is booked.
+    /// The rows of a plan at this bound, which keeps these times, if there are any; the answer is the
+    /// lateness, if asked for, and the row count; these counts in the book, if it is booked.
     Plan {
         bound: i32,
+        times: Option<Times>,
         lateness: Option<i32>,
         book: Option<Vec<u32>>,
     },
@@ -77,6 +80,9 @@ pub fn expected(function: Function, call: &Call, known: &mut Known) -> Expected 
     }
     if function.books() && call.book.len() < MAKERS {
         return refused(253, 0);
+    }
+    if function.takes_times() {
+        return timed(function, call, known);
     }
     known.turn_to(call.file.content());
     match refusal(function, call, known) {
@@ -154,11 +160,13 @@ fn answer(function: Function, call: &Call, known: &mut Known) -> Expected {
         Function::Judge => Expected::Answer(counts(known.order())),
         Function::Least | Function::BookLeast => Expected::Plan {
             bound: known.least(),
+            times: None,
             lateness: Some(known.least()),
             book: function.books().then(|| booked(call, known)).flatten(),
         },
         Function::Plan | Function::BookPlan => Expected::Plan {
             bound,
+            times: None,
             lateness: None,
             book: function.books().then(|| booked(call, known)).flatten(),
         },
@@ -175,6 +183,55 @@ fn answer(function: Function, call: &Call, known: &mut Known) -> Expected {
             Expected::Answer(vec![right.into()])
         }
         Function::Write => written(call),
+        Function::TimedRows | Function::TimedPlan | Function::TimedCheck => {
+            timed(function, call, known)
+        }
+    }
+}
+
+/// What a function with ready minutes and windows must do: "judged right after 12 and before 1" is
+/// whether these are as many as the file's jobs and processors.
+fn timed(function: Function, call: &Call, known: &mut Known) -> Expected {
+    let file = call.file.content();
+    let Some(listed) = independent::lists(file) else {
+        return refused(12, 0);
+    };
+    let Some(times) = Times::of(&listed, call.ready.content(), call.windows.content()) else {
+        return refused(253, 0);
+    };
+    known.turn_to(file);
+    let order = match &known.order {
+        Err(refusal) => return Expected::Refused(*refusal),
+        Ok(order) => order,
+    };
+    if let Some(refusal) = independent::judge_times(&times) {
+        return Expected::Refused(refusal);
+    }
+    if !BOUNDS.contains(&call.bound) {
+        return refused(8, 0);
+    }
+    timed_answer(function, call, order, times)
+}
+
+/// The answer at a bound in range, or 9, 10 or 11.
+fn timed_answer(function: Function, call: &Call, order: &Order, times: Times) -> Expected {
+    let (bound, rows) = (i64::from(call.bound), &call.rows);
+    let asked = independent::timed_rows_asked(order, &times, bound);
+    match function {
+        Function::TimedRows => Expected::Answer(vec![asked as i32]),
+        Function::TimedPlan if rows.len() / 4 < asked => refused(9, 0),
+        Function::TimedPlan if !independent::timed_meets(order, &times, bound) => refused(10, 0),
+        Function::TimedPlan => Expected::Plan {
+            bound: call.bound,
+            times: Some(times),
+            lateness: None,
+            book: None,
+        },
+        _ if rows.len().div_ceil(4) > MOST_TIMED_ROWS => refused(11, 0),
+        _ => {
+            let right = independent::timed_right(order, &times, bound, rows.content());
+            Expected::Answer(vec![right.into()])
+        }
     }
 }
 

@@ -1,14 +1,17 @@
 //! Document 01's "Orders to try", the small examples of its refusal table and its order file of C,
 //! with the values that stand there, the leasts and the bounds one lower as document 02's §3 has
-//! them, each job of maker 1 as its §4 has it; the lines, the joined rows, the ends, the makers and
-//! the books of document 02 in `fixed/`.
+//! them, each job of maker 1 as its §4 has it; the lines, the joined rows, the ends, the makers, the
+//! books, and the ready minutes and windows of document 02 in `fixed/`.
 
 mod books;
 mod ends;
 mod joins;
+mod kept;
 mod lines;
 mod makers;
 mod others;
+mod times;
+mod untimed;
 
 use crate::draw::Random;
 use crate::independent::{write, Job, Order, MAKERS};
@@ -60,7 +63,7 @@ fn d() -> Order {
     order(&[8, 8], &[(1, 4, 1); 3])
 }
 
-/// Puts all fixed cases before the library.
+/// Puts all fixed cases before the library, but those with ready minutes and windows.
 pub fn run(trial: &mut Trial) {
     trial.begin("document 01", 0);
     lateness(trial);
@@ -78,7 +81,14 @@ pub fn run(trial: &mut Trial) {
     ends::run(trial);
 }
 
-/// A call on the order's file, all of whose buffers are long enough, with a book just opened.
+/// Puts the cases with ready minutes and windows before the library.
+pub fn run_timed(trial: &mut Trial) {
+    trial.begin("document 02, times", 0);
+    times::run(trial);
+}
+
+/// A call on the order's file, all of whose buffers are long enough, with a book just opened; jobs are
+/// there from the start on, and processors always open.
 fn on(random: &mut Random, order: &Order) -> Call {
     on_with_room(random, order, ENOUGH)
 }
@@ -89,9 +99,11 @@ fn on_few(random: &mut Random, order: &Order) -> Call {
 }
 
 fn on_with_room(random: &mut Random, order: &Order, numbers: usize) -> Call {
+    let windows = [0, times::MOST].repeat(order.memories.len());
     Call::with_file(random, &write(order), 19)
         .with_room(random, numbers)
         .with_book(random, &[0; MAKERS])
+        .with_times(random, &vec![0; order.jobs.len()], &windows)
         .with_reason(random, &[0; REASON_NUMBERS])
 }
 

@@ -1,7 +1,7 @@
 //! Documents 01 and 02 in plain Rust, made apart from the proved code and from their text alone:
 //! orders, order files, right plans and their joining, the least lateness, reasons and their lines,
-//! books. Whether a bound is met is decided by a maximum flow, never by the staircase sums, so that
-//! each of the two can be held against the other.
+//! books, plans with ready minutes and windows. Whether a bound is met is decided by a maximum flow,
+//! never by the staircase sums, so that each of the two can be held against the other.
 
 // a program that takes this module in may use only a part of it
 #![allow(dead_code, unused_imports)]
@@ -32,13 +32,17 @@ mod reasons;
 mod rules;
 #[path = "independent/sentence.rs"]
 mod sentence;
+#[path = "independent/timed.rs"]
+mod timed;
+#[path = "independent/times.rs"]
+mod times;
 #[path = "independent/wrap.rs"]
 mod wrap;
 
 pub use accept::judge;
 pub use amounts::{amounts, least, least_between, meets, plan};
 pub use book::{booked, minutes_of, MAKERS, MOST_BOOKED};
-pub use clip::{clipped, joins};
+pub use clip::{clipped, clipped_to, joins, joins_over};
 pub use join::{join, joined};
 pub use order_file::{lists, read, write};
 pub use pairs::{join_pairs, left_to_join};
@@ -46,6 +50,13 @@ pub use reading::{read_back, read_by_form, read_by_trying, taken_apart, true_of,
 pub use reasons::{overfull, reason, reason_by_table, reason_by_trying, staircases};
 pub use rules::right;
 pub use sentence::{composed, late, line_of, minutes, staircase, standing, stands};
+pub use timed::{
+    timed_amounts, timed_clipped, timed_joined, timed_layout, timed_meets, timed_plan, timed_right,
+};
+pub use times::{
+    judge_times, open, timed_rows_asked, timed_stretches, Times, Window, MOST_MINUTE,
+    MOST_TIMED_ROWS,
+};
 pub use wrap::{layout, rows_asked, stretches};
 
 /// The most rows of a plan, and the most that the check takes.
@@ -82,7 +93,8 @@ pub struct Order {
 /// A row of a plan: job, processor, from, to.
 pub type Row = [u32; 4];
 
-/// A refusal: its number in document 01's table or in document 02, and the job that it is about or 0.
+/// A refusal: its number in document 01's table or in document 02, and the job that it is about, of 16
+/// the processor, or 0.
 #[derive(Clone, Copy, Debug, PartialEq)]
 pub struct Refusal {
     pub number: u32,

@@ -84,6 +84,8 @@ pub struct Call {
     pub memories: Lent<u32>,
     pub jobs: Lent<u32>,
     pub bound: i32,
+    pub ready: Lent<u32>,
+    pub windows: Lent<u32>,
     pub rows: Lent<u32>,
     pub book: Lent<u32>,
     pub reason: Lent<i32>,
@@ -99,6 +101,8 @@ impl Call {
             memories: Lent::filled(0, random, number),
             jobs: Lent::filled(0, random, number),
             bound: 0,
+            ready: Lent::filled(0, random, number),
+            windows: Lent::filled(0, random, number),
             rows: Lent::filled(0, random, number),
             book: Lent::filled(0, random, number),
             reason: Lent::filled(0, random, signed),
@@ -126,6 +130,17 @@ impl Call {
     /// The same with this bound.
     pub fn at(self, bound: i32) -> Call {
         Call { bound, ..self }
+    }
+
+    /// The same with these ready minutes and these windows.
+    pub fn with_times(self, random: &mut Random, ready: &[u32], windows: &[u32]) -> Call {
+        let ready = Lent::holding(ready, random, number);
+        let windows = Lent::holding(windows, random, number);
+        Call {
+            ready,
+            windows,
+            ..self
+        }
     }
 
     /// The same with room for so many numbers of rows.

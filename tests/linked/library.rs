@@ -1,5 +1,5 @@
-//! The ten functions of the header: what they are called, how long their answers are, which
-//! refusals each can give, and a library as ten entries of one form.
+//! The thirteen functions of the header: what they are called, how long their answers are, which
+//! refusals each can give, and a library as thirteen entries of one form.
 
 use crate::lent::Call;
 
@@ -14,10 +14,13 @@ pub enum Function {
     Sentence,
     Parse,
     Check,
+    TimedRows,
+    TimedPlan,
+    TimedCheck,
     Write,
 }
 
-pub const FUNCTIONS: [Function; 10] = [
+pub const FUNCTIONS: [Function; 13] = [
     Function::Judge,
     Function::Least,
     Function::Plan,
@@ -27,11 +30,14 @@ pub const FUNCTIONS: [Function; 10] = [
     Function::Sentence,
     Function::Parse,
     Function::Check,
+    Function::TimedRows,
+    Function::TimedPlan,
+    Function::TimedCheck,
     Function::Write,
 ];
 
 /// Those that read an order file.
-pub const READERS: [Function; 9] = [
+pub const READERS: [Function; 12] = [
     Function::Judge,
     Function::Least,
     Function::Plan,
@@ -41,6 +47,16 @@ pub const READERS: [Function; 9] = [
     Function::Sentence,
     Function::Parse,
     Function::Check,
+    Function::TimedRows,
+    Function::TimedPlan,
+    Function::TimedCheck,
+];
+
+/// Those that take ready minutes and windows.
+pub const TIMED: [Function; 3] = [
+    Function::TimedRows,
+    Function::TimedPlan,
+    Function::TimedCheck,
 ];
 
 /// The numbers of a reason.
@@ -58,6 +74,9 @@ impl Function {
             Function::Sentence => "hbr_sentence",
             Function::Parse => "hbr_parse",
             Function::Check => "hbr_check",
+            Function::TimedRows => "hbr_timed_rows",
+            Function::TimedPlan => "hbr_timed_plan",
+            Function::TimedCheck => "hbr_timed_check",
             Function::Write => "hbr_write",
         }
     }
@@ -83,13 +102,21 @@ impl Function {
             Function::Reason | Function::Parse => &[1, 2, 3, 4, 5, 6, 13, 7, 8, 12, 255],
             Function::Sentence => &[1, 2, 3, 4, 5, 6, 13, 7, 8, 9, 12, 253, 255],
             Function::Check => &[1, 2, 3, 4, 5, 6, 13, 7, 8, 11, 12, 255],
+            Function::TimedRows => &[1, 2, 3, 4, 5, 6, 13, 7, 15, 16, 8, 12, 253, 255],
+            Function::TimedPlan => &[1, 2, 3, 4, 5, 6, 13, 7, 15, 16, 8, 9, 10, 12, 253, 255],
+            Function::TimedCheck => &[1, 2, 3, 4, 5, 6, 13, 7, 15, 16, 8, 11, 12, 253, 255],
             Function::Write => &[1, 2, 3, 4, 5, 6, 13, 7, 9, 254, 255],
         }
     }
 
     /// Whether it writes rows: then a short buffer is refused.
     pub fn plans(self) -> bool {
-        self.books() || matches!(self, Function::Least | Function::Plan)
+        self.books() || matches!(self, Function::Least | Function::Plan | Function::TimedPlan)
+    }
+
+    /// Whether it takes ready minutes and windows: then lists of a wrong length are refused.
+    pub fn takes_times(self) -> bool {
+        TIMED.contains(&self)
     }
 
     /// Whether it books what it plans: then a short book and a full one are refused.
@@ -126,6 +153,9 @@ pub struct Library {
     pub sentence: Entry,
     pub parse: Entry,
     pub check: Entry,
+    pub timed_rows: Entry,
+    pub timed_plan: Entry,
+    pub timed_check: Entry,
     pub write: Entry,
 }
 
@@ -141,6 +171,9 @@ impl Library {
             Function::Sentence => self.sentence,
             Function::Parse => self.parse,
             Function::Check => self.check,
+            Function::TimedRows => self.timed_rows,
+            Function::TimedPlan => self.timed_plan,
+            Function::TimedCheck => self.timed_check,
             Function::Write => self.write,
         }
     }
@@ -157,6 +190,9 @@ impl Library {
             Function::Sentence => &mut self.sentence,
             Function::Parse => &mut self.parse,
             Function::Check => &mut self.check,
+            Function::TimedRows => &mut self.timed_rows,
+            Function::TimedPlan => &mut self.timed_plan,
+            Function::TimedCheck => &mut self.timed_check,
             Function::Write => &mut self.write,
         };
         *place = entry;

@@ -15,6 +15,9 @@ pub const LINKED: Library = Library {
     sentence,
     parse,
     check,
+    timed_rows,
+    timed_plan,
+    timed_check,
     write,
 };
 
@@ -144,6 +147,75 @@ fn check(call: &mut Call) -> u32 {
             file,
             file_length,
             bound,
+            rows,
+            rows_length,
+            answer,
+            answer_length,
+        )
+    }
+}
+
+fn timed_rows(call: &mut Call) -> u32 {
+    let (file, file_length) = (call.file.pointer(), call.file.len());
+    let (ready, ready_length) = (call.ready.pointer(), call.ready.len());
+    let (windows, windows_length) = (call.windows.pointer(), call.windows.len());
+    let (answer, answer_length) = (call.answer.pointer_mut(), call.answer.len());
+    let bound = call.bound;
+    unsafe {
+        raw::hbr_timed_rows(
+            file,
+            file_length,
+            bound,
+            ready,
+            ready_length,
+            windows,
+            windows_length,
+            answer,
+            answer_length,
+        )
+    }
+}
+
+fn timed_plan(call: &mut Call) -> u32 {
+    let (file, file_length) = (call.file.pointer(), call.file.len());
+    let (ready, ready_length) = (call.ready.pointer(), call.ready.len());
+    let (windows, windows_length) = (call.windows.pointer(), call.windows.len());
+    let (rows, rows_length) = (call.rows.pointer_mut(), call.rows.len());
+    let (answer, answer_length) = (call.answer.pointer_mut(), call.answer.len());
+    let bound = call.bound;
+    unsafe {
+        raw::hbr_timed_plan(
+            file,
+            file_length,
+            bound,
+            ready,
+            ready_length,
+            windows,
+            windows_length,
+            rows,
+            rows_length,
+            answer,
+            answer_length,
+        )
+    }
+}
+
+fn timed_check(call: &mut Call) -> u32 {
+    let (file, file_length) = (call.file.pointer(), call.file.len());
+    let (ready, ready_length) = (call.ready.pointer(), call.ready.len());
+    let (windows, windows_length) = (call.windows.pointer(), call.windows.len());
+    let (rows, rows_length) = (call.rows.pointer(), call.rows.len());
+    let (answer, answer_length) = (call.answer.pointer_mut(), call.answer.len());
+    let bound = call.bound;
+    unsafe {
+        raw::hbr_timed_check(
+            file,
+            file_length,
+            bound,
+            ready,
+            ready_length,
+            windows,
+            windows_length,
             rows,
             rows_length,
             answer,

@@ -58,6 +58,7 @@ fn compare_linked(times: u64) -> Result<String, String> {
     println!("independent implementation: {agreed} orders agree");
     let mut trial = Trial::of(linked::LINKED);
     fixed::run(&mut trial);
+    fixed::run_timed(&mut trial);
     let rounds = Rounds {
         small: 2_340 * times,
         large: 660 * times,
@@ -65,6 +66,8 @@ fn compare_linked(times: u64) -> Result<String, String> {
         files: 2_800 * times,
         lists: 1_000 * times,
         books: 400 * times,
+        times: 1_000 * times,
+        large_times: 60 * times,
     };
     rounds::run(&mut trial, &rounds);
     if let Some(difference) = trial.difference {

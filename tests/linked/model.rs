@@ -1,8 +1,8 @@
-//! The independent implementation as a library of ten functions: what a linked library would do
+//! The independent implementation as a library of thirteen functions: what a linked library would do
 //! that does just what is expected. The wrong libraries are made from it.
 
 use crate::expect::{expected, Expected, Known};
-use crate::independent::plan;
+use crate::independent::{plan, timed_plan};
 use crate::lent::Call;
 use crate::library::{Function, Library};
 
@@ -16,6 +16,9 @@ pub const MODEL: Library = Library {
     sentence: |call| run(Function::Sentence, call),
     parse: |call| run(Function::Parse, call),
     check: |call| run(Function::Check, call),
+    timed_rows: |call| run(Function::TimedRows, call),
+    timed_plan: |call| run(Function::TimedPlan, call),
+    timed_check: |call| run(Function::TimedCheck, call),
     write: |call| run(Function::Write, call),
 };
 
@@ -26,10 +29,15 @@ fn run(function: Function, call: &mut Call) -> u32 {
         Expected::Answer(numbers) => call.answer.put(&numbers),
         Expected::Plan {
             bound,
+            times,
             lateness,
             book,
         } => {
-            let rows = plan(known.order(), bound).expect("the bound is met");
+            let rows = match times {
+                None => plan(known.order(), bound),
+                Some(times) => timed_plan(known.order(), &times, bound.into()),
+            };
+            let rows = rows.expect("the bound is met");
             call.rows.put(&rows.concat());
             let answer: Vec<i32> = lateness.into_iter().chain([rows.len() as i32]).collect();
             call.answer.put(&answer);

@@ -1,8 +1,9 @@
 //! The drawn calls: accepted orders with bounds, row lists, reasons, lines and books around their
-//! least lateness, orders that are refused, doubtful files, lists for the writer, and books that go
-//! through many calls.
+//! least lateness, orders that are refused, doubtful files, lists for the writer, books that go
+//! through many calls, and orders with ready minutes and windows.
 
 mod books;
+mod times;
 
 use crate::draw::bounds::Around;
 use crate::draw::damage::{damaged, OF_ORDERS};
@@ -25,17 +26,21 @@ pub struct Rounds {
     pub files: u64,
     pub lists: u64,
     pub books: u64,
+    pub times: u64,
+    pub large_times: u64,
 }
 
 /// Runs all parts, up to the first difference.
 pub fn run(trial: &mut Trial, rounds: &Rounds) {
-    let parts: [(&str, u64, fn(&mut Trial, u64)); 6] = [
+    let parts: [(&str, u64, fn(&mut Trial, u64)); 8] = [
         ("small orders", rounds.small, small_order),
         ("large orders", rounds.large, large_order),
         ("refused orders", rounds.refused, refused_order),
         ("files", rounds.files, doubtful_file),
         ("lists", rounds.lists, any_lists),
         ("books", rounds.books, books::sequence),
+        ("times", rounds.times, times::small),
+        ("times of large orders", rounds.large_times, times::large),
     ];
     for (part, times, round) in parts {
         for seed in 0..times {
@@ -154,7 +159,7 @@ fn checks(trial: &mut Trial, order: &Order, file: &[u8], around: Around) {
             let rows = match turn {
                 0 => made.concat(),
                 1 => lists::senseless(random),
-                2 => at_most_rows(random, &made),
+                2 => at_most_rows(random, &made, MOST_ROWS),
                 3..=6 => sharp::one_rule_broken(random, order, made_at, &made),
                 _ => lists::hostile(random, &made),
             };
@@ -171,10 +176,10 @@ fn checks(trial: &mut Trial, order: &Order, file: &[u8], around: Around) {
     }
 }
 
-/// A list around the most rows that the check takes, with or without numbers left over.
-fn at_most_rows(random: &mut Random, made: &[[u32; 4]]) -> Vec<u32> {
+/// A list around the most rows that a check takes, with or without numbers left over.
+fn at_most_rows(random: &mut Random, made: &[[u32; 4]], most: usize) -> Vec<u32> {
     let far = if random.once_in(20) { 65_536 } else { 0 };
-    let count = far + random.pick(&[MOST_ROWS - 1, MOST_ROWS, MOST_ROWS + 1]);
+    let count = far + random.pick(&[most - 1, most, most + 1]);
     let mut rows = lists::cut(made, count);
     if random.once_in(3) {
         rows.extend(vec![1; 1 + random.below(3)]);
@@ -238,6 +243,9 @@ fn read_all(trial: &mut Trial, file: &[u8]) {
             if function.books() {
                 let book = book(random, &NO_ORDER);
                 return call.with_book(random, &book);
+            }
+            if function.takes_times() {
+                return times::with_any_times(random, file, call);
             }
             call
         });

@@ -11,7 +11,7 @@ fn kinds(function: Function) -> &'static [&'static str] {
     match function {
         Function::Reason | Function::Parse => &["none", "job", "level stairs", "falling stairs"],
         Function::Sentence => &["empty", "job", "stairs"],
-        Function::Check => &["yes", "no"],
+        Function::Check | Function::TimedCheck => &["yes", "no"],
         _ => &["answered"],
     }
 }
@@ -116,7 +116,7 @@ impl Tally {
         let (answered, refused) = (answered.join(", "), refused.join(", "));
         let all: u64 = self.of(function);
         format!(
-            "{:<14} {all} calls; {answered}; refused {refused}",
+            "{:<15} {all} calls; {answered}; refused {refused}",
             function.name()
         )
     }
@@ -156,8 +156,8 @@ impl Tally {
 /// one common time do.
 fn kind(function: Function, numbers: &[i32]) -> &'static str {
     match (function, numbers[0]) {
-        (Function::Check, 0) => "no",
-        (Function::Check, _) => "yes",
+        (Function::Check | Function::TimedCheck, 0) => "no",
+        (Function::Check | Function::TimedCheck, _) => "yes",
         (Function::Reason | Function::Parse, 0) => "none",
         (Function::Reason | Function::Parse, 1) => "job",
         (Function::Reason | Function::Parse, _) => {

@@ -4,7 +4,7 @@
 use crate::compare::wrong;
 use crate::draw::Random;
 use crate::expect::{expected, Expected, Known};
-use crate::independent::joins;
+use crate::independent::{joins_over, stretches, timed_stretches};
 use crate::lent::{rows_of, Call};
 use crate::library::{Function, Library};
 use crate::tally::Tally;
@@ -78,13 +78,21 @@ impl Trial {
     /// Counts the joins of a plan that was written.
     fn count_joins(&mut self, function: Function, expected: &Expected, after: &Call) {
         if let Expected::Plan {
-            bound, lateness, ..
-        } = *expected
+            bound,
+            times,
+            lateness,
+            ..
+        } = expected
         {
             let count = after.answer.content()[usize::from(lateness.is_some())] as usize;
             let rows = rows_of(&after.rows.content()[..4 * count]);
-            let joins = joins(self.known.order(), bound.into(), &rows);
-            self.tally.count_joins(function, joins);
+            let (order, bound) = (self.known.order(), i64::from(*bound));
+            let stretches = match times {
+                None => stretches(order, bound),
+                Some(times) => timed_stretches(order, times, bound),
+            };
+            self.tally
+                .count_joins(function, joins_over(&stretches, &rows));
         }
     }
 
@@ -104,6 +112,12 @@ fn told(what: &str, call: &Call) -> String {
             shown(&call.memories.content()),
         ),
         ("jobs", call.jobs.len(), shown(&call.jobs.content())),
+        ("ready", call.ready.len(), shown(&call.ready.content())),
+        (
+            "windows",
+            call.windows.len(),
+            shown(&call.windows.content()),
+        ),
         ("rows", call.rows.len(), shown(&call.rows.content())),
         ("book", call.book.len(), shown(&call.book.content())),
         ("reason", call.reason.len(), shown(&call.reason.content())),

@@ -12,22 +12,54 @@ macro_rules! of_both {
     };
 }
 
-/// A wrong thing of each of the ten functions, made likewise.
-macro_rules! of_all {
-    ($with:ident: $($what:literal => $how:expr,)*) => {
+/// A wrong thing of each of the three functions that take ready minutes and windows, made likewise;
+/// how it is wrong is of this type.
+macro_rules! of_timed {
+    ($with:ident, $type:ident: $($what:literal => $how:expr,)*) => {{
+        const ALL: &[[Wrong; 3]] = &[$({
+            const HOW: $type = $how;
+            [
+                (Function::TimedRows, $what, |call| $with(Function::TimedRows, call, HOW)),
+                (Function::TimedPlan, $what, |call| $with(Function::TimedPlan, call, HOW)),
+                (Function::TimedCheck, $what, |call| $with(Function::TimedCheck, call, HOW)),
+            ]
+        },)*];
+        ALL.as_flattened()
+    }};
+}
+
+/// A wrong thing of one function, made by a helper that takes the call and how it is wrong.
+macro_rules! of_one {
+    ($function:ident, $with:ident: $($what:literal => $how:expr,)*) => {
         &[$(
-            (Function::Judge, $what, |call| $with(Function::Judge, call, $how)),
-            (Function::Least, $what, |call| $with(Function::Least, call, $how)),
-            (Function::Plan, $what, |call| $with(Function::Plan, call, $how)),
-            (Function::BookLeast, $what, |call| $with(Function::BookLeast, call, $how)),
-            (Function::BookPlan, $what, |call| $with(Function::BookPlan, call, $how)),
-            (Function::Reason, $what, |call| $with(Function::Reason, call, $how)),
-            (Function::Sentence, $what, |call| $with(Function::Sentence, call, $how)),
-            (Function::Parse, $what, |call| $with(Function::Parse, call, $how)),
-            (Function::Check, $what, |call| $with(Function::Check, call, $how)),
-            (Function::Write, $what, |call| $with(Function::Write, call, $how)),
+            (Function::$function, $what, |call| $with(call, $how)),
         )*]
     };
+}
+
+/// A wrong thing of each of the thirteen functions, made likewise.
+macro_rules! of_all {
+    ($with:ident, $type:ident: $($what:literal => $how:expr,)*) => {{
+        const ALL: &[[Wrong; 13]] = &[$({
+            const HOW: $type = $how;
+            [
+                (Function::Judge, $what, |call| $with(Function::Judge, call, HOW)),
+                (Function::Least, $what, |call| $with(Function::Least, call, HOW)),
+                (Function::Plan, $what, |call| $with(Function::Plan, call, HOW)),
+                (Function::BookLeast, $what, |call| $with(Function::BookLeast, call, HOW)),
+                (Function::BookPlan, $what, |call| $with(Function::BookPlan, call, HOW)),
+                (Function::Reason, $what, |call| $with(Function::Reason, call, HOW)),
+                (Function::Sentence, $what, |call| $with(Function::Sentence, call, HOW)),
+                (Function::Parse, $what, |call| $with(Function::Parse, call, HOW)),
+                (Function::Check, $what, |call| $with(Function::Check, call, HOW)),
+                (Function::TimedRows, $what, |call| $with(Function::TimedRows, call, HOW)),
+                (Function::TimedPlan, $what, |call| $with(Function::TimedPlan, call, HOW)),
+                (Function::TimedCheck, $what, |call| $with(Function::TimedCheck, call, HOW)),
+                (Function::Write, $what, |call| $with(Function::Write, call, HOW)),
+            ]
+        },)*];
+        ALL.as_flattened()
+    }};
 }
 
 mod booked;
@@ -39,20 +71,27 @@ mod files;
 mod forms;
 mod full;
 mod joins;
+mod kept;
 mod lines;
 mod makers;
+mod marks;
 mod meeting;
+mod open;
 mod plans;
 mod ranges;
 mod readings;
 mod reasons;
 mod refusals;
 mod sentences;
+mod tight;
+mod timed;
+mod times;
+mod untimed;
 mod words;
 
 use crate::expect::Known;
 use crate::fixed;
-use crate::independent::{read, Job, Order, Row};
+use crate::independent::{read, Job, Order, Row, Times};
 use crate::lent::{rows_of, Call};
 use crate::library::{Entry, Function, Library};
 use crate::model::MODEL;
@@ -64,26 +103,45 @@ type Wrong = (Function, &'static str, Entry);
 
 const ROUNDS: Rounds = Rounds {
     small: 450,
-    large: 0,
     refused: 480,
     files: 490,
     lists: 150,
     books: 60,
+    ..NO_ROUNDS
+};
+
+/// The rounds with ready minutes and windows.
+const TIMED_ROUNDS: Rounds = Rounds {
+    times: 90,
+    ..NO_ROUNDS
+};
+
+const NO_ROUNDS: Rounds = Rounds {
+    small: 0,
+    large: 0,
+    refused: 0,
+    files: 0,
+    lists: 0,
+    books: 0,
+    times: 0,
+    large_times: 0,
 };
 
 /// Puts the unbroken library and all wrong ones before the comparison; answers the last line.
 pub fn run() -> Result<String, String> {
-    let (unbroken, calls) = tried(MODEL);
-    if let Some(difference) = unbroken {
-        return Err(format!(
-            "the unbroken library is called wrong: {difference}"
-        ));
+    for timed in [false, true] {
+        let (unbroken, calls) = tried(MODEL, timed);
+        if let Some(difference) = unbroken {
+            return Err(format!(
+                "the unbroken library is called wrong: {difference}"
+            ));
+        }
+        println!("unbroken: {calls} calls, 0 differ");
     }
-    println!("unbroken: {calls} calls, 0 differ");
     let all = libraries();
     let mut missed = Vec::new();
-    for (name, library) in &all {
-        let (difference, calls) = tried(*library);
+    for (name, library, timed) in &all {
+        let (difference, calls) = tried(*library, *timed);
         match difference {
             Some(_) => println!("caught at call {calls}: {name}"),
             None => missed.push(name.as_str()),
@@ -95,8 +153,8 @@ pub fn run() -> Result<String, String> {
     Err(format!("broken: NOT caught: {}", missed.join("; ")))
 }
 
-/// All wrong libraries, each with what is wrong with it.
-fn libraries() -> Vec<(String, Library)> {
+/// All wrong libraries, each with what is wrong with it, and whether that is about times.
+fn libraries() -> Vec<(String, Library, bool)> {
     let parts = [
         buffers::WRONG,
         refusals::WRONG,
@@ -121,23 +179,42 @@ fn libraries() -> Vec<(String, Library)> {
         full::PARTS,
     ]
     .concat();
-    let in_one = parts.concat().into_iter().map(|(function, what, entry)| {
+    let of_times = [
+        untimed::PARTS,
+        times::PARTS,
+        marks::PARTS,
+        timed::PARTS,
+        open::PARTS,
+        tight::PARTS,
+        kept::PARTS,
+    ]
+    .concat();
+    let of_times = of_times.concat().into_iter().map(|wrong| (wrong, true));
+    let in_one = parts.concat().into_iter().map(|wrong| (wrong, false));
+    let in_one = in_one.chain(of_times);
+    let in_one = in_one.map(|((function, what, entry), timed)| {
         let name = format!("{} {what}", function.name());
-        (name, MODEL.with(function, entry))
+        (name, MODEL.with(function, entry), timed)
     });
     let in_several = [ends::LIBRARIES, books::LIBRARIES].concat();
     let in_several = in_several.into_iter().map(|(what, library)| {
         let name = format!("the library {what}");
-        (name, library)
+        (name, library, false)
     });
     in_one.chain(in_several).collect()
 }
 
-/// The difference that is found in a library, if any, and the number of calls made.
-fn tried(library: Library) -> (Option<String>, u64) {
+/// The difference that is found in a library, if any, and the number of calls made: by the cases with
+/// ready minutes and windows, or by all others.
+fn tried(library: Library, timed: bool) -> (Option<String>, u64) {
     let mut trial = Trial::of(library);
-    fixed::run(&mut trial);
-    rounds::run(&mut trial, &ROUNDS);
+    if timed {
+        fixed::run_timed(&mut trial);
+        rounds::run(&mut trial, &TIMED_ROUNDS);
+    } else {
+        fixed::run(&mut trial);
+        rounds::run(&mut trial, &ROUNDS);
+    }
     (trial.difference, trial.tally.calls)
 }
 
@@ -201,6 +278,14 @@ fn replanned(function: Function, call: &mut Call, make: impl FnOnce(&Plan) -> Ve
 /// The order of a call's file, where it is accepted.
 fn accepted(call: &Call) -> Option<Order> {
     read(call.file.content()).ok()
+}
+
+/// The order and the times of a call that was answered.
+fn given(call: &Call) -> (Order, Times) {
+    let order = accepted(call).expect("the call was answered");
+    let times = Times::of(&order, call.ready.content(), call.windows.content());
+    let times = times.expect("the call was answered");
+    (order, times)
 }
 
 /// The least lateness of a call's accepted file.

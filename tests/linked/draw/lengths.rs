@@ -84,3 +84,18 @@ pub fn reason_length(random: &mut Random) -> usize {
         _ => REASON_NUMBERS,
     }
 }
+
+/// Mostly so many ready minutes, or numbers of windows, as there must be; sometimes none, or some too
+/// few, or too many, or as many as an order may need at most.
+pub fn times_length(random: &mut Random, exact: usize) -> usize {
+    match random.below(96) {
+        0 => 0,
+        1 => exact.saturating_sub(1),
+        2 => exact + 1,
+        3 => exact / 2,
+        4 => 2 * exact,
+        5 => exact + random.pick(&[256, 256, 256, 65_536]),
+        6 => random.pick(&[16, 32, 48, 96]),
+        _ => exact,
+    }
+}

@@ -54,20 +54,38 @@ pub fn least_between(order: &Order) -> (i64, i64) {
 
 /// Amounts by stretch, then by job, that give each job its whole time; or none if there are none.
 pub fn amounts(order: &Order, bound: i64) -> Option<Vec<Vec<i64>>> {
-    let stretches = stretches(order, bound);
     let classes = Classes::of(order);
+    let room = |(from, to)| Room {
+        length: to - from,
+        jobs: order.jobs.iter().map(|job| to <= job.end(bound)).collect(),
+        processors: classes.processors.clone(),
+    };
+    let stretches = stretches(order, bound).into_iter();
+    served(order, &classes, &stretches.map(room).collect::<Vec<Room>>())
+}
+
+/// A stretch as the flow has it: its minutes, which jobs may have some of them, and how many
+/// processors of each class there are for these.
+pub struct Room {
+    pub length: i64,
+    pub jobs: Vec<bool>,
+    pub processors: Vec<i64>,
+}
+
+/// Amounts in any stretches, as above.
+pub fn served(order: &Order, classes: &Classes, rooms: &[Room]) -> Option<Vec<Vec<i64>>> {
     let class_node = |stretch: usize, class: usize| {
         let first = FIRST_JOB + order.jobs.len();
         first + stretch * classes.count() + class
     };
-    let mut network = Network::new(class_node(stretches.len(), 0));
-    let mut arcs = vec![vec![None; order.jobs.len()]; stretches.len()];
-    for (stretch, &(from, to)) in stretches.iter().enumerate() {
+    let mut network = Network::new(class_node(rooms.len(), 0));
+    let mut arcs = vec![vec![None; order.jobs.len()]; rooms.len()];
+    for (stretch, room) in rooms.iter().enumerate() {
         let node = |class| class_node(stretch, class);
-        add_rooms(&mut network, &classes, to - from, node);
+        add_rooms(&mut network, room, node);
         for (number, job) in order.jobs.iter().enumerate() {
-            if to <= job.end(bound) {
-                let arc = network.add(FIRST_JOB + number, node(classes.class(job)), to - from);
+            if room.jobs[number] {
+                let arc = network.add(FIRST_JOB + number, node(classes.class(job)), room.length);
                 arcs[stretch][number] = Some(arc);
             }
         }
@@ -87,12 +105,12 @@ pub fn amounts(order: &Order, bound: i64) -> Option<Vec<Vec<i64>>> {
 
 /// The rooms of one stretch, a chain: what enters at class i goes on through classes i + 1 and so
 /// on to the sink, so the arc that leaves class i carries the amounts of classes 1 to i together.
-fn add_rooms(network: &mut Network, classes: &Classes, length: i64, node: impl Fn(usize) -> usize) {
+fn add_rooms(network: &mut Network, room: &Room, node: impl Fn(usize) -> usize) {
     let mut processors = 0;
-    for class in 0..classes.count() {
-        processors += classes.processors[class];
-        let last = class + 1 == classes.count();
+    for (class, own) in room.processors.iter().enumerate() {
+        processors += own;
+        let last = class + 1 == room.processors.len();
         let onward = if last { SINK } else { node(class + 1) };
-        network.add(node(class), onward, length.saturating_mul(processors));
+        network.add(node(class), onward, room.length.saturating_mul(processors));
     }
 }

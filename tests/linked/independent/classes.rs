@@ -17,12 +17,18 @@ impl Classes {
         memories.sort();
         memories.dedup();
         memories.reverse();
-        let in_class = |class: &u32| order.memories.iter().filter(|m| *m == class).count();
-        let processors = memories.iter().map(|m| in_class(m) as i64).collect();
-        Classes {
+        let mut classes = Classes {
             memories,
-            processors,
-        }
+            processors: Vec::new(),
+        };
+        classes.processors = classes.counts(&order.memories);
+        classes
+    }
+
+    /// How many processors of these memories are in each class.
+    pub fn counts(&self, memories: &[u32]) -> Vec<i64> {
+        let in_class = |class: &u32| memories.iter().filter(|m| *m == class).count() as i64;
+        self.memories.iter().map(in_class).collect()
     }
 
     pub fn count(&self) -> usize {

@@ -26,16 +26,22 @@ pub fn stretches(order: &Order, bound: i64) -> Vec<(i64, i64)> {
 /// The rows of amounts, given by stretch and then by job, stretch by stretch.
 pub fn layout(order: &Order, bound: i64, amounts: &[Vec<i64>]) -> Vec<Vec<Row>> {
     let stretches = stretches(order, bound);
+    let all: Vec<usize> = (0..order.memories.len()).collect();
     let both = stretches.into_iter().zip(amounts);
-    both.map(|(stretch, amounts)| wrap(order, stretch, amounts))
+    both.map(|(stretch, amounts)| wrap(order, &all, stretch, amounts))
         .collect()
 }
 
-/// The rows of one stretch: "processors by falling memory, jobs with an amount by falling need,
-/// ties in input order; fill a processor to the stretch's end, then go on at the next one's
-/// beginning".
-fn wrap(order: &Order, (begin, end): (i64, i64), amounts: &[i64]) -> Vec<Row> {
-    let mut processors: Vec<usize> = (0..order.memories.len()).collect();
+/// The rows of one stretch on these processors, given in input order: "processors by falling memory,
+/// jobs with an amount by falling need, ties in input order; fill a processor to the stretch's end,
+/// then go on at the next one's beginning".
+pub fn wrap(
+    order: &Order,
+    processors: &[usize],
+    (begin, end): (i64, i64),
+    amounts: &[i64],
+) -> Vec<Row> {
+    let mut processors = processors.to_vec();
     processors.sort_by_key(|&processor| Reverse(order.memories[processor]));
     let mut jobs: Vec<usize> = (0..order.jobs.len()).collect();
     jobs.sort_by_key(|&job| Reverse(order.jobs[job].need));

@@ -7,9 +7,9 @@ use crate::draw::damage::{damaged, OF_ORDERS};
 use crate::draw::files::file_of;
 use crate::draw::lengths::{answer_length, room};
 use crate::draw::orders::SMALL_FAMILIES;
-use crate::draw::{books, reasons, Random};
+use crate::draw::{books, reasons, times, Random};
 use crate::expect::reason_numbers;
-use crate::independent::{plan, read, rows_asked, Order, MAKERS};
+use crate::independent::{plan, read, rows_asked, timed_rows_asked, Order, MAKERS};
 use crate::lent::{job_numbers, Call};
 use crate::library::{Function, FUNCTIONS};
 use crate::trial::Trial;
@@ -109,6 +109,14 @@ fn call(random: &mut Random, function: Function, subject: &Subject) -> Call {
     if function == Function::Check {
         let rows = plan(&order, subject.around.least).unwrap_or_default();
         return call.with_rows(random, &rows.concat());
+    }
+    if function.takes_times() {
+        let drawn = times::drawn(random, &order, subject.around.least);
+        let room = room(random, timed_rows_asked(&order, &drawn, bound.into()));
+        let windows = times::window_numbers(&drawn.windows);
+        return call
+            .with_room(random, room)
+            .with_times(random, &drawn.ready, &windows);
     }
     let reason = reasons::standing(random, &order, bound);
     let room = room(random, rows_asked(&order));

@@ -12,13 +12,17 @@ use crate::model::MODEL;
 pub const PARTS: &[&[Wrong]] = &[TAKEN, TOLD, READ];
 
 /// Makers that are let through, each taken for maker 1.
-const TAKEN: &[Wrong] = of_all!(takes:
+type Taken = fn(u32) -> bool;
+type Told = fn(&mut Order, u32);
+type Change = fn(&mut Order);
+
+const TAKEN: &[Wrong] = of_all!(takes, Taken:
     "takes maker 0" => |maker| maker == 0,
     "takes maker 17" => |maker| maker == 17,
     "does not look at makers" => |_| true,
 );
 
-const TOLD: &[Wrong] = of_all!(tells:
+const TOLD: &[Wrong] = of_all!(tells, Told:
     "tells a job that fits no processor before a maker" => |order, told| match told {
         13 => order.jobs.iter_mut().for_each(|job| job.maker = 1),
         _ => {}
@@ -39,7 +43,7 @@ const TOLD: &[Wrong] = of_all!(tells:
 );
 
 /// Other makers read than those that are lent.
-const READ: &[Wrong] = of_all!(remade:
+const READ: &[Wrong] = of_all!(remade, Change:
     "reads a maker in 8 bits" => |order| each(order, |job| job.maker %= 256),
     "reads a maker in 16 bits" => |order| each(order, |job| job.maker %= 65_536),
     "takes a maker for a signed number" => |order| each(order, |job| {
@@ -104,7 +108,7 @@ fn remade(function: Function, call: &mut Call, change: impl Fn(&mut Order)) -> u
 }
 
 /// The call where it tells 13, with the makers that are let through taken for maker 1.
-fn takes(function: Function, call: &mut Call, taken: fn(u32) -> bool) -> u32 {
+fn takes(function: Function, call: &mut Call, taken: Taken) -> u32 {
     let result = MODEL.entry(function)(&mut call.clone());
     if result % 256 != 13 {
         return MODEL.entry(function)(call);
@@ -131,7 +135,7 @@ fn takes(function: Function, call: &mut Call, taken: fn(u32) -> bool) -> u32 {
 
 /// The refusal that the order would have with a change that depends on the one it has; only 13 and 7
 /// are told in place of it.
-fn tells(function: Function, call: &mut Call, change: fn(&mut Order, u32)) -> u32 {
+fn tells(function: Function, call: &mut Call, change: Told) -> u32 {
     let result = MODEL.entry(function)(call);
     let other = match result % 256 {
         5 => remade(function, &mut call.clone(), |order| change(order, 5)),
