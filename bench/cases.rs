@@ -5,6 +5,7 @@ use crate::families::{FAMILIES, ORDERS_EACH};
 use crate::orders::Order;
 use crate::plain;
 use crate::random::Random;
+use crate::timed::Timed;
 
 pub struct Case {
     pub family: &'static str,
@@ -19,10 +20,22 @@ pub struct Case {
     /// the reason one minute below the least lateness, and its line
     pub reason: [i32; 19],
     pub line: Vec<u8>,
+    /// ready minutes and windows, where the case is about these
+    pub times: Option<Timed>,
+}
+
+impl Case {
+    /// The times of a case that has some.
+    pub fn times(&self) -> &Timed {
+        self.times.as_ref().expect("a case with times")
+    }
 }
 
 /// The most rows of a plan, and of a check.
 pub const ROWS_MOST: usize = 3024;
+
+/// The same with ready minutes and windows.
+pub const TIMED_ROWS_MOST: usize = 8064;
 
 /// The most bytes of a line.
 pub const LINE_MOST: usize = 541;
@@ -35,7 +48,7 @@ pub fn draw(seed: u64) -> Vec<Case> {
             let order = (family.draw)(&mut random);
             let mut case = case_of(&order, family.name);
             if number == 0 {
-                let mut rows = cut(&case.plan);
+                let mut rows = cut(&case.plan, ROWS_MOST);
                 random.shuffle(&mut rows);
                 case.long_plan = rows.concat();
             }
@@ -64,6 +77,7 @@ pub fn case_of(order: &Order, family: &'static str) -> Case {
         long_plan: Vec::new(),
         reason,
         line,
+        times: None,
     }
 }
 
@@ -81,15 +95,14 @@ fn told(file: &[u8], bound: i32) -> ([i32; 19], Vec<u8>) {
     (reason, line)
 }
 
-/// Rows are halved, one after the other, until there are as many as a check may have or each is a
-/// minute long.
-fn cut(plan: &[u32]) -> Vec<[u32; 4]> {
+/// Rows are halved, one after the other, until there are so many or each is a minute long.
+pub fn cut(plan: &[u32], most: usize) -> Vec<[u32; 4]> {
     let mut rows: Vec<[u32; 4]> = plan
         .chunks_exact(4)
         .map(|row| [row[0], row[1], row[2], row[3]])
         .collect();
     let mut i = 0;
-    while i < rows.len() && rows.len() < ROWS_MOST {
+    while i < rows.len() && rows.len() < most {
         let [job, processor, from, to] = rows[i];
         let half = from + (to - from) / 2;
         if from < half {

@@ -11,7 +11,7 @@ const BOUND_TOO_TIGHT: u32 = 10;
 const BOOK_FULL: u32 = 14;
 
 /// Tells on which order the answers differ.
-struct At<'a>(usize, &'a Case);
+pub struct At<'a>(pub usize, pub &'a Case);
 
 impl Drop for At<'_> {
     fn drop(&mut self) {
@@ -36,7 +36,7 @@ pub fn compare(place: usize, case: &Case) {
 }
 
 /// The library and its plain build give the same result, rows, book, line and answer.
-fn same_answers(case: &Case, task: Task) {
+pub fn same_answers(case: &Case, task: Task) {
     let mut ours = Buffers::new();
     let mut plain = Buffers::new();
     let result = run(&LIBRARY, task, case, &mut ours);

@@ -13,7 +13,7 @@ pub struct Family {
 pub const ORDERS_EACH: usize = 20;
 
 pub const FAMILIES: [Family; 15] = [
-    family("16 classes", |random| WIDE.draw(random)),
+    family("16 classes", wide),
     family("3 classes", |random| FEW.draw(random)),
     family("one need", one_need),
     family("congested", |random| CONGESTED.draw(random)),
@@ -32,6 +32,11 @@ pub const FAMILIES: [Family; 15] = [
 
 const fn family(name: &'static str, draw: fn(&mut Random) -> Order) -> Family {
     Family { name, draw }
+}
+
+/// The first family.
+pub fn wide(random: &mut Random) -> Order {
+    WIDE.draw(random)
 }
 
 /// Needs spread over all classes, times and due times over a range.

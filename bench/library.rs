@@ -140,3 +140,78 @@ pub fn check(file: &[u8], bound: i32, rows: &[u32], answer: &mut [i32]) -> u32 {
         )
     }
 }
+
+pub fn timed_rows(
+    file: &[u8],
+    bound: i32,
+    ready: &[u32],
+    windows: &[u32],
+    answer: &mut [i32],
+) -> u32 {
+    // SAFETY: as above.
+    unsafe {
+        raw::hbr_timed_rows(
+            file.as_ptr(),
+            file.len(),
+            bound,
+            ready.as_ptr(),
+            ready.len(),
+            windows.as_ptr(),
+            windows.len(),
+            answer.as_mut_ptr(),
+            answer.len(),
+        )
+    }
+}
+
+pub fn timed_plan(
+    file: &[u8],
+    bound: i32,
+    ready: &[u32],
+    windows: &[u32],
+    rows: &mut [u32],
+    answer: &mut [i32],
+) -> u32 {
+    // SAFETY: as above.
+    unsafe {
+        raw::hbr_timed_plan(
+            file.as_ptr(),
+            file.len(),
+            bound,
+            ready.as_ptr(),
+            ready.len(),
+            windows.as_ptr(),
+            windows.len(),
+            rows.as_mut_ptr(),
+            rows.len(),
+            answer.as_mut_ptr(),
+            answer.len(),
+        )
+    }
+}
+
+pub fn timed_check(
+    file: &[u8],
+    bound: i32,
+    ready: &[u32],
+    windows: &[u32],
+    rows: &[u32],
+    answer: &mut [i32],
+) -> u32 {
+    // SAFETY: as above.
+    unsafe {
+        raw::hbr_timed_check(
+            file.as_ptr(),
+            file.len(),
+            bound,
+            ready.as_ptr(),
+            ready.len(),
+            windows.as_ptr(),
+            windows.len(),
+            rows.as_ptr(),
+            rows.len(),
+            answer.as_mut_ptr(),
+            answer.len(),
+        )
+    }
+}

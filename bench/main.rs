@@ -5,6 +5,7 @@
 mod cases;
 mod clock;
 mod compare;
+mod compare_timed;
 mod families;
 #[allow(dead_code)]
 #[path = "../link/highboyrobin.rs"]
@@ -19,12 +20,13 @@ mod random;
 mod report;
 mod slow;
 mod subjects;
+mod timed;
 mod worst;
 
 use cases::Case;
 use clock::Times;
 use families::FAMILIES;
-use subjects::{Task, TASKS};
+use subjects::{Task, TASKS, TIMED_TASKS};
 
 const SEED: u64 = 2;
 
@@ -34,11 +36,17 @@ fn main() {
     for (place, case) in cases.iter().chain(&slow).enumerate() {
         compare::compare(place, case);
     }
+    let timed = timed::draw(SEED);
+    for (place, case) in timed.iter().enumerate() {
+        compare_timed::compare(place, case);
+    }
     println!("{}", origin());
     println!(
-        "{} orders of 48 jobs and {} that are slow to check, all answers equal.",
+        "{} orders of 48 jobs, {} that are slow to check and {} with ready minutes and windows, all answers \
+         equal.",
         cases.len(),
-        slow.len()
+        slow.len(),
+        timed.len()
     );
     println!("{}", clock::manner());
     println!();
@@ -54,6 +62,14 @@ fn main() {
     let slow: Vec<&Case> = slow.iter().collect();
     let times = clock::time(Task::CheckLong, &slow);
     report::row("check of 3,024 shuffled rows of one minute", &times);
+    let mut timed_plans = Vec::new();
+    for (task, name) in TIMED_TASKS {
+        let times = clock::time(task, &with_task(task, &timed));
+        report::row(name, &times);
+        if let Task::TimedPlan = task {
+            timed_plans = times;
+        }
+    }
     println!();
     report::head("least lateness with a plan, by family");
     for family in &FAMILIES {
@@ -64,12 +80,21 @@ fn main() {
         let times: Vec<Times> = of_family.map(|(_, times)| *times).collect();
         report::row(family.name, &times);
     }
+    println!();
+    report::head("plan at the least bound, with times, by family");
+    for family in [timed::DRAWN, timed::FULL] {
+        let both = timed.iter().zip(&timed_plans);
+        let of_family = both.filter(|(case, _)| case.family == family);
+        let times: Vec<Times> = of_family.map(|(_, times)| *times).collect();
+        report::row(family, &times);
+    }
 }
 
 /// The cases that have a task.
 fn with_task(task: Task, cases: &[Case]) -> Vec<&Case> {
     let has_task = |case: &&Case| match task {
         Task::CheckLong => !case.long_plan.is_empty(),
+        Task::TimedCheckLong => !case.times().long_plan.is_empty(),
         _ => true,
     };
     cases.iter().filter(has_task).collect()

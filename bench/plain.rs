@@ -1,5 +1,5 @@
 //! The library's method in plain Rust, for the benchmark to compare with: the same algorithms,
-//! tables and passes, each value computed once and handed on by reference. Nine functions of the
+//! tables and passes, each value computed once and handed on by reference. Twelve functions of the
 //! C interface, with the same results.
 
 mod amounts;
@@ -14,6 +14,7 @@ mod setting;
 mod stairs;
 mod standing;
 mod text;
+mod times;
 mod wrap;
 
 use amounts::Amounts;
@@ -21,9 +22,11 @@ use book::Book;
 use order::{Order, Refusal};
 use setting::Setting;
 use stairs::Reason;
+use times::{Always, Given, Times, MOST_TIMES};
 
 const BOUND_MOST: i32 = 10_000_000;
-const NUMBERS_MOST: usize = 4 * 3024;
+const ROWS_MOST: usize = 3024;
+const TIMED_ROWS_MOST: usize = 8064;
 
 const BOUND_OUT_OF_RANGE: Refusal = Refusal::plain(8);
 const BUFFER_TOO_SHORT: Refusal = Refusal::plain(9);
@@ -32,6 +35,7 @@ const TOO_MANY_ROWS: Refusal = Refusal::plain(11);
 const BOOK_FULL: Refusal = Refusal::plain(14);
 const SHORT_BOOK: Refusal = Refusal::plain(253);
 const SHORT_REASON: Refusal = Refusal::plain(253);
+const WRONG_TIMES: Refusal = Refusal::plain(253);
 const SHORT_ANSWER: Refusal = Refusal::plain(255);
 
 /// Judges an order file: processors, jobs, rows that a plan may have.
@@ -91,6 +95,41 @@ pub fn check(file: &[u8], bound: i32, rows: &[u32], answer: &mut [i32]) -> u32 {
     code(try_check(file, bound, rows, answer))
 }
 
+/// How many rows `timed_plan` asks for.
+pub fn timed_rows(
+    file: &[u8],
+    bound: i32,
+    ready: &[u32],
+    windows: &[u32],
+    answer: &mut [i32],
+) -> u32 {
+    code(try_timed_rows(file, bound, ready, windows, answer))
+}
+
+/// A plan in `rows` that meets the bound and keeps ready minutes and windows: the number of rows.
+pub fn timed_plan(
+    file: &[u8],
+    bound: i32,
+    ready: &[u32],
+    windows: &[u32],
+    rows: &mut [u32],
+    answer: &mut [i32],
+) -> u32 {
+    code(try_timed_plan(file, bound, ready, windows, rows, answer))
+}
+
+/// Whether rows are such a plan: 1 for yes, 0 for no.
+pub fn timed_check(
+    file: &[u8],
+    bound: i32,
+    ready: &[u32],
+    windows: &[u32],
+    rows: &[u32],
+    answer: &mut [i32],
+) -> u32 {
+    code(try_timed_check(file, bound, ready, windows, rows, answer))
+}
+
 /// 0, or the refusal's number and 256 times the job that it is about.
 fn code(outcome: Result<(), Refusal>) -> u32 {
     match outcome {
@@ -124,10 +163,10 @@ fn ask_rows(order: &Order, setting: &Setting, rows: &[u32]) -> Result<(), Refusa
     Ok(())
 }
 
-/// The rows that a plan may have: for each distinct due time as many as there are jobs and
-/// processors, less one.
-fn rows_asked(order: &Order, due_count: usize) -> usize {
-    due_count * (order.job_count + order.processor_count - 1)
+/// The rows that a plan may have: for each distinct due time, or for each distinct time, as many as
+/// there are jobs and processors, less one.
+fn rows_asked(order: &Order, count: usize) -> usize {
+    count * (order.job_count + order.processor_count - 1)
 }
 
 fn try_judge(file: &[u8], answer: &mut [i32]) -> Result<(), Refusal> {
@@ -211,13 +250,24 @@ fn ask_loose(order: &Order, setting: &Setting, bound: i32) -> Result<(), Refusal
 
 /// A plan where there is no reason against the bound; answers how many rows it has.
 fn make_plan(order: &Order, setting: &Setting, bound: i32, rows: &mut [u32]) -> usize {
-    let mut ends = [0; order::MOST_JOBS];
-    setting.put_ends(setting::reach_of(bound), &mut ends);
-    let ends = &ends[..setting.due_count];
-    let mut amounts = Amounts::start(order, setting, bound, ends);
+    let marks = setting.marks(setting::reach_of(bound));
+    let marks = &marks[..setting.due_count + 1];
+    let times = Always { order, bound };
+    let planned = fill_and_lay::<{ order::MOST_JOBS }>(order, setting, &times, marks, rows);
+    planned.unwrap_or(0)
+}
+
+/// The plan in stretches between marks, at most Q of them; nothing where there is none.
+fn fill_and_lay<const Q: usize>(
+    order: &Order,
+    setting: &Setting,
+    times: &impl Times,
+    marks: &[u32],
+    rows: &mut [u32],
+) -> Option<usize> {
+    let mut amounts = Amounts::<Q>::start(order, setting, times, marks);
     let filled = amounts.fill(&mut ());
-    debug_assert!(filled);
-    wrap::lay(order, setting, ends, &amounts, rows)
+    filled.then(|| wrap::lay(order, setting, times, marks, &amounts, rows))
 }
 
 fn try_reason(file: &[u8], bound: i32, answer: &mut [i32]) -> Result<(), Refusal> {
@@ -276,9 +326,96 @@ fn try_check(file: &[u8], bound: i32, rows: &[u32], answer: &mut [i32]) -> Resul
     ask_answer(answer, 1)?;
     let order = read::read(file)?;
     ask_bound(bound)?;
-    if NUMBERS_MOST < rows.len() {
+    if 4 * ROWS_MOST < rows.len() {
         return Err(TOO_MANY_ROWS);
     }
-    answer[0] = check::right(&order, bound, rows) as i32;
+    let order = &order;
+    let times = Always { order, bound };
+    answer[0] = check::right::<ROWS_MOST>(order, &times, rows) as i32;
+    Ok(())
+}
+
+/// A ready minute to each job of the file, two numbers to each processor.
+fn ask_lengths(file: &[u8], ready: &[u32], windows: &[u32]) -> Result<(), Refusal> {
+    let (processors, jobs) = read::counts(file)?;
+    if ready.len() != jobs || windows.len() != 2 * processors {
+        return Err(WRONG_TIMES);
+    }
+    Ok(())
+}
+
+fn try_timed_rows(
+    file: &[u8],
+    bound: i32,
+    ready: &[u32],
+    windows: &[u32],
+    answer: &mut [i32],
+) -> Result<(), Refusal> {
+    ask_answer(answer, 1)?;
+    ask_lengths(file, ready, windows)?;
+    let order = &read::read(file)?;
+    let times = given(order, bound, ready, windows)?;
+    answer[0] = rows_asked(order, times.marks().count()) as i32;
+    Ok(())
+}
+
+/// The times of an accepted order, where they and the bound are in range.
+fn given<'a>(
+    order: &'a Order,
+    bound: i32,
+    ready: &'a [u32],
+    windows: &'a [u32],
+) -> Result<Given<'a>, Refusal> {
+    let times = Given {
+        order,
+        bound,
+        ready,
+        windows,
+    };
+    times.accept()?;
+    ask_bound(bound)?;
+    Ok(times)
+}
+
+fn try_timed_plan(
+    file: &[u8],
+    bound: i32,
+    ready: &[u32],
+    windows: &[u32],
+    rows: &mut [u32],
+    answer: &mut [i32],
+) -> Result<(), Refusal> {
+    ask_answer(answer, 1)?;
+    ask_lengths(file, ready, windows)?;
+    let order = &read::read(file)?;
+    let times = given(order, bound, ready, windows)?;
+    let marks = times.marks();
+    if rows.len() / 4 < rows_asked(order, marks.count()) {
+        return Err(BUFFER_TOO_SHORT);
+    }
+    let setting = Setting::of(order);
+    let cut_off = marks.cut_off();
+    let cut_off = &cut_off[..marks.count()];
+    let planned = fill_and_lay::<MOST_TIMES>(order, &setting, &times, cut_off, rows);
+    answer[0] = planned.ok_or(BOUND_TOO_TIGHT)? as i32;
+    Ok(())
+}
+
+fn try_timed_check(
+    file: &[u8],
+    bound: i32,
+    ready: &[u32],
+    windows: &[u32],
+    rows: &[u32],
+    answer: &mut [i32],
+) -> Result<(), Refusal> {
+    ask_answer(answer, 1)?;
+    ask_lengths(file, ready, windows)?;
+    let order = &read::read(file)?;
+    let times = given(order, bound, ready, windows)?;
+    if 4 * TIMED_ROWS_MOST < rows.len() {
+        return Err(TOO_MANY_ROWS);
+    }
+    answer[0] = check::right::<TIMED_ROWS_MOST>(order, &times, rows) as i32;
     Ok(())
 }

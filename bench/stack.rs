@@ -1,5 +1,6 @@
 //! The stack that each call takes, in bytes: every call runs on a stack of its own, and the lowest byte that it changed is looked
-//! up. All drawn orders of the benchmark; calls that succeed and calls that are refused, at several bounds.
+//! up. All drawn orders of the benchmark, those with ready minutes and windows too; calls that succeed and calls that are refused,
+//! at several bounds.
 
 #[allow(dead_code)]
 mod cases;
@@ -12,11 +13,14 @@ mod orders;
 #[allow(dead_code)]
 mod plain;
 mod random;
+#[allow(dead_code)]
+mod timed;
 mod worst;
 
-use cases::{Case, LINE_MOST, ROWS_MOST};
+use cases::{Case, LINE_MOST, ROWS_MOST, TIMED_ROWS_MOST};
 use highboyrobin::{raw, MOST_BYTES, MOST_MAKERS};
 use std::arch::asm;
+use timed::Timed;
 
 const SEED: u64 = 2;
 
@@ -35,8 +39,23 @@ const PLAN: Function = function("hbr_plan", raw::hbr_plan as *const ());
 const LEAST: Function = function("hbr_least", raw::hbr_least as *const ());
 const BOOK_PLAN: Function = function("hbr_book_plan", raw::hbr_book_plan as *const ());
 const BOOK_LEAST: Function = function("hbr_book_least", raw::hbr_book_least as *const ());
-const FUNCTIONS: [Function; 10] = [
-    WRITE, JUDGE, CHECK, PARSE, SENTENCE, REASON, PLAN, LEAST, BOOK_PLAN, BOOK_LEAST,
+const TIMED_ROWS: Function = function("hbr_timed_rows", raw::hbr_timed_rows as *const ());
+const TIMED_CHECK: Function = function("hbr_timed_check", raw::hbr_timed_check as *const ());
+const TIMED_PLAN: Function = function("hbr_timed_plan", raw::hbr_timed_plan as *const ());
+const FUNCTIONS: [Function; 13] = [
+    WRITE,
+    JUDGE,
+    CHECK,
+    PARSE,
+    SENTENCE,
+    REASON,
+    PLAN,
+    LEAST,
+    BOOK_PLAN,
+    BOOK_LEAST,
+    TIMED_ROWS,
+    TIMED_CHECK,
+    TIMED_PLAN,
 ];
 
 const fn function(name: &'static str, address: *const ()) -> Function {
@@ -53,7 +72,7 @@ struct Call {
 
 const IN_REGISTERS: usize = 6;
 
-const STACK_BYTES: usize = 1 << 17;
+const STACK_BYTES: usize = 1 << 18;
 
 #[repr(align(16))]
 struct Stack([u8; STACK_BYTES]);
@@ -262,6 +281,57 @@ fn parse_calls(case: &Case, lent: &mut Lent) -> Vec<Call> {
     given.map(call).into()
 }
 
+/// Ready minutes out of range, and windows that close as they open.
+static LATE: [u32; 48] = [u32::MAX; 48];
+static SHUT: [u32; 32] = [7; 32];
+
+/// The times of a case: how many rows, plans at several bounds, row lists to check; then refusals.
+fn timed_calls(case: &Case, lent: &mut Lent) -> Vec<Call> {
+    let Timed {
+        least,
+        bound,
+        ready,
+        windows,
+        plan,
+        long_plan,
+        ..
+    } = case.times();
+    let file = &case.file[..];
+    let (late, shut) = (&LATE[..ready.len()], &SHUT[..windows.len()]);
+    let given: [(&[u8], i32, &[u32], &[u32], u32); 11] = [
+        (file, *bound, ready, windows, 0),
+        (file, *least, ready, windows, 0),
+        (file, bound + 100, ready, windows, 0),
+        (file, 10_000_000, ready, windows, 0),
+        (file, least - 1, ready, windows, 10),
+        (file, -10_000_000, ready, windows, 10),
+        (file, 10_000_001, ready, windows, 8),
+        (file, *bound, ready, shut, 16 + 256),
+        (file, *bound, late, shut, 15 + 256),
+        (file, *bound, &ready[1..], windows, 253),
+        (&file[1..], *bound, ready, windows, 12),
+    ];
+    let answer = lend(&mut lent.answer);
+    let (rows, no_rows) = (lend(&mut lent.rows), lend(&mut lent.rows[..3]));
+    let mut calls = Vec::new();
+    for (file, bound, ready, windows, result) in given {
+        let times = [read(file), number(bound), read(ready), read(windows)].concat();
+        let asked = [times.clone(), answer.clone()];
+        let of_rows = if result == 10 { 0 } else { result };
+        calls.push(Call::of(TIMED_ROWS, &asked, of_rows));
+        let arguments = [times.clone(), rows.clone(), answer.clone()];
+        calls.push(Call::of(TIMED_PLAN, &arguments, result));
+        let arguments = [times.clone(), no_rows.clone(), answer.clone()];
+        let of_room = if matches!(result, 0 | 10) { 9 } else { result };
+        calls.push(Call::of(TIMED_PLAN, &arguments, of_room));
+        for list in [plan, long_plan, &plan[4..]] {
+            let arguments = [times.clone(), read(list), answer.clone()];
+            calls.push(Call::of(TIMED_CHECK, &arguments, of_rows));
+        }
+    }
+    calls
+}
+
 /// The numbers of both lists of an order file.
 fn lists(file: &[u8]) -> Vec<u32> {
     let lists = file[..file.len() - 12].chunks_exact(4);
@@ -274,7 +344,7 @@ fn main() {
     let mut stack = Box::new(Stack([0; STACK_BYTES]));
     let mut lent = Lent {
         file: vec![0; MOST_BYTES],
-        rows: vec![0; 4 * ROWS_MOST],
+        rows: vec![0; 4 * TIMED_ROWS_MOST],
         line: vec![0; LINE_MOST],
         book: vec![0; MOST_MAKERS],
         full: vec![u32::MAX; MOST_MAKERS],
@@ -283,6 +353,11 @@ fn main() {
     let mut depths = Vec::new();
     for case in cases::draw(SEED) {
         for call in calls(&case, &lists(&case.file), &mut lent) {
+            depths.push((call.function.name, call.depth(&mut stack)));
+        }
+    }
+    for case in timed::draw(SEED) {
+        for call in timed_calls(&case, &mut lent) {
             depths.push((call.function.name, call.depth(&mut stack)));
         }
     }

@@ -13,6 +13,7 @@ mod order;
 mod orders;
 #[allow(dead_code)]
 mod random;
+#[allow(dead_code)]
 #[path = "plain/read.rs"]
 mod read;
 #[allow(dead_code)]
@@ -21,6 +22,9 @@ mod setting;
 #[allow(dead_code)]
 #[path = "plain/stairs.rs"]
 mod stairs;
+#[allow(dead_code)]
+#[path = "plain/times.rs"]
+mod times;
 mod worst;
 #[path = "plain/wrap.rs"]
 mod wrap;
@@ -30,6 +34,7 @@ use highboyrobin::Row;
 use orders::{Job, Order};
 use random::Random;
 use setting::Setting;
+use times::Always;
 
 const SEED: u64 = 2;
 const ORDERS_EACH: usize = 20;
@@ -62,15 +67,16 @@ fn steps(file: &[u8]) -> (Steps, [usize; 3]) {
     };
     let setting = Setting::of(&order);
     let reach = stairs::least_reach(&order, &setting);
-    let mut ends = [0; order::MOST_JOBS];
-    setting.put_ends(reach, &mut ends);
-    let ends = &ends[..setting.due_count];
+    let marks = setting.marks(reach);
+    let marks = &marks[..setting.due_count + 1];
     let bound = setting::bound_of(reach);
-    let mut amounts = Amounts::start(&order, &setting, bound, ends);
+    let order = &order;
+    let times = Always { order, bound };
+    let mut amounts = Amounts::<{ order::MOST_JOBS }>::start(order, &setting, &times, marks);
     let mut steps = Steps::default();
     assert!(amounts.fill(&mut steps), "an order is not filled");
     let mut rows = vec![0; 4 * highboyrobin::MOST_ROWS];
-    let count = wrap::lay(&order, &setting, ends, &amounts, &mut rows);
+    let count = wrap::lay(order, &setting, &times, marks, &amounts, &mut rows);
     compare(file, bound, &rows[..4 * count]);
     let sizes = [order.job_count, setting.due_count, order.processor_count];
     (steps, sizes)

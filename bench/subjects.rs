@@ -1,8 +1,9 @@
 //! The three implementations that are compared, each behind a function that does one task on one
 //! case.
 
-use crate::cases::{Case, LINE_MOST, ROWS_MOST};
-use crate::independent::MAKERS;
+use crate::cases::{Case, LINE_MOST, TIMED_ROWS_MOST};
+use crate::independent::{Order, Times, MAKERS};
+use crate::timed::Timed;
 use crate::{independent, library, numbers, plain};
 use std::hint::black_box;
 
@@ -17,6 +18,9 @@ pub struct Functions {
     pub sentence: fn(&[u8], i32, &[i32], &mut [u8], &mut [i32]) -> u32,
     pub parse: fn(&[u8], i32, &[u8], &mut [i32]) -> u32,
     pub check: fn(&[u8], i32, &[u32], &mut [i32]) -> u32,
+    pub timed_rows: fn(&[u8], i32, &[u32], &[u32], &mut [i32]) -> u32,
+    pub timed_plan: fn(&[u8], i32, &[u32], &[u32], &mut [u32], &mut [i32]) -> u32,
+    pub timed_check: fn(&[u8], i32, &[u32], &[u32], &[u32], &mut [i32]) -> u32,
 }
 
 pub const LIBRARY: Functions = Functions {
@@ -29,6 +33,9 @@ pub const LIBRARY: Functions = Functions {
     sentence: library::sentence,
     parse: library::parse,
     check: library::check,
+    timed_rows: library::timed_rows,
+    timed_plan: library::timed_plan,
+    timed_check: library::timed_check,
 };
 
 pub const PLAIN: Functions = Functions {
@@ -41,6 +48,9 @@ pub const PLAIN: Functions = Functions {
     sentence: plain::sentence,
     parse: plain::parse,
     check: plain::check,
+    timed_rows: plain::timed_rows,
+    timed_plan: plain::timed_plan,
+    timed_check: plain::timed_check,
 };
 
 #[derive(Clone, Copy)]
@@ -56,6 +66,10 @@ pub enum Task {
     Parse,
     Check,
     CheckLong,
+    TimedRows,
+    TimedPlan,
+    TimedCheck,
+    TimedCheckLong,
 }
 
 pub const TASKS: [(Task, &str); 11] = [
@@ -72,6 +86,17 @@ pub const TASKS: [(Task, &str); 11] = [
     (Task::CheckLong, "check of it in 3,024 shuffled rows"),
 ];
 
+/// The tasks of cases with ready minutes and windows.
+pub const TIMED_TASKS: [(Task, &str); 4] = [
+    (Task::TimedRows, "rows asked for, with times"),
+    (Task::TimedPlan, "plan at the least bound, with times"),
+    (Task::TimedCheck, "check of that plan, with times"),
+    (
+        Task::TimedCheckLong,
+        "check of it in 8,064 shuffled rows, with times",
+    ),
+];
+
 /// What a call writes to, never cleared between calls but for the book, which each call is given just
 /// opened.
 pub struct Buffers {
@@ -84,7 +109,7 @@ pub struct Buffers {
 impl Buffers {
     pub fn new() -> Buffers {
         Buffers {
-            rows: vec![0; 4 * ROWS_MOST],
+            rows: vec![0; 4 * TIMED_ROWS_MOST],
             book: [0; MAKERS],
             line: vec![0; LINE_MOST],
             answer: [0; 19],
@@ -114,6 +139,32 @@ pub fn run(functions: &Functions, task: Task, case: &Case, buffers: &mut Buffers
         Task::Parse => (functions.parse)(file, tight, &case.line, answer),
         Task::Check => (functions.check)(file, case.least, &case.plan, answer),
         Task::CheckLong => (functions.check)(file, case.least, &case.long_plan, answer),
+        _ => run_timed(functions, task, case, rows, answer),
+    }
+}
+
+/// A task with ready minutes and windows.
+fn run_timed(
+    functions: &Functions,
+    task: Task,
+    case: &Case,
+    rows: &mut [u32],
+    answer: &mut [i32],
+) -> u32 {
+    let Timed {
+        bound,
+        ready,
+        windows,
+        plan,
+        long_plan,
+        ..
+    } = case.times();
+    let (file, bound) = (black_box(&case.file[..]), *bound);
+    match task {
+        Task::TimedRows => (functions.timed_rows)(file, bound, ready, windows, answer),
+        Task::TimedPlan => (functions.timed_plan)(file, bound, ready, windows, rows, answer),
+        Task::TimedCheck => (functions.timed_check)(file, bound, ready, windows, plan, answer),
+        _ => (functions.timed_check)(file, bound, ready, windows, long_plan, answer),
     }
 }
 
@@ -154,6 +205,28 @@ pub fn run_independent(task: Task, case: &Case) {
         Task::CheckLong => {
             let rows = &case.long_plan;
             black_box(independent::right(&order, case.least.into(), rows));
+        }
+        _ => run_independent_timed(task, case, &order),
+    }
+}
+
+fn run_independent_timed(task: Task, case: &Case, order: &Order) {
+    let given = case.times();
+    let Some(times) = Times::of(order, &given.ready, &given.windows) else {
+        return;
+    };
+    let bound = given.bound.into();
+    let check = |rows: &[u32]| independent::timed_right(order, &times, bound, rows);
+    match task {
+        Task::TimedRows => {
+            black_box(independent::timed_rows_asked(order, &times, bound));
+        }
+        Task::TimedPlan => drop(black_box(independent::timed_plan(order, &times, bound))),
+        Task::TimedCheck => {
+            black_box(check(&given.plan));
+        }
+        _ => {
+            black_box(check(&given.long_plan));
         }
     }
 }

@@ -1,22 +1,23 @@
 //! How many minutes of each job go into each stretch: push and relabel over jobs. An idle job,
 //! behind the last, holds what nobody holds in a stretch; a job displaces jobs one height below it.
 
-use super::order::{self, Order, MOST_JOBS, MOST_PROCESSORS};
+use super::order::{Order, MOST_JOBS, MOST_PROCESSORS};
 use super::setting::Setting;
+use super::times::Times;
 
 const ROOMS: usize = MOST_PROCESSORS + 1;
 
-/// Of n jobs, q stretches and m - 1 classes.
-pub struct Amounts {
+/// Of n jobs, q stretches, of which there are at most Q, and m - 1 classes.
+pub struct Amounts<const Q: usize> {
     n: usize,
     q: usize,
     m: usize,
     class: [usize; MOST_JOBS + 1],
-    /// a row of q for each job: what it may have of a stretch, and what it has
-    cap: [u32; MOST_JOBS * MOST_JOBS],
-    held: [u32; (MOST_JOBS + 1) * MOST_JOBS],
-    /// a row of m for each stretch: what the first 0, 1, 2, .. classes could still have of it
-    slack: [u32; MOST_JOBS * ROOMS],
+    /// a row for each job: what it may have of a stretch, and what it has
+    cap: [[u32; Q]; MOST_JOBS],
+    held: [[u32; Q]; MOST_JOBS + 1],
+    /// a row for each stretch: what the first 0, 1, 2, .. classes could still have of it
+    slack: [[u32; ROOMS]; Q],
     /// what is not yet held of each job
     left: [u32; MOST_JOBS + 1],
     height: [usize; MOST_JOBS + 1],
@@ -38,62 +39,70 @@ enum Move {
     Rise,
 }
 
-impl Amounts {
-    /// All of every job is left, and the idle job holds every stretch.
-    pub fn start(order: &Order, setting: &Setting, bound: i32, ends: &[u32]) -> Amounts {
+impl<const Q: usize> Amounts<Q> {
+    /// All of every job is left, and the idle job holds every stretch. A stretch lies between a mark and
+    /// the next one.
+    pub fn start(
+        order: &Order,
+        setting: &Setting,
+        times: &impl Times,
+        marks: &[u32],
+    ) -> Amounts<Q> {
         let mut amounts = Amounts {
             n: order.job_count,
-            q: ends.len(),
+            q: marks.len() - 1,
             m: setting.class_count + 1,
             class: [0; MOST_JOBS + 1],
-            cap: [0; MOST_JOBS * MOST_JOBS],
-            held: [0; (MOST_JOBS + 1) * MOST_JOBS],
-            slack: [0; MOST_JOBS * ROOMS],
+            cap: [[0; Q]; MOST_JOBS],
+            held: [[0; Q]; MOST_JOBS + 1],
+            slack: [[0; ROOMS]; Q],
             left: [0; MOST_JOBS + 1],
             height: [1; MOST_JOBS + 1],
         };
-        amounts.put_jobs(order, setting, bound, ends);
-        amounts.put_rooms(setting, ends);
+        amounts.put_jobs(order, setting, times, marks);
+        amounts.put_rooms(setting, times, marks);
         amounts
     }
 
-    /// A job may have a whole stretch that ends by its deadline, and nothing of a later one.
-    fn put_jobs(&mut self, order: &Order, setting: &Setting, bound: i32, ends: &[u32]) {
+    /// A job may have a whole stretch that begins when it is there and ends by its deadline, and nothing
+    /// of any other.
+    fn put_jobs(&mut self, order: &Order, setting: &Setting, times: &impl Times, marks: &[u32]) {
         for (j, job) in order.jobs().iter().enumerate() {
             self.class[j] = setting.classes[j];
             self.left[j] = job.time;
-            let deadline = order::deadline(job.due, bound);
-            let mut start = 0;
-            for (cap, &end) in self.cap[j * self.q..].iter_mut().zip(ends) {
-                if end <= deadline {
-                    *cap = end - start;
+            let (ready, deadline) = times.span(j);
+            for (cap, mark) in self.cap[j].iter_mut().zip(marks.windows(2)) {
+                if ready <= mark[0] && mark[1] <= deadline {
+                    *cap = mark[1] - mark[0];
                 }
-                start = end;
             }
         }
         self.class[self.n] = self.m;
         self.height[self.n] = 0;
     }
 
-    /// The room of a stretch for no class, for the first, for the first two, ..; the idle job holds
-    /// the last of them.
-    fn put_rooms(&mut self, setting: &Setting, ends: &[u32]) {
-        let mut start = 0;
-        for (s, &end) in ends.iter().enumerate() {
-            let rooms = &mut self.slack[s * self.m..][..self.m];
-            let mut processors = 0;
-            for (k, room) in rooms.iter_mut().enumerate().skip(1) {
-                processors += setting.processors[k - 1];
-                *room = processors * (end - start);
+    /// The room of a stretch for no class, for the first, for the first two, .., on the processors that
+    /// are open; the idle job holds the last of them.
+    fn put_rooms(&mut self, setting: &Setting, times: &impl Times, marks: &[u32]) {
+        for (s, mark) in marks.windows(2).enumerate() {
+            let (start, end) = (mark[0], mark[1]);
+            let rooms = &mut self.slack[s][..self.m];
+            let mut by_memory = setting.by_memory.iter();
+            let mut open = 0;
+            for (room, &processors) in rooms[1..].iter_mut().zip(&setting.processors) {
+                let of_class = by_memory.by_ref().take(processors as usize);
+                open += of_class
+                    .map(|&processor| u32::from(times.open(processor, start, end)))
+                    .sum::<u32>();
+                *room = open * (end - start);
             }
-            self.held[self.n * self.q + s] = rooms[self.m - 1];
-            start = end;
+            self.held[self.n][s] = rooms[self.m - 1];
         }
     }
 
     /// The minutes of job j in stretch s.
     pub fn of(&self, j: usize, s: usize) -> u32 {
-        self.held[j * self.q + s]
+        self.held[j][s]
     }
 
     /// True where nothing is left of any job, false where there is no way.
@@ -133,8 +142,7 @@ impl Amounts {
     /// A step of job j in the stretches below one, from the last to the first.
     fn find(&self, j: usize, below: usize, watch: &mut impl Watch) -> Move {
         for stretch in (0..below).rev() {
-            let at = j * self.q + stretch;
-            if self.held[at] < self.cap[at] {
+            if self.held[j][stretch] < self.cap[j][stretch] {
                 watch.look();
                 let tight = self.tight_class(stretch, self.class[j]);
                 if let Some(other) = self.aim(stretch, tight, self.height[j]) {
@@ -147,7 +155,7 @@ impl Amounts {
 
     /// The first class from c on that has no slack in a stretch.
     fn tight_class(&self, stretch: usize, c: usize) -> usize {
-        let slacks = &self.slack[stretch * self.m..][..self.m];
+        let slacks = &self.slack[stretch][..self.m];
         slacks[c..]
             .iter()
             .position(|&slack| slack == 0)
@@ -158,21 +166,17 @@ impl Amounts {
     /// down to the first.
     fn aim(&self, stretch: usize, tight: usize, height: usize) -> Option<usize> {
         (0..=self.n).rev().find(|&i| {
-            self.height[i] + 1 == height
-                && self.class[i] <= tight
-                && 0 < self.held[i * self.q + stretch]
+            self.height[i] + 1 == height && self.class[i] <= tight && 0 < self.held[i][stretch]
         })
     }
 
     /// Job j displaces job i in a stretch by the most that it can.
     fn push(&mut self, j: usize, stretch: usize, i: usize) {
-        let up = j * self.q + stretch;
-        let down = i * self.q + stretch;
-        let slacks = &mut self.slack[stretch * self.m..][..self.m];
+        let slacks = &mut self.slack[stretch][..self.m];
         let (c, e) = (self.class[j], self.class[i]);
         let mut minutes = self.left[j]
-            .min(self.cap[up] - self.held[up])
-            .min(self.held[down]);
+            .min(self.cap[j][stretch] - self.held[j][stretch])
+            .min(self.held[i][stretch]);
         if c < e {
             for &slack in &slacks[c..e] {
                 minutes = minutes.min(slack);
@@ -185,8 +189,8 @@ impl Amounts {
                 *slack += minutes;
             }
         }
-        self.held[up] += minutes;
-        self.held[down] -= minutes;
+        self.held[j][stretch] += minutes;
+        self.held[i][stretch] -= minutes;
         self.left[i] += minutes;
         self.left[j] -= minutes;
     }

@@ -31,8 +31,8 @@ impl Refusal {
         Refusal { number, job: 0 }
     }
 
-    /// A refusal about the job at a place, counted from 0.
-    fn about(number: u32, place: usize) -> Refusal {
+    /// A refusal about the job, or the processor, at a place, counted from 0.
+    pub fn about(number: u32, place: usize) -> Refusal {
         let job = place as u32 + 1;
         Refusal { number, job }
     }

@@ -46,6 +46,12 @@ fn trailer(file: &[u8]) -> Option<Trailer> {
     })
 }
 
+/// How many processors and jobs a file has, whatever these are.
+pub fn counts(file: &[u8]) -> Result<(usize, usize), Refusal> {
+    let trailer = trailer(file).ok_or(BAD_FILE)?;
+    Ok((trailer.processors, trailer.jobs))
+}
+
 pub fn read(file: &[u8]) -> Result<Order, Refusal> {
     let trailer = trailer(file).ok_or(BAD_FILE)?;
     order::accept_counts(trailer.processors, trailer.jobs)?;

@@ -1,4 +1,4 @@
-//! McNaughton's wrap: the rows of a plan from amounts. Processors by falling memory, jobs by
+//! McNaughton's wrap: the rows of a plan from amounts. Open processors by falling memory, jobs by
 //! falling need, ties in input order; a processor is filled to the stretch's end, then the next one
 //! from its beginning. Where a job ends a stretch on a processor and opens the next stretch on that
 //! processor, it has one row.
@@ -6,6 +6,7 @@
 use super::amounts::Amounts;
 use super::order::{Order, MOST_PROCESSORS};
 use super::setting::Setting;
+use super::times::Times;
 
 /// Where the next share goes on: the place in the processor order, the minute.
 struct Place {
@@ -44,21 +45,29 @@ impl Written<'_> {
 }
 
 /// The rows of all stretches, from row 0 on; answers how many there are.
-pub fn lay(
+pub fn lay<const Q: usize>(
     order: &Order,
     setting: &Setting,
-    ends: &[u32],
-    amounts: &Amounts,
+    times: &impl Times,
+    marks: &[u32],
+    amounts: &Amounts<Q>,
     rows: &mut [u32],
 ) -> usize {
-    let processors = &setting.by_memory[..order.processor_count];
+    let by_memory = &setting.by_memory[..order.processor_count];
     let mut written = Written {
         rows,
         count: 0,
         last: [0; MOST_PROCESSORS],
     };
-    let mut start = 0;
-    for (s, &end) in ends.iter().enumerate() {
+    for (s, mark) in marks.windows(2).enumerate() {
+        let (start, end) = (mark[0], mark[1]);
+        let mut processors = [0; MOST_PROCESSORS];
+        let mut open = 0;
+        for &processor in by_memory {
+            processors[open] = processor;
+            open += usize::from(times.open(processor, start, end));
+        }
+        let processors = &processors[..open];
         let mut place = Place {
             processor: 0,
             minute: start,
@@ -67,7 +76,6 @@ pub fn lay(
             let minutes = amounts.of(j, s);
             lay_share(&mut written, processors, start, end, &mut place, j, minutes);
         }
-        start = end;
     }
     written.count
 }
