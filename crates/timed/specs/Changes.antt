@@ -34,7 +34,7 @@ timedRowsAsked o bound t = changeCount o bound t * (jobCount o + processorCount 
 unfoldable pub markAt : List ℤ → ℕ → ℕ
 markAt times s = nth (map cut times) s 0
 
--- "Its stretches lie between those times": the frame of the timed planner. Its first stretch ends at the first of those times; no processor
--- is open in it and no job is ready, so it holds no row. Where ends are cut off at 0 stretches of no length lie there.
+-- "Its stretches lie between those times": the frame of the timed planner. Its first stretch reaches from minute 0 to the first of those
+-- times; it has no length or no processor is open in it, so it holds no row. Where ends are cut off at 0 stretches have no length.
 abbrev pub timedFrame : Order → ℤ → Times → Frame
 timedFrame o bound t = frameAt o bound t (changeCount o bound t) (markAt (reverse (changeTimes o bound t)))
