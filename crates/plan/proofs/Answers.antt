@@ -20,7 +20,7 @@ use Rattle.order.specs.declared.Acceptance.{Acceptance}
 use Rattle.order.specs.declared.Acceptance.the-variants.{Refused}
 use Rattle.plan.specs.Check.{rowsOf, every, everyTwo, noOverlap, wholeJob, isRight, checkRows}
 use Rattle.plan.specs.CheckLaws.{check-judges}
-use Rattle.plan.proofs.GoodRows.{allGood}
+use Rattle.plan.specs.RowRanges.{allGood}
 
 module _ (o : Order) (bound : ℤ) (numbers : List ℕ) where
   -- what the check answers

@@ -9,14 +9,12 @@ use borrow.Author.Tests.{leb-true, leb-false, le-leb, eq-eqb, ne-eqb}
 use lib.Dec.{leb, eqb}
 use lib.IntN.{ℤ}
 use lib.ListN.{length}
-use mir.Syntax.{w32}
-use mir.Val.{toZ, ofZ, SFits}
-use mir.ValLaws.{toZ-ofZ}
 use Rattle.order.specs.Order.{Order}
 use Rattle.order.specs.RefusalLaws.{both-true}
 use Rattle.plan.specs.Check.{rowAt, rowsOf, every, wellFormed, byEnd}
 use Rattle.plan.specs.EveryLaws.{every-places, every-fails}
 use Rattle.plan.specs.RuleLaws.{goodRow}
+use Rattle.plan.specs.RowRanges.{allGood}
 use Rattle.plan.specs.Inside.{rowOf, pieceAt, rowBy, rowRead}
 use Rattle.plan.specs.declared.Piece.{Piece}
 use Rattle.plan.specs.declared.RowRead.{RowRead}
@@ -71,26 +69,22 @@ module _ (o : Order) (bound : ℤ) (numbers : List ℕ) where
       pub by-its-end : (t a : Bool) → t ≡ byEnd o bound (rowOf p) → t ≡ a → passes k ≡ a
       by-its-end t a h is = rw is-formed (ap (byEnd o bound) (sym is-row) ∙ sym h ∙ is)
 
-  -- the whole answer
-  abbrev pub allGood : Bool
-  allGood = eqb (length numbers % 4) 0 && every (goodRow o bound) (rowsOf numbers)
-
   split : (k : ℕ) → passes k ≡ (leb (4 * k + 4) (length numbers) && goodRow o bound (rowAt numbers k))
   split k = and-assoc (leb (4 * k + 4) (length numbers)) (wellFormed o (rowAt numbers k)) (byEnd o bound (rowAt numbers k))
 
   module _ (k : ℕ) (l : k < (length numbers + 3) / 4) where
-    pub row-fails : passes k ≡ false → false ≡ allGood
+    pub row-fails : passes k ≡ false → false ≡ allGood o bound numbers
     row-fails h =
         go (leb (4 * k + 4) (length numbers)) refl (sym (split k) ∙ h)
       where
         go : (b : Bool) → leb (4 * k + 4) (length numbers) ≡ b → (b && goodRow o bound (rowAt numbers k)) ≡ false →
-            false ≡ allGood
+            false ≡ allGood o bound numbers
         go true w f =
             let m : k < length numbers / 4 = omega (arith, leb-true (4 * k + 4) (length numbers) w) in
             rw (every-fails (goodRow o bound) (length numbers / 4) (rowAt numbers) k m f, and-false)
         go false w f = rw (ne-eqb (length numbers % 4) 0 (λ z. omega (arith, leb-false (4 * k + 4) (length numbers) w)))
 
-  pub rows-pass : ((k : ℕ) → k < (length numbers + 3) / 4 → passes k ≡ true) → true ≡ allGood
+  pub rows-pass : ((k : ℕ) → k < (length numbers + 3) / 4 → passes k ≡ true) → true ≡ allGood o bound numbers
   rows-pass h = sym (rw (eq-eqb (length numbers % 4) 0 (none-left ((length numbers + 3) / 4) refl)) each)
     where
       both : (k : ℕ) → k < (length numbers + 3) / 4 → (4 * k + 4 ≤ length numbers) × (goodRow o bound (rowAt numbers k) ≡ true)
@@ -104,8 +98,3 @@ module _ (o : Order) (bound : ℤ) (numbers : List ℕ) where
 
       each : every (goodRow o bound) (rowsOf numbers) ≡ true
       each = every-places (goodRow o bound) (length numbers / 4) (rowAt numbers) (λ k l. both k (omega arith) .1)
-
--- the bound that the machine reads back is the bound
-pub good-back : (o : Order) (bound : ℤ) (numbers : List ℕ) → SFits w32 bound →
-    allGood o (toZ w32 (ofZ w32 bound)) numbers ≡ allGood o bound numbers
-good-back o bound numbers f = ap (λ (z : ℤ). allGood o z numbers) (toZ-ofZ w32 bound f)

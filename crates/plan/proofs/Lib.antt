@@ -1,7 +1,6 @@
 mod Orders
 mod RowTests
 mod GoodRows
-mod Ranges
 mod Apart
 mod Lengths
 mod Answers

@@ -5,6 +5,7 @@ pub mod Told
 pub mod Inside
 pub mod EveryLaws
 pub mod RuleLaws
+pub mod RowRanges
 pub mod NumberLaws
 pub mod CheckLaws
 pub mod PartsLaws

@@ -23,7 +23,7 @@ use Rattle.wrap.specs.FrameAt.{Times}
 use Rattle.timed.specs.Check.{inTimes, isRightTimed}
 use Rattle.timed.specs.CheckLaws.{timed-check-judges}
 use Rattle.timed.specs.Rows.{askedRows, mostTimedRows, timedCheckRows}
-use Rattle.timed.proofs.GoodRows.{allGood}
+use Rattle.plan.specs.RowRanges.{allGood}
 
 module _ (o : Order) (bound : ℤ) (t : Times) (numbers : List ℕ) where
   -- what the check answers

@@ -7,5 +7,4 @@ mod Refusing
 mod Ensuring
 mod InTimes
 mod Walks
-mod GoodRows
 mod Answers

@@ -15,7 +15,8 @@ use Rattle.order.specs.Machine.{machine-back}
 use Rattle.order.specs.Refusals.{dueInRange, boundInRange}
 use Rattle.order.specs.Table.{orderOf}
 use Rattle.order.specs.StructLaws.{few-jobs, few-processors, due-in-range-at}
-use Rattle.plan.proofs.GoodRows.{passes, good-back, malformed, well-formed, by-its-end, rows-pass, row-fails}
+use Rattle.plan.specs.RowRanges.{good-back}
+use Rattle.plan.proofs.GoodRows.{passes, malformed, well-formed, by-its-end, rows-pass, row-fails}
 use Rattle.plan.specs.Inside.{rowOf}
 use Rattle.plan.proofs.RowTests.{its-job, ends-read}
 use Rattle.plan.proofs.rows.rows_good.Statement.{statement}

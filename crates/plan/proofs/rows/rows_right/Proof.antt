@@ -7,8 +7,7 @@ use mir.ValLaws.{toZ-ofZ}
 use Rattle.order.specs.Refusals.{boundInRange}
 use Rattle.order.specs.Table.{orderOf}
 use Rattle.order.specs.StructLaws.{few-jobs}
-use Rattle.plan.proofs.GoodRows.{good-back}
-use Rattle.plan.proofs.Ranges.{good-ranged}
+use Rattle.plan.specs.RowRanges.{good-back, good-ranged}
 use Rattle.plan.proofs.Answers.{bad-rows, overlapping, jobs-decide}
 use Rattle.plan.proofs.rows.rows_right.Statement.{statement}
 use Rattle.plan.proofs.rows.rows_right.Tie as tie

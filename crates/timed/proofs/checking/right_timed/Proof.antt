@@ -8,7 +8,7 @@ use Rattle.order.specs.Table.{orderOf}
 use Rattle.order.specs.Refusals.{boundInRange}
 use Rattle.timed.specs.Times.{timesOf}
 use Rattle.timed.proofs.Answers.{bad-rows, not-kept, overlapping, jobs-decide}
-use Rattle.timed.proofs.GoodRows.{good-back, good-ranged}
+use Rattle.plan.specs.RowRanges.{good-back, good-ranged}
 use Rattle.timed.proofs.checking.right_timed.Statement.{statement}
 use Rattle.timed.proofs.checking.right_timed.Tie as tie
 

@@ -1,4 +1,5 @@
--- Good rows are in range: each ends by its job's end, a small number.
+-- What both checks ask of rows first: none is left over and each is good. Good rows are in range: each ends by its job's end, a small
+-- number.
 use Prim.Native.Nat.{ℕ, _/_, _%_, _≤_}
 use mathlib.Core.Path.{_≡_, ap}
 use mathlib.Core.Bool.{Bool, true, _&&_}
@@ -17,13 +18,12 @@ use Rattle.order.specs.Order.{Order, noJob, jobOf, endAt, endOf}
 use Rattle.order.specs.Refusals.{Accepted, boundInRange, dueInRange}
 use Rattle.order.specs.RefusalLaws.{both-true, accepted-iff, true-leZ}
 use Rattle.order.specs.EndLaws.{mag-end}
 use Rattle.plan.specs.Plan.{Row}
 use Rattle.plan.specs.Check.{rowAt, rowsOf, every, wellFormed, byEnd}
 use Rattle.plan.specs.EveryLaws.{every-at}
 use Rattle.plan.specs.RuleLaws.{goodRow, well-formed-iff}
 use Rattle.plan.specs.Inside.{InRange, Ranged}
 
--- no numbers are left over, and each row is good
 abbrev pub allGood : Order → ℤ → List ℕ → Bool
 allGood o bound numbers = eqb (length numbers % 4) 0 && every (goodRow o bound) (rowsOf numbers)
 
