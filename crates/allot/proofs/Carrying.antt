@@ -20,11 +20,12 @@ use Rattle.engine.specs.Start.{Given}
 use Rattle.engine.specs.Run.{RunOf}
 use Rattle.engine.specs.RunLaws.{run-carried}
 use Rattle.wrap.specs.Frame.{Frame, lengthIn, lies, capIn, openIn}
+use Rattle.wrap.specs.FrameFlow.{only-more}
 use Rattle.layout.specs.Planned.{frameLent}
 use Rattle.table.specs.declared.Table.{Table}
 use Rattle.allot.specs.Flows.{openOn, flowOn, capOn, roomOn, Sized}
 use Rattle.allot.specs.Tables.{Rows, Times, Classes}
-use Rattle.allot.proofs.Shares.{lasts, only-more}
+use Rattle.allot.proofs.Shares.{lasts}
 
 module _ (t : Table) (q : ℕ) (marks ready until opens closes : List ℕ)
     (S : Sized t (frameLent q marks ready until opens closes)) where

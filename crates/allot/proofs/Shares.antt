@@ -168,11 +168,3 @@ places-few s q m l h b = omega (arith, row-end s m q l, mul-le-mul {n₂ = 128} 
 
 pub caps-few : (j n q : ℕ) → j < n → n ≤ 48 → q ≤ 128 → j * q ≤ 6144
 caps-few j n q l h b = omega (arith, mul-le-mul-right q l, mul-le-mul {n₂ = 48} {m₂ = 128} h b, suc-mul j q)
-
--- more classes, no fewer processors
-pub only-more : (c k m : ℕ) → k ≤ m → only (leb c k) 1 ≤ only (leb c m) 1
-only-more c k m h =
-    elim (decLe c k) [
-      | yes y ↦ rw (le-leb c k y, le-leb c m (omega arith)) (omega arith)
-      | no y ↦ rw (lt-leb c k (omega arith)) (omega arith)
-    ]

@@ -41,6 +41,14 @@ flowIn o f =
 abbrev pub Classed : Order → Type 0
 Classed o = (j : ℕ) → Numbers (jobCount o) j → 0 < classBy o j
 
+-- what counts for some classes counts for more
+pub only-more : (c k m : ℕ) → k ≤ m → only (leb c k) 1 ≤ only (leb c m) 1
+only-more c k m h =
+    elim (decLe c k) [
+      | yes y ↦ rw (le-leb c k y, le-leb c m (omega arith)) (omega arith)
+      | no y ↦ rw (lt-leb c k (omega arith)) (omega arith)
+    ]
+
 module _ (o : Order) (f : Frame) where
   held-is : (a : ℕ → ℕ → ℕ) (s k : ℕ) → held (flowIn o f) a s k ≡ heldUpTo o (byNumber a) k s
   unfolding heldUpTo
@@ -67,13 +75,6 @@ module _ (o : Order) (f : Frame) where
       ap (λ (t : Bool). only t 1) (lt-leb (processorClass o i) 0
       (class-of-processor o (memoryOf o i) (nth-in (o .memories) 0 i (h .0 .0) (h .0 .1)) .0)))
       (open-are o f s))
-
-  only-more : (c k m : ℕ) → k ≤ m → only (leb c k) 1 ≤ only (leb c m) 1
-  only-more c k m h =
-      elim (decLe c k) [
-        | yes y ↦ rw (le-leb c k y, le-leb c m (omega arith)) (omega arith)
-        | no y ↦ rw (lt-leb c k (omega arith)) (omega arith)
-      ]
 
   pub open-more : (s k m : ℕ) → k ≤ m → openTo o f s k ≤ openTo o f s m
   unfolding openTo
