@@ -57,7 +57,7 @@ pub use times::{
     judge_times, open, timed_rows_asked, timed_stretches, Times, Window, MOST_MINUTE,
     MOST_TIMED_ROWS,
 };
-pub use wrap::{layout, rows_asked, stretches};
+pub use wrap::{layout, rows_asked, stretches, wrap_along};
 
 /// The most rows of a plan, and the most that the check takes.
 pub const MOST_ROWS: usize = 3_024;

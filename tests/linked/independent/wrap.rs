@@ -32,17 +32,22 @@ pub fn layout(order: &Order, bound: i64, amounts: &[Vec<i64>]) -> Vec<Vec<Row>> 
         .collect()
 }
 
-/// The rows of one stretch on these processors, given in input order: "processors by falling memory,
-/// jobs with an amount by falling need, ties in input order; fill a processor to the stretch's end,
-/// then go on at the next one's beginning".
-pub fn wrap(
+/// The rows of one stretch on these processors, given in input order: "processors by falling memory".
+pub fn wrap(order: &Order, processors: &[usize], stretch: (i64, i64), amounts: &[i64]) -> Vec<Row> {
+    let mut processors = processors.to_vec();
+    processors.sort_by_key(|&processor| Reverse(order.memories[processor]));
+    wrap_along(order, &processors, stretch, amounts).expect("processors for the amounts")
+}
+
+/// The rows of one stretch along processors in this order, where these suffice: "jobs with an amount
+/// by falling need, ties in input order; fill a processor to the stretch's end, then go on at the
+/// next one's beginning".
+pub fn wrap_along(
     order: &Order,
     processors: &[usize],
     (begin, end): (i64, i64),
     amounts: &[i64],
-) -> Vec<Row> {
-    let mut processors = processors.to_vec();
-    processors.sort_by_key(|&processor| Reverse(order.memories[processor]));
+) -> Option<Vec<Row>> {
     let mut jobs: Vec<usize> = (0..order.jobs.len()).collect();
     jobs.sort_by_key(|&job| Reverse(order.jobs[job].need));
     let length = end - begin;
@@ -51,7 +56,7 @@ pub fn wrap(
     for job in jobs {
         let mut left = amounts[job];
         while left > 0 {
-            let processor = processors[(laid_out / length) as usize];
+            let processor = *processors.get((laid_out / length) as usize)?;
             let from = laid_out % length;
             let piece = left.min(length - from);
             let (from, to) = (begin + from, begin + from + piece);
@@ -60,5 +65,5 @@ pub fn wrap(
             left -= piece;
         }
     }
-    rows
+    Some(rows)
 }

@@ -3,7 +3,7 @@
 
 use super::timed::{made_of, replanned, Made};
 use super::{answered, Wrong};
-use crate::independent::{clipped_to, join, joins_over, open, timed_clipped, Order, Row};
+use crate::independent::{clipped_to, join, joins_over, open, timed_clipped, wrap_along, Row};
 use crate::lent::Call;
 use crate::library::Function;
 use crate::model::MODEL;
@@ -111,7 +111,7 @@ impl Made {
         let both = longer.iter().zip(&amounts);
         let laid_out = both.map(|(stretch, amounts)| {
             let open = by_memory(self, *stretch);
-            lay(&self.order, &open, *stretch, amounts)
+            wrap_along(&self.order, &open, *stretch, amounts)
         });
         let laid_out: Vec<Vec<Row>> = laid_out.collect::<Option<_>>()?;
         Some(join(&longer, &laid_out))
@@ -125,31 +125,6 @@ fn by_memory(made: &Made, stretch: (i64, i64)) -> Vec<usize> {
     open
 }
 
-/// The wrap over processors in this order, where they suffice.
-fn lay(
-    order: &Order,
-    processors: &[usize],
-    (begin, end): (i64, i64),
-    amounts: &[i64],
-) -> Option<Vec<Row>> {
-    let mut jobs: Vec<usize> = (0..order.jobs.len()).collect();
-    jobs.sort_by_key(|job| Reverse(order.jobs[*job].need));
-    let (length, mut laid_out, mut rows) = (end - begin, 0, Vec::new());
-    for job in jobs {
-        let mut left = amounts[job];
-        while left > 0 {
-            let processor = *processors.get((laid_out / length) as usize)?;
-            let from = laid_out % length;
-            let piece = left.min(length - from);
-            let (from, to) = (begin + from, begin + from + piece);
-            rows.push([job as u32 + 1, processor as u32 + 1, from as u32, to as u32]);
-            laid_out += piece;
-            left -= piece;
-        }
-    }
-    Some(rows)
-}
-
 /// The planner with each stretch laid out on other processors, or in another order of them.
 fn relaid(call: &mut Call, processors: fn(&Made, (i64, i64)) -> Vec<usize>) -> u32 {
     let before = call.rows.clone();
@@ -160,7 +135,7 @@ fn relaid(call: &mut Call, processors: fn(&Made, (i64, i64)) -> Vec<usize>) -> u
         let both = stretches.iter().zip(&amounts);
         let laid_out = both.map(|(stretch, amounts)| {
             let processors = processors(&made, *stretch);
-            lay(&made.order, &processors, *stretch, amounts)
+            wrap_along(&made.order, &processors, *stretch, amounts)
         });
         let Some(laid_out) = laid_out.collect::<Option<Vec<Vec<Row>>>>() else {
             return;
