@@ -1,23 +1,17 @@
--- Classes from the listed memories: the last that suffices, counted in a walk, and the processors of a class.
+-- Classes from the listed memories: the last that suffices, counted in a walk.
 use Prim.Native.Nat.{ℕ, zero, suc, _≤_, _<_}
-use mathlib.Core.Path.{_≡_, sym, ap, _∙_}
-use mathlib.Core.List.{List}
+use mathlib.Core.Path.{_≡_, ap, _∙_}
 use native.Mathlib.Omega.{arith}
 use borrow.Author.Tests.{le-leb, lt-leb}
-use lib.Dec.{eqb}
-use lib.ListN.{getD}
-use Rattle.sums.specs.Sum.{sum, sum-cong}
-use Rattle.sums.specs.Lists.{only, tabulate}
-use Rattle.sums.specs.Totals.{total-tabulate}
-use Rattle.order.specs.Order.{Order, Job}
-use Rattle.order.specs.Class.{classes, lastThatSuffices, classFor, classOf, processorsIn}
-use Rattle.order.specs.RefusalLaws.{Acceptable}
-use Rattle.order.specs.Table.{orderOf}
-use Rattle.order.specs.declared.Order.{Order as OrderTable}
-use Rattle.sums.specs.Arrays.{RowOf}
-use Rattle.table.specs.Tabled.{ClassesOf}
-use Rattle.table.specs.declared.Members.{Members}
-use Rattle.table.specs.Downwards.{listed, DistinctOf}
+use lib.ListN.{length, getD}
+use Rattle.sums.specs.Lists.{tabulate}
+use Rattle.sums.specs.Places.{getD-tabulate, tabulate-cong, tabulate-getD}
+use Rattle.order.specs.Order.{Order, Job, processorCount}
+use Rattle.order.specs.Class.{classes, lastThatSuffices, classFor, classOf}
+use Rattle.order.specs.ClassLaws.{classes-few}
+use Rattle.order.specs.Table.{padded}
+use Rattle.table.specs.Passed.{listing}
+use Rattle.table.specs.declared.Listing.{Listing}
 
 -- the first k suffice and the next does not; or all do
 pub last-stops : (need n k : ℕ) (f : ℕ → ℕ) → k < n → ((i : ℕ) → i < k → need ≤ f i) → f k < need →
@@ -37,25 +31,23 @@ last-all need (suc n) (suc k) f e h =
     rw (le-leb need (f 0) (h 0 (omega arith)))
     (ap suc (last-all need n k (λ i. f (suc i)) (omega arith) (λ i b. h (suc i) (omega arith))))
 
-module _ (o : Order) (m : Members) (c : ClassesOf o m) where
-  pub class-is : (need : ℕ) → lastThatSuffices need (listed m) ≡ classFor o need
-  unfolding classFor
-  class-is need = ap (lastThatSuffices need) (c .list)
+-- the classes that a listing of an order holds
+module _ (o : Order) (few : processorCount o ≤ 16) (l : Listing) (e : l ≡ listing o) where
+  pub few-listed : l .count ≤ 16
+  few-listed = omega (arith, ap (λ (l : Listing). l .count) e, classes-few o)
 
-  pub class-of-is : (job : Job) → lastThatSuffices (job .need) (listed m) ≡ classOf o job
+  pub listed-is : tabulate (l .count) (λ i. getD (l .memories) i 0) ≡ classes o
+  listed-is =
+      ap (λ (l : Listing). tabulate (l .count) (λ i. getD (l .memories) i 0)) e
+      ∙ tabulate-cong (length (classes o)) (λ i. getD (padded 16 (classes o)) i 0) (λ i. getD (classes o) i 0)
+      (λ i b. getD-tabulate 16 (λ i. getD (classes o) i 0) 0 i (omega (arith, classes-few o)))
+      ∙ tabulate-getD (classes o) 0
+
+  pub class-is : (need : ℕ) → lastThatSuffices need (tabulate (l .count) (λ i. getD (l .memories) i 0)) ≡ classFor o need
+  unfolding classFor
+  class-is need = ap (lastThatSuffices need) listed-is
+
+  pub class-of-is : (job : Job) →
+      lastThatSuffices (job .need) (tabulate (l .count) (λ i. getD (l .memories) i 0)) ≡ classOf o job
   unfolding classOf
   class-of-is job = class-is (job .need)
-
--- the distinct memories are the classes' memories
-pub classes-found : (o : Order) (m : Members) → Acceptable o → DistinctOf (o .memories) m → ClassesOf o m
-unfolding classes
-classes-found o m a d = record { few = omega (arith, d .few, a .few-processors); list = d .list }
-
--- the processors of a class, from the class of each
-pub processors-counted : (t : OrderTable) (r : List ℕ) (k : ℕ) →
-    RowOf (λ i. classFor (orderOf t) (getD (t .memories) i 0)) (t .processors) r →
-    sum (t .processors) (λ i. only (eqb (getD r i 0) k) 1) ≡ processorsIn (orderOf t) k
-unfolding processorsIn
-processors-counted t r k h =
-    sum-cong (t .processors) _ _ (λ i l. ap (λ (c : ℕ). only (eqb c k) 1) (h .at i l))
-    ∙ sym (total-tabulate (t .processors) (λ i. getD (t .memories) i 0) (λ m. only (eqb (classFor (orderOf t) m) k) 1))

@@ -2,6 +2,9 @@ pub mod Downwards
 pub mod Tabled
 pub mod SameMembers
 pub mod FallingLaws
+pub mod Passed
+pub mod Listings
+pub mod PassedLaws
 pub mod ClassRows
 pub mod GridLaws
 pub mod Making

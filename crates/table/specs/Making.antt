@@ -17,7 +17,10 @@ use Rattle.order.specs.Table.{orderOf, jobAt, padded}
 use Rattle.order.specs.declared.Order.{Order as OrderTable}
 use Rattle.order.specs.Lead.{lead, lastDue}
 use Rattle.sums.specs.Arrays.{RowOf}
-use Rattle.table.specs.Tabled.{Fine, ClassesOf, GridOf, Tabled}
+use Rattle.table.specs.ClassRows.{few-listed}
+use Rattle.table.specs.Passed.{listing}
+use Rattle.table.specs.Tabled.{Fine, GridOf, Tabled}
+use Rattle.table.specs.declared.Listing.{Listing}
 use Rattle.table.specs.declared.Members.{Members}
 use Rattle.table.specs.declared.Table.{Table}
 use Rattle.order.specs.ClassLaws.{processorsIn-some, processorsIn-few, processorsTo-few}
@@ -25,39 +28,39 @@ use Rattle.order.specs.LeadLaws.{lead-most}
 use Rattle.table.specs.GridLaws.{grid-small}
 
 -- the table of a struct, from its parts
-pub tabled-made : (t : OrderTable) → t .jobs ≤ 48 → t .processors ≤ 16 → (m g : Members) (cs ls ks ps ms ns : List ℕ) →
-    ClassesOf (orderOf t) m → GridOf lastDue (orderOf t) g →
+pub tabled-made : (t : OrderTable) → t .jobs ≤ 48 → t .processors ≤ 16 → (l : Listing) (g : Members) (cs ls ks ms ns : List ℕ) →
+    l ≡ listing (orderOf t) → GridOf lastDue (orderOf t) g →
     RowOf (λ j. classOf (orderOf t) (jobAt t j)) (t .jobs) cs → RowOf (λ j. lead lastDue (getD (t .dues) j (pos 0))) (t .jobs) ls →
     RowOf (λ i. classFor (orderOf t) (getD (t .memories) i 0)) (t .processors) ks →
-    RowOf (λ i. processorsIn (orderOf t) (suc i)) 16 ps →
     ms ≡ padded 16 (processorOrder (orderOf t)) → ns ≡ padded 48 (jobOrder (orderOf t)) →
     Tabled lastDue (orderOf t) (record {
       n = t .jobs;
       m = t .processors;
-      s = m .count;
+      s = l .count;
       q = g .count;
       times = t .times;
       classes = cs;
       leads = ls;
       kinds = ks;
-      procs = ps;
+      procs = l .procs;
       grid = g .at;
       «by_memory» = ms;
       «by_need» = ns;
     })
-tabled-made t few-jobs few-processors m g cs ls ks ps ms ns c d hc hl hk hp hm hn =
+tabled-made t few-jobs few-processors l g cs ls ks ms ns c d hc hl hk hm hn =
     record {
       jobs = sym (job-count t);
       processors = sym (processor-count t);
       few-jobs = few-jobs;
       few-processors = few-processors;
-      few-classes = c .few;
-      classed = sym (length-tabulate (m .count) (λ i. getD (m .at) i 0)) ∙ ap length (c .list);
+      few-classes = few-listed (orderOf t) (omega (arith, processor-count t)) l c;
+      classed = ap (λ (l : Listing). l .count) c;
       times = λ j l. ap (λ (job : Job). job .time) (sym (job j l));
       leads = λ j l. hl .at j (few l) ∙ ap (λ (job : Job). lead lastDue (job .due)) (sym (job j l));
       classes-of = λ j l. hc .at j (few l) ∙ ap (classOf (orderOf t)) (sym (job j l));
       kinds = λ i l. hk .at i (fewer l) ∙ ap (classFor (orderOf t)) (sym (memory i l));
-      procs = hp .at;
+      procs = λ i b. ap (λ (l : Listing). getD (l .procs) i 0) c
+          ∙ getD-tabulate 16 (λ i. processorsIn (orderOf t) (suc i)) 0 i b;
       grid = d;
       by-memory = hm;
       by-need = hn;

@@ -11,14 +11,8 @@ use Rattle.order.specs.Sorted.{dueTimes, processorOrder, jobOrder}
 use Rattle.order.specs.Class.{classes, classFor, classOf, processorsIn}
 use Rattle.order.specs.Table.{padded}
 use Rattle.order.specs.Lead.{lead, dueAt}
-use Rattle.table.specs.Downwards.{listed}
 use Rattle.table.specs.declared.Members.{Members}
 use Rattle.table.specs.declared.Table.{Table}
-
--- the memories of an order's classes
-pub record ClassesOf (o : Order) (m : Members) : Type 0 where
-  pub few : m .count ≤ 16
-  pub list : listed m ≡ classes o
 
 -- the leads of an order's distinct due times, by rising due time
 pub record GridOf (top : ℤ) (o : Order) (m : Members) : Type 0 where

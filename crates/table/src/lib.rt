@@ -1,14 +1,22 @@
 // An accepted order as the running parts read it (document 01, "Why a bound is too tight" and "Plans"): classes, due times as leads,
 // and the orderings of processors and jobs, made once.
-pub mod class; // the classes of processors and jobs
+pub mod class; // the class of each job and of each processor
 pub mod distinct; // the distinct members of a list, downwards
 pub mod lead; // due times as leads
 pub mod making; // the table of an order
+pub mod passing; // the classes with their processors, in one pass
 
 // The distinct members of a list, downwards; 0 beyond the count.
 pub struct Members {
     pub count: usize,
     pub at: [u32; 48],
+}
+
+// The classes of an order: how many, and of each its memory and its processors, class 1 first; 0 beyond the count.
+pub struct Listing {
+    pub count: usize,
+    pub memories: [u32; 16],
+    pub procs: [u32; 16],
 }
 
 // Counts of jobs (n), processors (m), classes (s) and distinct due times (q); for each job its time, its class from 1 and its lead

@@ -1,11 +1,10 @@
 // The table of an order. It serves the crates above and has a `requires`.
 use super::Table;
-use super::class::classes_of;
 use super::class::classes_of_jobs;
 use super::class::classes_of_processors;
-use super::class::processors_by_class;
 use super::lead::grid_of;
 use super::lead::leads_of;
+use super::passing::classes_of;
 use order::Order;
 use order::orderings::job_order;
 use order::orderings::processor_order;
@@ -18,23 +17,24 @@ pub fn table_of(order: Order) -> Table
     requires { ⌜ Accepted (orderOf order) ⌝ }
     ensures { λ t. ⌜ Tabled lastDue (orderOf order) t ⌝ }
 {
-    let memories = classes_of(order);
+    let by_memory = processor_order(order);
+    let classes = classes_of(order, by_memory);
+    let procs = classes.procs;
     let dues = grid_of(order);
     let times = order.times;
     let grid = dues.at;
-    let kinds = classes_of_processors(order, memories);
     Table {
         n: order.jobs as usize,
         m: order.processors as usize,
-        s: memories.count,
+        s: classes.count,
         q: dues.count,
         times,
-        classes: classes_of_jobs(order, memories),
+        classes: classes_of_jobs(order, classes),
         leads: leads_of(order),
-        kinds,
-        procs: processors_by_class(order, kinds),
+        kinds: classes_of_processors(order, classes),
+        procs,
         grid,
-        by_memory: processor_order(order),
+        by_memory,
         by_need: job_order(order),
     }
 }

@@ -10,10 +10,10 @@ use Rattle.table.proofs.class.class_for.Tie as tie
 
 -- the memories passed suffice
 abbrev Inv-loop : tie.InvT-loop
-Inv-loop need classes n k₀ k = (k ≤ classes .count) × ((i : ℕ) → i < k → need ≤ getD (classes .at) i 0)
+Inv-loop count need memories k₀ k = (k ≤ count) × ((i : ℕ) → i < k → need ≤ getD memories i 0)
 
 abbrev μ-loop : tie.MeasureT-loop
-μ-loop need classes n k₀ k = classes .count - k
+μ-loop count need memories k₀ k = count - k
 
 loop-holds : tie.Need-loop-holds Inv-loop μ-loop
 loop-holds c = (search needs, below-none _)
@@ -21,17 +21,17 @@ loop-holds c = (search needs, below-none _)
 mul-if1 : tie.Need-mul-if1 Inv-loop μ-loop
 mul-if1 c = search needs
 
-element-copy-out-if1 : tie.Need-element-copy-out-if1 Inv-loop μ-loop
-element-copy-out-if1 c = search needs
+array-read-if1 : tie.Need-array-read-if1 Inv-loop μ-loop
+array-read-if1 c = search needs
 
 cast-result : tie.Need-cast-result Inv-loop μ-loop
 cast-result c = search needs
 
 returns : tie.Need-returns Inv-loop μ-loop
 returns c =
-    let s = c .before .before .before .before in
-    let l = c .before .before .before .loop in
-    sym (last-stops (s .args .need) (s .args .t1 .count) (l .k) (λ i. getD (s .args .t1 .at) i 0) (omega arith) (l .inv .1)
+    let s = c .before .before .before in
+    let l = c .before .before .loop in
+    sym (last-stops (s .args .need) (s .args .count) (l .k) (λ i. getD (s .args .t1) i 0) (omega arith) (l .inv .1)
     (c .if1 .taken))
 
 add-k : tie.Need-add-k Inv-loop μ-loop
@@ -42,9 +42,9 @@ loop-less c = search needs
 
 loop-again : tie.Need-loop-again Inv-loop μ-loop
 loop-again c =
-    let s = c .before .before .before .before in
-    let l = c .before .before .before .loop in
-    (search needs, below-more (λ (i : ℕ). s .args .need ≤ getD (s .args .t1 .at) i 0) (l .k) (l .inv .1) (c .if1 .left))
+    let s = c .before .before .before in
+    let l = c .before .before .loop in
+    (search needs, below-more (λ (i : ℕ). s .args .need ≤ getD (s .args .t1) i 0) (l .k) (l .inv .1) (c .if1 .left))
 
 cast-result-2 : tie.Need-cast-result-2 Inv-loop μ-loop
 cast-result-2 c = search needs
@@ -53,7 +53,7 @@ returns-2 : tie.Need-returns-2 Inv-loop μ-loop
 returns-2 c =
     let s = c .before .before in
     let l = c .before .loop in
-    sym (last-all (s .args .need) (s .args .t1 .count) (l .k) (λ i. getD (s .args .t1 .at) i 0) (omega arith) (l .inv .1))
+    sym (last-all (s .args .need) (s .args .count) (l .k) (λ i. getD (s .args .t1) i 0) (omega arith) (l .inv .1))
 
 pub class-for-spec : {M : Type 1} → statement M
 class-for-spec =
@@ -63,7 +63,7 @@ class-for-spec =
     μ-loop
     loop-holds
     mul-if1
-    element-copy-out-if1
+    array-read-if1
     cast-result
     returns
     add-k

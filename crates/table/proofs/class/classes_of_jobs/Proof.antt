@@ -6,25 +6,26 @@ use lib.ListN.{length}
 use Rattle.order.specs.Class.{classOf}
 use Rattle.order.specs.Table.{orderOf, jobAt}
 use Rattle.sums.specs.Arrays.{RowOf, fill-at}
+use Rattle.order.specs.RefusalLaws.{accepted-iff}
 use Rattle.order.specs.StructLaws.{few-jobs}
-use Rattle.table.specs.ClassRows.{class-of-is}
+use Rattle.table.specs.ClassRows.{few-listed, class-of-is}
 use Rattle.table.proofs.class.classes_of_jobs.Statement.{statement}
 use Rattle.table.proofs.class.classes_of_jobs.Tie as tie
 
 -- the classes of the first j jobs stand in the array
 abbrev Inv-loop : tie.InvT-loop
-Inv-loop classes order n r₀ j₀ r j =
+Inv-loop classes order n memories r₀ j₀ r j =
     (order .jobs ≤ 48) × (j ≤ n) × (length r ≡ 48) × RowOf (λ j. classOf (orderOf order) (jobAt order j)) j r
 
 abbrev μ-loop : tie.MeasureT-loop
-μ-loop classes order n r₀ j₀ r j = n - j
+μ-loop classes order n memories r₀ j₀ r j = n - j
 
 cast-n : tie.Need-cast-n Inv-loop μ-loop
 cast-n c = search needs
 
 loop-holds : tie.Need-loop-holds Inv-loop μ-loop
 loop-holds c =
-    (few-jobs (c .args .t1) (c .pre .0), search needs, search needs, record { at = λ k h. absurd (omega arith) })
+    (few-jobs (c .before .args .t1) (c .before .pre .0), search needs, search needs, record { at = λ k h. absurd (omega arith) })
 
 mul-class-for : tie.Need-mul-class-for Inv-loop μ-loop
 mul-class-for c = search needs
@@ -33,7 +34,9 @@ element-copy-out-class-for : tie.Need-element-copy-out-class-for Inv-loop μ-loo
 element-copy-out-class-for c = search needs
 
 class-for-requires : tie.Need-class-for-requires Inv-loop μ-loop
-class-for-requires c κs = omega (arith, c .before .before .before .pre .1 .few)
+class-for-requires c κs =
+    let s = c .before .before .before .before in
+    few-listed (orderOf (s .args .t1)) (accepted-iff (orderOf (s .args .t1)) .0 (s .pre .0) .few-processors) (s .args .classes) (s .pre .1)
 
 mul-r : tie.Need-mul-r Inv-loop μ-loop
 mul-r c = search needs
@@ -49,7 +52,7 @@ loop-less c = search needs
 
 loop-again : tie.Need-loop-again Inv-loop μ-loop
 loop-again c =
-    let s = c .before .before .before .before in
+    let s = c .before .before .before .before .before in
     let l = c .before .before .before .loop in
     let o = s .args .t1 in (
       search needs,
@@ -58,7 +61,8 @@ loop-again c =
       record {
         at = fill-at (λ (k v : ℕ). v ≡ classOf (orderOf o) (jobAt o k)) 0 (l .r) (l .j) (c .class-for .result)
             (search needs) (l .inv .3 .at) (c .class-for .ensures
-            ∙ class-of-is (orderOf o) (s .args .classes) (s .pre .1) (jobAt o (l .j)));
+            ∙ class-of-is (orderOf o) (accepted-iff (orderOf o) .0 (s .pre .0) .few-processors)
+            (s .args .classes) (s .pre .1) (jobAt o (l .j)));
       },
     )
 

@@ -6,26 +6,27 @@ use lib.ListN.{length, getD}
 use Rattle.order.specs.Class.{classFor}
 use Rattle.order.specs.Table.{orderOf}
 use Rattle.sums.specs.Arrays.{RowOf, fill-at}
+use Rattle.order.specs.RefusalLaws.{accepted-iff}
 use Rattle.order.specs.StructLaws.{few-processors}
-use Rattle.table.specs.ClassRows.{class-is}
+use Rattle.table.specs.ClassRows.{few-listed, class-is}
 use Rattle.table.proofs.class.classes_of_processors.Statement.{statement}
 use Rattle.table.proofs.class.classes_of_processors.Tie as tie
 
 -- the classes of the first i processors stand in the array
 abbrev Inv-loop : tie.InvT-loop
-Inv-loop classes order n r₀ i₀ r i =
+Inv-loop classes order n memories r₀ i₀ r i =
     (order .processors ≤ 16) × (i ≤ n) × (length r ≡ 16)
     × RowOf (λ i. classFor (orderOf order) (getD (order .memories) i 0)) i r
 
 abbrev μ-loop : tie.MeasureT-loop
-μ-loop classes order n r₀ i₀ r i = n - i
+μ-loop classes order n memories r₀ i₀ r i = n - i
 
 cast-n : tie.Need-cast-n Inv-loop μ-loop
 cast-n c = search needs
 
 loop-holds : tie.Need-loop-holds Inv-loop μ-loop
 loop-holds c =
-    (few-processors (c .args .t1) (c .pre .0), search needs, search needs, record { at = λ k h. absurd (omega arith) })
+    (few-processors (c .before .args .t1) (c .before .pre .0), search needs, search needs, record { at = λ k h. absurd (omega arith) })
 
 mul-class-for : tie.Need-mul-class-for Inv-loop μ-loop
 mul-class-for c = search needs
@@ -34,7 +35,9 @@ element-copy-out-class-for : tie.Need-element-copy-out-class-for Inv-loop μ-loo
 element-copy-out-class-for c = search needs
 
 class-for-requires : tie.Need-class-for-requires Inv-loop μ-loop
-class-for-requires c κs = omega (arith, c .before .before .before .pre .1 .few)
+class-for-requires c κs =
+    let s = c .before .before .before .before in
+    few-listed (orderOf (s .args .t1)) (accepted-iff (orderOf (s .args .t1)) .0 (s .pre .0) .few-processors) (s .args .classes) (s .pre .1)
 
 mul-r : tie.Need-mul-r Inv-loop μ-loop
 mul-r c = search needs
@@ -50,7 +53,7 @@ loop-less c = search needs
 
 loop-again : tie.Need-loop-again Inv-loop μ-loop
 loop-again c =
-    let s = c .before .before .before .before in
+    let s = c .before .before .before .before .before in
     let l = c .before .before .before .loop in
     let o = s .args .t1 in (
       search needs,
@@ -60,7 +63,8 @@ loop-again c =
         at = fill-at (λ (k v : ℕ). v ≡ classFor (orderOf o) (getD (o .memories) k 0)) 0 (l .r) (l .i)
             (c .class-for .result)
             (search needs) (l .inv .3 .at) (c .class-for .ensures
-            ∙ class-is (orderOf o) (s .args .classes) (s .pre .1) (getD (o .memories) (l .i) 0));
+            ∙ class-is (orderOf o) (accepted-iff (orderOf o) .0 (s .pre .0) .few-processors)
+            (s .args .classes) (s .pre .1) (getD (o .memories) (l .i) 0));
       },
     )
 
