@@ -33,14 +33,14 @@ use Rattle.book.specs.CallLaws.{Judges, book-counts, book-length, book-sum, boo
 use Rattle.profile.specs.Search.{reasonOf}
 use Rattle.planner.specs.AnswerLaws.{least-begins, plan-begins}
 use Rattle.planner.specs.Rows.{bufferRow, isFound, leastRows, planRows}
-use Rattle.highboyrobin.specs.Results.{answerRow, fileCall}
+use Rattle.highboyrobin.specs.Results.{answerRow, fileCall, listCall}
 use Rattle.highboyrobin.specs.Calls.{leastCall, planCall}
 use Rattle.highboyrobin.specs.BookCalls.{bookCall, countsIn, bookLeastCall, bookPlanCall, bookLeft}
 
 -- a book of sixteen numbers or more is no mistake
 long-enough : (lent asked : ℕ) (book file : List ℕ) (rows : List TableRow) → mostMakers ≤ length book →
     judge (bookCall lent asked (length book) file rows) ≡ judge (fileCall lent asked file rows)
-unfolding bookCall fileCall judge
+unfolding listCall fileCall judge
 long-enough lent asked book file rows h = rw (le-ltb (length book) mostMakers h)
 
 -- a call of either kind: the file, the bound where there is one, how many numbers are lent for rows and answer

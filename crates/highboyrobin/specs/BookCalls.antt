@@ -1,18 +1,18 @@
 -- hbr_book_least and hbr_book_plan: hbr_least and hbr_plan with a book, whose row stands last of all.
 use Prim.Native.Nat.{ℕ}
-use mathlib.Core.List.{List, _∷_, _++_}
+use mathlib.Core.List.{List, _++_}
 use lib.IntN.{ℤ}
 use lib.ListN.{length, take, drop}
 use Rattle.order.specs.Order.{Order}
-use Rattle.order.specs.Refusals.{mostMakers, TableRow, Verdict, fileRow}
-use Rattle.order_file.specs.File.{goodFile, orderIn}
+use Rattle.order.specs.Refusals.{mostMakers, TableRow, Verdict}
+use Rattle.order_file.specs.File.{orderIn}
 use Rattle.book.specs.Book.{bookedBy}
 use Rattle.planner.specs.Rows.{bookedLeastRows, bookedPlanRows}
-use Rattle.highboyrobin.specs.Results.{answerRow, shortBookRow}
+use Rattle.highboyrobin.specs.Results.{listCall}
 
 -- the table: the answer's room, the book's length, 12, then the rows of the entry point
-unfoldable pub bookCall : ℕ → ℕ → ℕ → List ℕ → List TableRow → List TableRow
-bookCall lent asked counts file rows = answerRow lent asked ∷ shortBookRow counts ∷ fileRow (goodFile file) ∷ rows
+abbrev pub bookCall : ℕ → ℕ → ℕ → List ℕ → List TableRow → List TableRow
+bookCall lent asked counts file rows = listCall lent asked counts mostMakers file rows
 
 -- the first sixteen numbers of a lent book are its counts
 abbrev pub countsIn : List ℕ → List ℕ

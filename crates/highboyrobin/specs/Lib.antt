@@ -3,6 +3,7 @@ pub mod Places
 pub mod Calls
 pub mod TimedCalls
 pub mod BookCalls
+pub mod ClassCalls
 pub mod CallLaws
 pub mod BookCallLaws
 pub mod TimedCallLaws

@@ -3,7 +3,6 @@ use Prim.Native.Nat.{ℕ, _+_, _*_, _%_}
 use mathlib.Core.Bool.{not}
 use mathlib.Core.List.{List, _∷_, _++_}
 use lib.Dec.{ltb, eqb}
-use lib.IntN.{ℤ}
 use lib.ListN.{length, drop}
 use Rattle.order.specs.Refusals.{mostMakers, TableRow, Verdict, accepted, refused, row, whole, fileRow}
 use Rattle.order.specs.Table.{numberBy, carriedBy}
@@ -13,25 +12,34 @@ use Rattle.order_file.specs.File.{goodFile}
 abbrev pub resultOf : Verdict → ℕ
 resultOf v = numberBy v + 256 * carriedBy v
 
--- the lent answer at exit: these numbers and what stood beyond them; what it held where the call is refused
-abbrev pub answeredBy : Verdict → List ℤ → List ℤ → List ℤ
+-- a lent list at exit, the answer or another: these numbers and what stood beyond them; what it held where the call is refused
+abbrev pub answeredBy : {A : Type 0} → Verdict → List A → List A → List A
 answeredBy accepted numbers entry = numbers ++ drop (length numbers) entry
 answeredBy (refused number job) numbers entry = entry
 
--- four rows that stand before document 01's table, with numbers that no paper gives: the answer is too short; the jobs' numbers are
--- not four to a job; a reason has fewer numbers than hbr_reason answers; a book has fewer than there are makers
+-- three rows that stand before document 01's table, with numbers that no paper gives: the answer is too short; the jobs' numbers are
+-- not four to a job; another lent list has fewer numbers than are asked for
 abbrev pub answerRow : ℕ → ℕ → TableRow
 answerRow lent asked = row 255 (whole (ltb lent asked))
 
 abbrev pub partJobRow : ℕ → TableRow
 partJobRow numbers = row 254 (whole (not (eqb (numbers % 4) 0)))
 
+abbrev pub shortListRow : ℕ → ℕ → TableRow
+shortListRow numbers asked = row 253 (whole (ltb numbers asked))
+
+-- of a reason, as many as hbr_reason answers; of a book, as many as there are makers
 abbrev pub shortReasonRow : ℕ → TableRow
-shortReasonRow numbers = row 253 (whole (ltb numbers 19))
+shortReasonRow numbers = shortListRow numbers 19
 
 abbrev pub shortBookRow : ℕ → TableRow
-shortBookRow numbers = row 253 (whole (ltb numbers mostMakers))
+shortBookRow numbers = shortListRow numbers mostMakers
 
 -- the table of a call that takes a file: the answer's room, 12, then the rows of the entry point
 unfoldable pub fileCall : ℕ → ℕ → List ℕ → List TableRow → List TableRow
 fileCall lent asked file rows = answerRow lent asked ∷ fileRow (goodFile file) ∷ rows
+
+-- and of one that is lent a list too, between the first two
+unfoldable pub listCall : (lent asked numbers wanted : ℕ) → List ℕ → List TableRow → List TableRow
+listCall lent asked numbers wanted file rows =
+    answerRow lent asked ∷ shortListRow numbers wanted ∷ fileRow (goodFile file) ∷ rows

@@ -12,6 +12,7 @@ mod timing; // an order and the times beside it
 pub mod book_least; // hbr_book_least
 pub mod book_plan; // hbr_book_plan
 pub mod checking; // hbr_check
+pub mod classing; // hbr_classes
 pub mod judging; // hbr_judge
 pub mod lateness; // hbr_least
 pub mod parsing; // hbr_parse

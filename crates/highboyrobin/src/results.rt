@@ -8,7 +8,7 @@ ghost use Rattle.order.specs.Table.{refusalTold, carriedBy};
 ghost use Rattle.highboyrobin.specs.Results.{resultOf};
 
 // The result where an answer is too short; where the jobs' numbers are not four to a job; where a reason has under 19 numbers, a
-// book under 16, or the times are not as long as the file's counts. No refusal has these numbers.
+// book under 16, a list of classes under 32, or the times are not as long as the file's counts. No refusal has these numbers.
 pub const SHORT_ANSWER: u32 = 255;
 
 pub const PART_JOB: u32 = 254;
@@ -16,6 +16,8 @@ pub const PART_JOB: u32 = 254;
 pub const SHORT_REASON: u32 = 253;
 
 pub const SHORT_BOOK: u32 = 253;
+
+pub const SHORT_CLASSES: u32 = 253;
 
 pub const WRONG_TIMES: u32 = 253;
 

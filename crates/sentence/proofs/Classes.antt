@@ -7,11 +7,12 @@ use lib.IntN.{ℤ, pos}
 use lib.ListN.{length, getD, take}
 use lib.Seq.{length-take-le, take-suc}
 use Rattle.sums.specs.Lists.{nth}
-use Rattle.sums.specs.Places.{length-tabulate, getD-tabulate}
-use Rattle.order.specs.Order.{Order}
+use Rattle.sums.specs.Places.{getD-tabulate}
+use Rattle.order.specs.Order.{Order, processorCount}
 use Rattle.order.specs.Class.{classes}
-use Rattle.table.specs.Tabled.{ClassesOf}
-use Rattle.table.specs.declared.Members.{Members}
+use Rattle.order.specs.ClassLaws.{classes-few}
+use Rattle.table.specs.Passed.{listing}
+use Rattle.table.specs.declared.Listing.{Listing}
 use Rattle.sentence.specs.Line.{between, classText, classesFrom}
 
 pub classes-none : (memories : List ℕ) (before : ℕ) → classesFrom memories before [] ≡ []
@@ -53,9 +54,9 @@ classes-same ms ns before (d ∷ dues) h =
     rw (h before (omega arith), classes-same ms ns (suc before) dues (λ i l. h i (omega arith))) refl
 
 -- an order's classes, as the code's struct holds them
-pub classes-told : (o : Order) (m : Members) → ClassesOf o m → (dues : List ℤ) → length dues ≤ length (classes o) →
-    classesFrom (m .at) 0 dues ≡ classesFrom (classes o) 0 dues
-classes-told o m c dues few =
-    let size : length (classes o) ≡ m .count = ap length (sym (c .list)) ∙ length-tabulate (m .count) (λ i. getD (m .at) i 0) in
-    classes-same (m .at) (classes o) 0 dues (λ i l.
-    sym (ap (λ (ms : List ℕ). getD ms i 0) (sym (c .list)) ∙ getD-tabulate (m .count) (λ i. getD (m .at) i 0) 0 i (omega arith)))
+pub classes-told : (o : Order) → processorCount o ≤ 16 → (l : Listing) → l ≡ listing o → (dues : List ℤ) →
+    length dues ≤ length (classes o) → classesFrom (l .memories) 0 dues ≡ classesFrom (classes o) 0 dues
+classes-told o few l e dues told =
+    classes-same (l .memories) (classes o) 0 dues (λ i b.
+    ap (λ (l : Listing). getD (l .memories) i 0) e
+    ∙ getD-tabulate 16 (λ i. getD (classes o) i 0) 0 i (omega (arith, classes-few o)))

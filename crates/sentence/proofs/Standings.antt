@@ -8,7 +8,7 @@ use lib.ListN.{length, take}
 use Rattle.sums.specs.Lists.{tabulate}
 use Rattle.order.specs.Class.{classes}
 use Rattle.order.specs.Lead.{reachAt, lastDue}
-use Rattle.order.specs.Order.{Order, jobCount, Numbers, jobOf}
+use Rattle.order.specs.Order.{Order, processorCount, jobCount, Numbers, jobOf}
 use Rattle.order.specs.Refusals.{clear, first}
 use Rattle.order.specs.RefusalLaws.{Acceptable}
 use Rattle.order.specs.Table.{findingOf}
@@ -18,8 +18,9 @@ use Rattle.profile.specs.ReasonLaws.{none-over-end}
 use Rattle.profile.specs.Search.{found, firstOverEnd}
 use Rattle.reason.specs.Asked.{late}
 use Rattle.reason.specs.Telling.{same-job}
-use Rattle.table.specs.Tabled.{Tabled, ClassesOf}
-use Rattle.table.specs.declared.Members.{Members}
+use Rattle.table.specs.Passed.{listing}
+use Rattle.table.specs.Tabled.{Tabled}
+use Rattle.table.specs.declared.Listing.{Listing}
 use Rattle.table.specs.declared.Table.{Table}
 use Rattle.sentence.specs.Inside.{owedTo, handTo, StepsReached, StepsFit, SumsTold, WeighedTold}
 use Rattle.sentence.specs.Line.{classesFrom, sumsText, lineOf, composed}
@@ -78,12 +79,12 @@ pub weighed-falls : (o : Order) (bound : ℤ) (dues : List ℤ) (w : Weighed) �
 weighed-falls o bound dues w e h = subst (WeighedTold o bound dues) e h
 
 -- its line
-pub stairs-line : (o : Order) (bound : ℤ) (m : Members) → ClassesOf o m → (dues : List ℤ) (owed hand : ℕ) →
+pub stairs-line : (o : Order) (bound : ℤ) → processorCount o ≤ 16 → (l : Listing) → l ≡ listing o → (dues : List ℤ) (owed hand : ℕ) →
     WeighedTold o bound dues (Overfull owed hand) →
-    classesFrom (m .at) 0 dues ++ sumsText owed (pos hand) ≡ composed o bound (found (stairs dues))
+    classesFrom (l .memories) 0 dues ++ sumsText owed (pos hand) ≡ composed o bound (found (stairs dues))
 unfolding lineOf
-stairs-line o bound m c dues owed hand h =
-    ap (λ (l : List ℕ). l ++ sumsText owed (pos hand)) (classes-told o m c dues (h .0 .1 .profile .of-classes))
+stairs-line o bound few l e dues owed hand h =
+    ap (λ (l : List ℕ). l ++ sumsText owed (pos hand)) (classes-told o few l e dues (h .0 .1 .profile .of-classes))
     ∙ (ap (λ (n : ℕ). classesFrom (classes o) 0 dues ++ sumsText n (pos hand)) (h .1)
     ∙ (ap (λ (z : ℤ). classesFrom (classes o) 0 dues ++ sumsText (minutesOwed o bound dues) z) (h .2)
     ∙ sym (composed-line o bound (stairs dues) (h .0))))

@@ -3,12 +3,12 @@ use super::Weighed;
 use super::standing::weigh;
 use order::Order;
 use order::deadline::end_of;
+use order::orderings::processor_order;
 use reason::Reason;
 use reason::Tightness;
 use reason::Why;
-use table::Members;
-use table::class::classes_of;
 use table::making::table_of;
+use table::passing::classes_of;
 use text::put::put_bytes;
 use text::put::put_number;
 use text::put::put_signed;
@@ -74,15 +74,15 @@ fn put_between(out: &mut [u8], at: usize, before: usize) -> usize
 }
 
 // The first k classes.
-fn put_classes(out: &mut [u8], memories: Members, dues: [i32; 16], k: usize) -> usize
+fn put_classes(out: &mut [u8], memories: [u32; 16], dues: [i32; 16], k: usize) -> usize
     requires { ⌜ (k ≤ 16) × (560 ≤ length (now out)) ⌝ }
-    ensures { λ r. ⌜ Put (now (out .entry)) 0 (classesFrom (memories .at) 0 (take k dues)) (now (out .exit)) r × (r ≤ 560) ⌝ }
+    ensures { λ r. ⌜ Put (now (out .entry)) 0 (classesFrom memories 0 (take k dues)) (now (out .exit)) r × (r ≤ 560) ⌝ }
 {
     let mut next: usize = 0;
     let mut i: usize = 0;
     while i < k {
         let behind = put_between(out, next, i);
-        next = put_class(out, behind, memories.at[i], dues[i]);
+        next = put_class(out, behind, memories[i], dues[i]);
         i += 1;
     }
     next
@@ -135,7 +135,8 @@ fn stairs_line(order: Order, bound: i32, dues: [i32; 16], k: usize, out: &mut [u
     match weighed {
         Weighed::Falls => 0,
         Weighed::Stands(owed, on_hand) => {
-            let behind = put_classes(out, classes_of(order), dues, k);
+            let memories = classes_of(order, processor_order(order)).memories;
+            let behind = put_classes(out, memories, dues, k);
             put_sums(out, behind, owed, on_hand as i32)
         }
     }

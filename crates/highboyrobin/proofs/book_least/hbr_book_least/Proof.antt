@@ -13,7 +13,7 @@ use Rattle.profile.specs.LeastRange.{least-in-range}
 use Rattle.highboyrobin.specs.BookCalls.{countsIn}
 use Rattle.highboyrobin.proofs.Answering.{book-refused, book-told, book-done}
 use Rattle.highboyrobin.proofs.BooksTold.{least-book-moved, least-book-refused, least-book-at}
-use Rattle.highboyrobin.proofs.Calling.{book-short, book-few, book-call-refused, book-call-read}
+use Rattle.highboyrobin.proofs.Calling.{list-few, list-read, list-refused, list-short}
 use Rattle.highboyrobin.proofs.Carried.{carried-few, read-carries, least-book-carries}
 use borrow.Author.Needs.{needs}
 use native.Mathlib.Omega.{arith}
@@ -24,13 +24,13 @@ returns : tie.Need-returns
 returns c =
     let a = c .before .before .before .before .args in
     book-refused _ _ _ _ _ _ _ 255 0
-    (book-short (a .file .now) (length (a .answer .now)) 2 (length (a .book .now)) _ (c .if1 .taken)) _ refl
+    (list-short (a .file .now) (length (a .answer .now)) 2 (length (a .book .now)) 16 _ (c .if1 .taken)) _ refl
 
 returns-2 : tie.Need-returns-2
 returns-2 c =
     let a = c .before .before .before .before .before .args in
     book-refused _ _ _ _ _ _ _ 253 0
-    (book-few (a .file .now) (length (a .answer .now)) 2 (length (a .book .now)) (c .before .if1 .left) _ (c .if2 .taken)) _ refl
+    (list-few (a .file .now) (length (a .answer .now)) 2 (length (a .book .now)) 16 (c .before .if1 .left) _ (c .if2 .taken)) _ refl
 
 read-order-requires : tie.Need-read-order-requires
 read-order-requires c κs = search needs
@@ -53,7 +53,7 @@ returns-3 c =
     let f = a .file .now in
     let r = q .read-order in
     book-told _ _ _ _ _ _ _ (c .before .before .status .given .0 .0)
-    (book-call-refused f (length (a .answer .now)) 2 (length (a .book .now)) (q .before .before .if1 .left)
+    (list-refused f (length (a .answer .now)) 2 (length (a .book .now)) 16 (q .before .before .if1 .left)
     (q .before .if2 .left) (r .result) (r .ensures .0) _ _
     (booked-least-begins (orderIn f) (length (a .rows .now)) (countsIn (a .book .now))) _
     (c .before .before .status .given .1)) _ (c .result-of .ensures) _ refl
@@ -144,7 +144,7 @@ returns-4 c =
     (order-is f r e ok) (p .before .book-from .ensures) ((told .ensures .0, told .ensures .1 .1 .0), told .ensures .1 .1 .1) in
     let h = least-book-refused o (a .rows .now) _ counts (told .result) t (g .0 .0) (g .1) in
     book-told _ _ _ _ _ _ _ (g .0 .0)
-    (book-call-read f (length (a .answer .now)) 2 (length (a .book .now)) room enough r e _ ok ∙ h .0)
+    (list-read f (length (a .answer .now)) 2 (length (a .book .now)) 16 room enough r e _ ok ∙ h .0)
     _ (c .result-of2 .ensures) _ (h .1)
 
 same-length-3 : tie.Need-same-length-3
@@ -176,7 +176,7 @@ returns-5 c =
     let g = c .before .before .before .before .before .before .before .before .before .before .least2 .given in
     let h = least-book-at o (a .rows .now) _ counts (told .result) t (g .0 .0) (g .0 .1 .0) (g .1) in
     book-done _ _ _ _ _ _ (a .book .now) _
-    (book-call-read f (length (a .answer .now)) 2 (length (a .book .now)) room enough r e _ ok) (h .0) _ _ _ (told .result .book .counts)
+    (list-read f (length (a .answer .now)) 2 (length (a .book .now)) 16 room enough r e _ ok) (h .0) _ _ _ (told .result .book .counts)
     (record {
       count = g .0 .1 .0;
       written = h .2;

@@ -11,7 +11,7 @@ use Rattle.planner.specs.AnswerLaws.{booked-plan-begins}
 use Rattle.highboyrobin.specs.BookCalls.{countsIn}
 use Rattle.highboyrobin.proofs.Answering.{book-refused, book-told, book-done}
 use Rattle.highboyrobin.proofs.BooksTold.{book-moved, booked-refused, booked-tight, booked-rows}
-use Rattle.highboyrobin.proofs.Calling.{book-short, book-few, book-call-refused, book-call-read}
+use Rattle.highboyrobin.proofs.Calling.{list-few, list-read, list-refused, list-short}
 use Rattle.highboyrobin.proofs.Carried.{carried-few, read-carries, plan-book-carries}
 use borrow.Author.Needs.{needs}
 use native.Mathlib.Omega.{arith}
@@ -22,13 +22,13 @@ returns : tie.Need-returns
 returns c =
     let a = c .before .before .before .before .args in
     book-refused _ _ _ _ _ _ _ 255 0
-    (book-short (a .file .now) (length (a .answer .now)) 1 (length (a .book .now)) _ (c .if1 .taken)) _ refl
+    (list-short (a .file .now) (length (a .answer .now)) 1 (length (a .book .now)) 16 _ (c .if1 .taken)) _ refl
 
 returns-2 : tie.Need-returns-2
 returns-2 c =
     let a = c .before .before .before .before .before .args in
     book-refused _ _ _ _ _ _ _ 253 0
-    (book-few (a .file .now) (length (a .answer .now)) 1 (length (a .book .now)) (c .before .if1 .left) _ (c .if2 .taken)) _ refl
+    (list-few (a .file .now) (length (a .answer .now)) 1 (length (a .book .now)) 16 (c .before .if1 .left) _ (c .if2 .taken)) _ refl
 
 read-order-requires : tie.Need-read-order-requires
 read-order-requires c κs = search needs
@@ -51,7 +51,7 @@ returns-3 c =
     let f = a .file .now in
     let r = q .read-order in
     book-told _ _ _ _ _ _ _ (c .before .before .status .given .0 .0)
-    (book-call-refused f (length (a .answer .now)) 1 (length (a .book .now)) (q .before .before .if1 .left)
+    (list-refused f (length (a .answer .now)) 1 (length (a .book .now)) 16 (q .before .before .if1 .left)
     (q .before .if2 .left) (r .result) (r .ensures .0) _ _
     (booked-plan-begins (orderIn f) (a .bound) (length (a .rows .now)) (countsIn (a .book .now))) _
     (c .before .before .status .given .1)) _ (c .result-of .ensures) _ refl
@@ -148,7 +148,7 @@ returns-4 c =
     (order-is f r e ok) same (p .before .book-from .ensures) ((told .ensures .0, told .ensures .1 .1 .0), told .ensures .1 .1 .1) in
     let h = booked-refused o (a .bound) (a .rows .now) _ counts (told .result) t (g .0 .0) (g .1) in
     book-told _ _ _ _ _ _ _ (g .0 .0)
-    (book-call-read f (length (a .answer .now)) 1 (length (a .book .now)) room enough r e _ ok ∙ h .0)
+    (list-read f (length (a .answer .now)) 1 (length (a .book .now)) 16 room enough r e _ ok ∙ h .0)
     _ (c .result-of2 .ensures) _ (h .1)
 
 same-length-3 : tie.Need-same-length-3
@@ -177,7 +177,7 @@ returns-5 c =
     (order-is f r e ok) same (p .before .book-from .ensures) ((told .ensures .0, told .ensures .1 .1 .0), told .ensures .1 .1 .1) in
     let h = booked-tight o (a .bound) (a .rows .now) _ counts (told .result) t _ (c .enum-told2 .given .1) in
     book-refused _ _ _ _ _ _ _ 10 0
-    (book-call-read f (length (a .answer .now)) 1 (length (a .book .now)) room enough r e _ ok ∙ h .0) _ (h .1)
+    (list-read f (length (a .answer .now)) 1 (length (a .book .now)) 16 room enough r e _ ok ∙ h .0) _ (h .1)
 
 same-length-5 : tie.Need-same-length-5
 same-length-5 c = search needs
@@ -209,7 +209,7 @@ returns-6 c =
     (order-is f r e ok) same (p .before .book-from .ensures) ((told .ensures .0, told .ensures .1 .1 .0), told .ensures .1 .1 .1) in
     let h = booked-rows o (a .bound) (a .rows .now) _ counts (told .result) t (g .0 .0) (g .1) in
     book-done _ _ _ _ _ _ (a .book .now) _
-    (book-call-read f (length (a .answer .now)) 1 (length (a .book .now)) room enough r e _ ok) (h .0) _ _ _ (told .result .book .counts)
+    (list-read f (length (a .answer .now)) 1 (length (a .book .now)) 16 room enough r e _ ok) (h .0) _ _ _ (told .result .book .counts)
     (record {
       count = g .0 .0;
       written = h .1;

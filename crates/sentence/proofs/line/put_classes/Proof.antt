@@ -20,7 +20,7 @@ use Rattle.sentence.proofs.line.put_class.Reads as put-class-reads
 
 abbrev Inv-loop : tie.InvT-loop
 Inv-loop out₀ k memories dues next₀ i₀ out next i =
-    (i ≤ k) × (next ≤ 35 * i) × Put out₀ 0 (classesFrom (memories .at) 0 (take i dues)) out next
+    (i ≤ k) × (next ≤ 35 * i) × Put out₀ 0 (classesFrom memories 0 (take i dues)) out next
 
 abbrev μ-loop : tie.MeasureT-loop
 μ-loop out₀ k memories dues next₀ i₀ out next i = k - i
@@ -34,8 +34,8 @@ put-between-requires c κs = search needs
 mul-put-class : tie.Need-mul-put-class Inv-loop μ-loop
 mul-put-class c = search needs
 
-element-copy-out-put-class : tie.Need-element-copy-out-put-class Inv-loop μ-loop
-element-copy-out-put-class c = search needs
+array-read-put-class : tie.Need-array-read-put-class Inv-loop μ-loop
+array-read-put-class c = search needs
 
 mul-put-class-2 : tie.Need-mul-put-class-2 Inv-loop μ-loop
 mul-put-class-2 c = search needs
@@ -54,16 +54,16 @@ loop-less c = search needs
 
 loop-again : tie.Need-loop-again Inv-loop μ-loop
 loop-again c =
-    let s = c .before .before .before .before .before .before .before .before .before .before .before .before .before in
-    let l = c .before .before .before .before .before .before .before .before .before .before .before .loop in
-    let p2 = c .before .before .before .before .before .before .before .before .put-between .ensures in
+    let s = c .before .before .before .before .before .before .before .before .before .before .before .before in
+    let l = c .before .before .before .before .before .before .before .before .before .before .loop in
+    let p2 = c .before .before .before .before .before .before .before .put-between .ensures in
     let p3 = c .before .before .put-class .ensures in
-    let z = machine-back (getD (s .args .t3) (l .i) (pos 0)) (c .before .before .before .put-class-arg3 .given) in
+    let z = machine-back (getD (s .args .t3) (l .i) (pos 0)) (c .before .before .before .put-class-arg2 .given) in
     let size = s .good in (
       omega arith,
       omega (arith, l .inv .1, p2 .1, p3 .1),
-      put-as (classes-more (s .args .t2 .at) (s .args .t3) (l .i) (omega arith))
-          (put-both (l .inv .2) (put-both (p2 .0) (put-as (ap (classText (getD (s .args .t2 .at) (l .i) 0)) z) (p3 .0)))),
+      put-as (classes-more (s .args .t2) (s .args .t3) (l .i) (omega arith))
+          (put-both (l .inv .2) (put-both (p2 .0) (put-as (ap (classText (getD (s .args .t2) (l .i) 0)) z) (p3 .0)))),
     )
 
 same-length : tie.Need-same-length Inv-loop μ-loop
@@ -73,7 +73,7 @@ returns : tie.Need-returns Inv-loop μ-loop
 returns c =
     let l = c .before .loop in
     let e : l .i ≡ c .before .before .before .args .k = omega arith in (
-      put-as (ap (λ (n : ℕ). classesFrom (c .before .before .before .args .t2 .at) 0
+      put-as (ap (λ (n : ℕ). classesFrom (c .before .before .before .args .t2) 0
           (take n (c .before .before .before .args .t3))) e) (l .inv .2),
       omega (arith, l .inv .1),
     )
@@ -87,7 +87,7 @@ put-classes-spec =
     loop-holds
     put-between-requires
     mul-put-class
-    element-copy-out-put-class
+    array-read-put-class
     mul-put-class-2
     array-copy-out-put-class
     put-class-requires

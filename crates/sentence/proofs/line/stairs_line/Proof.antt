@@ -4,6 +4,8 @@ use mir.Syntax.{w32}
 use mir.ValLaws.{toZ-ofZ}
 use Rattle.order.specs.Machine.{machine-low}
 use Rattle.order.specs.Refusals.{boundInRange}
+use Rattle.order.specs.RefusalLaws.{accepted-iff}
+use Rattle.order.specs.StructLaws.{few-processors}
 use Rattle.order.specs.Table.{orderOf}
 use Rattle.profile.specs.Reason.{stairs}
 use Rattle.text.specs.TextLaws.{put-none, put-as, put-both}
@@ -19,7 +21,6 @@ use Rattle.sentence.proofs.line.stairs_line.Lts as lts
 use Rattle.sentence.proofs.line.put_classes.Reads as put-classes-reads
 use Rattle.sentence.proofs.line.put_sums.Reads as put-sums-reads
 use Rattle.sentence.proofs.standing.weigh.Reads as weigh-reads
-use Rattle.table.proofs.class.classes_of.Reads as classes-of-reads
 use Rattle.table.proofs.making.table_of.Reads as table-of-reads
 
 table-of-requires : tie.Need-table-of-requires
@@ -36,20 +37,23 @@ enum-told c = search needs
 enum-known-weighed : tie.Need-enum-known-weighed
 enum-known-weighed c = search needs
 
+processor-order-requires : tie.Need-processor-order-requires
+processor-order-requires c κs = let s = c .before .before .before .before .before .before in few-processors (s .args .order) (s .pre .0)
+
 classes-of-requires : tie.Need-classes-of-requires
-classes-of-requires c κs = search needs
+classes-of-requires c κs = let s = c .before .before .before .before .before .before .before in (few-processors (s .args .order) (s .pre .0), c .processor-order .ensures)
 
 put-classes-requires : tie.Need-put-classes-requires
 put-classes-requires c κs = search needs
 
 cast-put-sums : tie.Need-cast-put-sums
 cast-put-sums c =
-    let s = c .before .before .before .before .before .before .before .before .before .before .before .before in
+    let s = c .before .before .before .before .before .before .before .before .before .before .before .before .before .before in
     let o = orderOf (s .args .order) in
-    let w = c .before .before .before .before .before .before .before .before .before .weigh in
+    let w = c .before .before .before .before .before .before .before .before .before .before .before .weigh in
     let told = told-at-bound o _ (s .args .bound) (take (s .args .k) (s .args .dues)) (w .result)
     (toZ-ofZ w32 (s .args .bound) (s .fits .bound)) (w .ensures) in
-    let g = c .before .before .before .before .before .before .before .weighed .given in
+    let g = c .before .before .before .before .before .before .before .before .before .weighed .given in
     let h = weighed-stands o (s .args .bound) (take (s .args .k) (s .args .dues)) (w .result) (g .0 .0) (g .0 .1 .0)
     (g .1) told in
     record { sfits = omega (arith, h .3, h .4) }
@@ -76,19 +80,19 @@ same-length c = search needs
 returns-2 : tie.Need-returns-2
 returns-2 c =
     let s = c .before .before .before .before .before .before .before .before .before .before .before .before .before .before
-    .before in
+    .before .before .before in
     let o = orderOf (s .args .order) in
-    let w = c .before .before .before .before .before .before .before .before .before .before .before .before .weigh in
+    let w = c .before .before .before .before .before .before .before .before .before .before .before .before .before .before .weigh in
     let told = told-at-bound o _ (s .args .bound) (take (s .args .k) (s .args .dues)) (w .result)
     (toZ-ofZ w32 (s .args .bound) (s .fits .bound)) (w .ensures) in
-    let g = c .before .before .before .before .before .before .before .before .before .before .weighed .given in
+    let g = c .before .before .before .before .before .before .before .before .before .before .before .before .weighed .given in
     let h = weighed-stands o (s .args .bound) (take (s .args .k) (s .args .dues)) (w .result) (g .0 .0) (g .0 .1 .0)
     (g .1) told in
-    let m = c .before .before .before .before .before .before .before .classes-of in
+    let m = c .before .before .before .before .before .before .before .before .before .classes-of in
     let back = machine-low (g .0 .1 .0) (omega (arith, h .3, h .4)) in
     let p1 = c .before .before .before .before .before .before .put-classes .ensures in
     let p2 = c .before .before .put-sums .ensures in (
-      put-as (stairs-line o (s .args .bound) (m .result) (m .ensures) (take (s .args .k) (s .args .dues)) (g .0 .0)
+      put-as (stairs-line o (s .args .bound) (accepted-iff o .0 (s .pre .0) .few-processors) (m .result) (m .ensures) (take (s .args .k) (s .args .dues)) (g .0 .0)
           (g .0 .1 .0) h)
           (put-both (p1 .0) (put-as (ap (sumsText (g .0 .0)) back) (p2 .0))),
       omega (arith, p1 .1, p2 .1),
@@ -102,6 +106,7 @@ stairs-line-spec =
     weigh-requires
     enum-told
     enum-known-weighed
+    processor-order-requires
     classes-of-requires
     put-classes-requires
     cast-put-sums
