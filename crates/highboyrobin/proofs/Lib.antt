@@ -14,3 +14,4 @@ mod TimedCalling
 mod TimedTold
 mod TimesTold
 mod TimesRead
+mod ClassesTold
