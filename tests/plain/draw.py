@@ -5,7 +5,8 @@ equal memories, equal jobs, ties in need, needs of 0 and of 4,294,967,295,
 negative due times and due times that are all equal. Document 02, §4: "Each job
 gains a maker number, 1 to 16": they have jobs of one maker and of several. §5: "a
 ready minute [..] for each job and one window [..] for each processor": times of small
-orders, many of them equal, windows that touch and windows that are long.
+orders, many of them equal, windows that touch and windows that are long. §6: "distinct
+memories and the processors of each": up to 16 processors of few distinct memories.
 """
 
 import orders
@@ -123,6 +124,17 @@ def wide(draw, m, n, time_most, due_most):
     jobs = [(draw.between(1, time_most), draw.between(-due_most, due_most),
              draw.between(0, max(memories))) for _ in range(n)]
     return by_makers(draw, memories, jobs)
+
+
+def few_memories(draw):
+    """Up to 16 processors of few distinct memories, and up to 3 jobs."""
+    palette = draw.one_of(MEMORIES)
+    if draw.below(2):
+        palette = [draw.between(0, orders.WORD_MOST) for _ in range(draw.between(1, 5))]
+    memories = [draw.one_of(palette) for _ in range(draw.between(1, 16))]
+    return by_makers(draw, memories, [
+        (draw.between(1, 9), draw.between(-3, 9), need(draw, memories))
+        for _ in range(draw.between(1, 3))])
 
 
 def window(draw, last):
