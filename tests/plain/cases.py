@@ -15,6 +15,7 @@ import answers
 import book
 import cases_book
 import cases_check
+import cases_classes
 import cases_join
 import cases_planner
 import cases_read
@@ -22,6 +23,7 @@ import cases_sentence
 import cases_timed
 import cases_timed_check
 import cases_write
+import classes
 import flow
 import stream_form
 import timed_answers
@@ -29,7 +31,7 @@ import timed_answers
 HERE = pathlib.Path(__file__).resolve().parent
 PROGRAM = HERE.parent.parent / "crates" / "cases"
 PARTS = (cases_read, cases_check, cases_write, cases_planner, cases_sentence,
-         cases_join, cases_book, cases_timed, cases_timed_check)
+         cases_join, cases_book, cases_timed, cases_timed_check, cases_classes)
 # What the program reads, what it has to print, and what each case shows.
 STORED = {"stdin": PROGRAM / "stdin", "stdout": PROGRAM / "stdout",
           "list": HERE / "streams" / "cases.list"}
@@ -37,7 +39,7 @@ ANSWER = {"read": answers.read, "check": answers.check, "write": answers.write,
           "least": answers.least_lateness, "plan": answers.plan,
           "compose": answers.compose, "parse": answers.parse, "book": book.told,
           "asked": timed_answers.asked, "timed": timed_answers.planned,
-          "watch": timed_answers.checked}
+          "watch": timed_answers.checked, "classes": classes.told}
 BYTES_MOST = 2000000
 
 

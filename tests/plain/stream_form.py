@@ -15,6 +15,7 @@ A stream is a sequence of records; every number takes 4 bytes, little-endian
     9  asked    ORDER, bound, TIMES
     10 timed    ORDER, bound, TIMES, room (numbers)
     11 watch    ORDER, bound, TIMES, R, then R numbers (the lent rows)
+    12 classes  ORDER
 
 ORDER is m, n, then min(m, 16) memories, then min(n, 48) jobs as time, due, need,
 maker. A count beyond its array stands for the list of that many: the given ones,
@@ -42,7 +43,7 @@ import orders
 import timed
 
 KINDS = {"read": 1, "check": 2, "least": 3, "plan": 4, "write": 5, "compose": 6,
-         "parse": 7, "book": 8, "asked": 9, "timed": 10, "watch": 11}
+         "parse": 7, "book": 8, "asked": 9, "timed": 10, "watch": 11, "classes": 12}
 # The kinds that are given times.
 TIMED = ("asked", "timed", "watch")
 # One for each class that there can be.
@@ -177,6 +178,8 @@ class Source:
         if kind in TIMED:
             return self.timed(kind)
         order = self.order()
+        if kind == "classes":
+            return (order,)
         if kind == "check":
             return order, self.signed(), self.rows()
         if kind == "plan":

@@ -109,6 +109,15 @@ class Form(unittest.TestCase):
         data = stream_form.pack(stream_form.Record("asked", (many, 0, given)))
         self.assertEqual(len(data), 4 * (3 + 16 + 4 * 48 + 1 + 48 + 2 * 16))
 
+    def test_classes_by_hand(self):
+        order = orders.order([4, 8, 4, 2], [(3, -1, 8, 16)])
+        record = stream_form.Record("classes", (order,))
+        data = stream_form.pack(record)
+        self.assertEqual(data.hex(" ", 4), (
+            "0c000000 04000000 01000000 04000000 08000000 04000000 02000000 03000000 "
+            "ffffffff 08000000 10000000"))
+        self.assertEqual(stream_form.unpack(data + bytes(4)), [record])
+
     def test_sizes(self):
         data = cases.STORED["stdin"].read_bytes()
         self.assertLess(len(data), cases.BYTES_MOST)
@@ -131,7 +140,7 @@ class Stored(unittest.TestCase):
             "plan": {*of_order, 8, 9}, "compose": {*of_order, 8, 9},
             "parse": {*of_order, 8}, "book": {*of_order, 8, 9, 14},
             "asked": {*of_order, 8, 15, 16}, "timed": {*of_order, 8, 9, 15, 16},
-            "watch": {*of_order, 8, 11, 15, 16}})
+            "watch": {*of_order, 8, 11, 15, 16}, "classes": of_order})
 
     def test_a_file_of_over_844_bytes(self):
         lengths = {len(record.values[0]) for record, _ in stored()
@@ -233,6 +242,28 @@ class Stored(unittest.TestCase):
                     self.assertEqual(line, "refused 14 0")
         self.assertGreater(min(accepted, refused), 200)
 
+    def test_classes(self):
+        # Each processor of each class crossed off by itself: none is left.
+        counts = {}
+        for record, (line, *_) in stored():
+            if record.kind != "classes" or line.startswith("refused"):
+                continue
+            word, *numbers = line.split()
+            self.assertEqual(word, "classes")
+            found = list(zip(map(int, numbers[::2]), map(int, numbers[1::2]),
+                             strict=True))
+            for (larger, _), (smaller, _) in zip(found, found[1:]):
+                self.assertGreater(larger, smaller)
+            left = list(record.values[0].memories)
+            for memory, count in found:
+                self.assertGreater(count, 0)
+                for _ in range(count):
+                    left.remove(memory)
+            self.assertEqual(left, [])
+            counts[len(found)] = counts.get(len(found), 0) + 1
+        self.assertGreater(min(counts[k] for k in (1, 2, 3, 4)), 20)
+        self.assertEqual(max(counts), 16)
+
     def test_rooms_and_lengths_in_reach(self):
         for record, _ in stored():
             if record.kind in ("read", "parse"):
@@ -249,7 +280,7 @@ class Stored(unittest.TestCase):
                 self.assertLessEqual(len(record.values[3]), 32264)
             elif record.kind == "timed":
                 self.assertTrue(0 <= record.values[3] <= 32264)
-            elif record.kind == "asked":
+            elif record.kind in ("asked", "classes"):
                 continue
             else:
                 self.assertLessEqual(record.values[-1], 12104)
