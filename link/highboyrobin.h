@@ -24,12 +24,13 @@
  *
  * Results. Each function returns 0 where it succeeds, else a refusal: its number is hbr_number(result), and the job that it is
  * about, of 16 the processor, 0 where it is about none, hbr_job(result). Of several refusals that apply the first is told:
- * HBR_SHORT_ANSWER, HBR_PART_JOB, HBR_SHORT_REASON or HBR_SHORT_BOOK, 12, HBR_WRONG_TIMES, then 1 to 6, 13, 7, 15, 16, 8 to 11, 14.
+ * HBR_SHORT_ANSWER, HBR_PART_JOB, HBR_SHORT_CLASSES, HBR_SHORT_REASON or HBR_SHORT_BOOK, 12, HBR_WRONG_TIMES, then 1 to 6, 13, 7,
+ * 15, 16, 8 to 11, 14.
  *
  * Memory. You own every buffer; nothing is kept after a call, and nothing is allocated. Two buffers of one call must not overlap
  * unless both are const. Lengths count elements, not bytes. Pointers must be valid and aligned, not NULL, also where the length is
- * 0. A REFUSED CALL WRITES NOTHING, neither to rows, book, file or line nor to the answer. A call that succeeds leaves what lies
- * beyond its rows, its book, its file, its line or its answer as it was.
+ * 0. A REFUSED CALL WRITES NOTHING, neither to classes, rows, book, file or line nor to the answer. A call that succeeds leaves what
+ * lies beyond its classes, its rows, its book, its file, its line or its answer as it was.
  *
  * Threads. A call keeps nothing, so calls may run at once on several threads, and a call may be interrupted by another: in a
  * signal or interrupt handler, or by a thread switch. As long as a call runs, no buffer that it writes may be read or written by
@@ -49,11 +50,12 @@
 extern "C" {
 #endif
 
-/* the most processors and jobs of an order, bytes of its file, rows of a plan, rows of a plan with times, bytes of a reason's line;
- * makers are numbered up to HBR_MOST_MAKERS, and a book has as many numbers, none over HBR_MOST_BOOKED; no ready minute, opening or
- * closing is over HBR_MOST_MINUTE */
+/* the most processors, jobs and classes of an order, bytes of its file, rows of a plan, rows of a plan with times, bytes of a reason's
+ * line; makers are numbered up to HBR_MOST_MAKERS, and a book has as many numbers, none over HBR_MOST_BOOKED; no ready minute, opening
+ * or closing is over HBR_MOST_MINUTE */
 #define HBR_MOST_PROCESSORS 16
 #define HBR_MOST_JOBS 48
+#define HBR_MOST_CLASSES 16
 #define HBR_MOST_BYTES 844
 #define HBR_MOST_ROWS 3024
 #define HBR_MOST_TIMED_ROWS 8064
@@ -81,6 +83,7 @@ extern "C" {
 #define HBR_BAD_WINDOW 16         /* a window is not in 0 to 1000000 or does not close after it opens; told after 15, before 8 */
 #define HBR_SHORT_REASON 253      /* the reason has under 19 numbers */
 #define HBR_SHORT_BOOK 253        /* the book has under 16 numbers; the same number, since no function has both */
+#define HBR_SHORT_CLASSES 253     /* the classes have under 32 numbers */
 #define HBR_WRONG_TIMES 253       /* the ready minutes are not one to a job or the windows not two numbers to a processor; after 12 */
 #define HBR_PART_JOB 254          /* the numbers of the jobs are not four to a job */
 #define HBR_SHORT_ANSWER 255      /* the answer is shorter than the function's HBR_.._ANSWER */
@@ -93,6 +96,14 @@ extern "C" {
  * 4 * answer[2] numbers. */
 #define HBR_JUDGE_ANSWER 3
 uint32_t hbr_judge(const uint8_t *file, size_t file_length, int32_t *answer, size_t answer_length);
+
+/* The classes of an order: its distinct memories, the largest first. From classes[0] on there are two numbers to a class, class 1
+ * first: its memory and how many processors have it. Memories 4, 8, 4, 2 give 8 1, 4 2, 2 1. classes_length counts numbers, not
+ * classes: lend 2 * HBR_MOST_CLASSES, whatever the order. Refusals, in the order in which they are told: 255, 253, 12, 1 to 6, 13, 7.
+ * answer[0] the number of classes, 1 to HBR_MOST_CLASSES. */
+#define HBR_CLASSES_ANSWER 1
+uint32_t hbr_classes(const uint8_t *file, size_t file_length, uint32_t *classes, size_t classes_length, int32_t *answer,
+                     size_t answer_length);
 
 /* The least lateness: the smallest whole number that, as the bound, lets every job be done by its end. It may be negative: then
  * all can be early. A plan that meets it is written from rows[0] on. rows_length counts numbers, not rows: it is 4 * rows.
@@ -128,8 +139,8 @@ uint32_t hbr_book_plan(const uint8_t *file, size_t file_length, int32_t bound, u
  * answer[0] HBR_NONE where there is a plan, else HBR_JOB or HBR_STAIRS.
  * HBR_JOB: answer[1] the first job whose time exceeds its end, answer[2] its time.
  * HBR_STAIRS: answer[1] a count k of classes, answer[3] to answer[k + 2] a due time for each. Class 1 is the processors of the
- * largest memory, class 2 those of the next, and so on; the jobs of these classes need more minutes by the ends of those due times
- * than their processors have.
+ * largest memory, class 2 those of the next, and so on, as hbr_classes tells them; the jobs of these classes need more minutes by the
+ * ends of those due times than their processors have.
  * All numbers not named are 0. */
 #define HBR_NONE 0
 #define HBR_JOB 1

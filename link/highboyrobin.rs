@@ -4,9 +4,11 @@
 //! listed. Due 10 means done by the close of minute 10, so the end is minute 11: a job's end is its due time plus the bound plus 1.
 //! An order is handed over as the bytes of an order file, which `write` makes. A refused call writes nothing.
 
-/// The most processors and jobs of an order, bytes of its file, rows of a plan, rows of a plan with times, bytes of a reason's line.
+/// The most processors, jobs and classes of an order, bytes of its file, rows of a plan, rows of a plan with times, bytes of a
+/// reason's line.
 pub const MOST_PROCESSORS: usize = 16;
 pub const MOST_JOBS: usize = 48;
+pub const MOST_CLASSES: usize = 16;
 pub const MOST_BYTES: usize = 844;
 pub const MOST_ROWS: usize = 3024;
 pub const MOST_TIMED_ROWS: usize = 8064;
@@ -25,6 +27,14 @@ pub mod raw {
         pub fn hbr_judge(
             file: *const u8,
             file_length: usize,
+            answer: *mut i32,
+            answer_length: usize,
+        ) -> u32;
+        pub fn hbr_classes(
+            file: *const u8,
+            file_length: usize,
+            classes: *mut u32,
+            classes_length: usize,
             answer: *mut i32,
             answer_length: usize,
         ) -> u32;
@@ -208,7 +218,7 @@ impl Refused {
             14 => "a count of the book would be over 4,000,000,000",
             15 => "a ready minute is not 0 to 1,000,000",
             16 => "a window is not in 0 to 1,000,000, or does not close after it opens",
-            253 => "the reason has under 19 numbers, the book under 16, or the times are not one to each job and processor",
+            253 => "the reason has under 19 numbers, the book under 16, the classes under 32, or the times are not one to each job and processor",
             254 => "the numbers of the jobs are not four to a job",
             255 => "the answer is too short",
             _ => "no refusal has this number",
@@ -236,6 +246,34 @@ pub struct Sizes {
     pub processors: usize,
     pub jobs: usize,
     pub rows: usize,
+}
+
+/// A class of processors: the memory that they have, and how many they are.
+#[repr(C)]
+#[derive(Clone, Copy, Debug, Default, PartialEq, Eq)]
+pub struct Class {
+    pub memory: u32,
+    pub processors: u32,
+}
+
+/// The classes of an order.
+#[derive(Clone, Copy, Debug, PartialEq, Eq)]
+pub struct Classes {
+    count: usize,
+    /// zeros beyond the count
+    all: [Class; MOST_CLASSES],
+}
+
+impl Classes {
+    /// How many there are, 1 to 16.
+    pub fn count(&self) -> usize {
+        self.count
+    }
+
+    /// The classes, class 1 with the largest memory first.
+    pub fn listed(&self) -> &[Class] {
+        &self.all[..self.count]
+    }
 }
 
 /// The least lateness, and how many rows were written.
@@ -331,6 +369,27 @@ pub fn judge(file: &[u8]) -> Result<Sizes, Refused> {
         processors,
         jobs,
         rows,
+    })
+}
+
+/// The classes of an order: its distinct memories, the largest first, each with how many processors have it. Refusals: 12, 1 to 6,
+/// 13, 7.
+pub fn classes(file: &[u8]) -> Result<Classes, Refused> {
+    let (mut all, mut answer) = ([Class::default(); MOST_CLASSES], [0; 1]);
+    let (at, length) = (all.as_mut_ptr().cast(), all.len() * 2);
+    told(unsafe {
+        raw::hbr_classes(
+            file.as_ptr(),
+            file.len(),
+            at,
+            length,
+            answer.as_mut_ptr(),
+            answer.len(),
+        )
+    })?;
+    Ok(Classes {
+        count: answer[0] as usize,
+        all,
     })
 }
 

@@ -1,5 +1,5 @@
 /* The archive without a C library: this program brings its own memcpy and memset. Order C has the least lateness -8; its job, ready
- * at 5 on a processor that is open up to 100, runs from 5 to 8 at -3. Linux on x86-64. */
+ * at 5 on a processor that is open up to 100, runs from 5 to 8 at -3; it has one class, one processor of memory 4. Linux on x86-64. */
 #include "../../link/highboyrobin.h"
 
 void *memcpy(void *to, const void *from, size_t count) {
@@ -20,7 +20,7 @@ int begin(void) {
   const uint32_t jobs[] = {3, 10, 4, 1};
   const uint32_t ready[] = {5}, windows[] = {0, 100};
   static uint8_t file[HBR_MOST_BYTES];
-  static uint32_t rows[16], book[HBR_MOST_MAKERS];
+  static uint32_t rows[16], book[HBR_MOST_MAKERS], classes[2 * HBR_MOST_CLASSES];
   int32_t length[HBR_WRITE_ANSWER], least[HBR_LEAST_ANSWER], asked[HBR_TIMED_ROWS_ANSWER];
   if (hbr_write(memories, 1, jobs, 4, file, sizeof file, length, HBR_WRITE_ANSWER) != 0)
     return 1;
@@ -39,7 +39,11 @@ int begin(void) {
     return 7;
   if (hbr_timed_check(file, (size_t)length[0], -3, ready, 1, windows, 2, rows, 4, asked, HBR_TIMED_CHECK_ANSWER) != 0)
     return 8;
-  return asked[0] == 1 ? 0 : 9;
+  if (asked[0] != 1)
+    return 9;
+  if (hbr_classes(file, (size_t)length[0], classes, 2 * HBR_MOST_CLASSES, asked, HBR_CLASSES_ANSWER) != 0)
+    return 10;
+  return asked[0] == 1 && classes[0] == 4 && classes[1] == 1 ? 0 : 11;
 }
 
 /* the stack is aligned to 16 bytes here; 60 leaves the program */

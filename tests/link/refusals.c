@@ -7,6 +7,7 @@
 
 static int32_t answer[HBR_REASON_ANSWER];
 static uint32_t rows[4 * (HBR_MOST_TIMED_ROWS + 1)];
+static uint32_t classes[2 * HBR_MOST_CLASSES];
 static uint8_t line[HBR_MOST_LINE];
 static uint8_t file[HBR_MOST_BYTES];
 static uint32_t memories[HBR_MOST_PROCESSORS + 1];
@@ -18,6 +19,7 @@ static int wrong;
 static void fill(void) {
   memset(answer, KEPT, sizeof answer);
   memset(rows, KEPT, sizeof rows);
+  memset(classes, KEPT, sizeof classes);
   memset(line, KEPT, sizeof line);
 }
 
@@ -37,10 +39,10 @@ static int as_filled(const void *buffer, size_t size) {
   return 1;
 }
 
-/* the result is this refusal of this job, and answer, rows, line and book are as they were filled */
+/* the result is this refusal of this job, and answer, rows, classes, line and book are as they were filled */
 static void refused(uint32_t result, uint32_t number, uint32_t job) {
-  int kept = as_filled(answer, sizeof answer) && as_filled(rows, sizeof rows) && as_filled(line, sizeof line) &&
-             memcmp(book, kept_book, sizeof book) == 0;
+  int kept = as_filled(answer, sizeof answer) && as_filled(rows, sizeof rows) && as_filled(classes, sizeof classes) &&
+             as_filled(line, sizeof line) && memcmp(book, kept_book, sizeof book) == 0;
   if (hbr_number(result) != number || hbr_job(result) != job || !kept) {
     printf("refusal %u of job %u: got %u of job %u, %s\n", number, job, hbr_number(result), hbr_job(result),
            kept ? "nothing written" : "something written");
@@ -86,6 +88,21 @@ static void of_orders(void) {
     printf("a refused hbr_write wrote to the file\n");
     wrong++;
   }
+}
+
+/* the refusals of the classes on the same order, and the one class that it has, after which nothing is written */
+static void of_classes(size_t length) {
+  const size_t enough = 2 * HBR_MOST_CLASSES;
+  refused(hbr_classes(file, 11, classes, enough - 1, answer, HBR_CLASSES_ANSWER - 1), HBR_SHORT_ANSWER, 0);
+  refused(hbr_classes(file, 11, classes, enough - 1, answer, HBR_CLASSES_ANSWER), HBR_SHORT_CLASSES, 0);
+  refused(hbr_classes(file, length, classes, enough - 1, answer, HBR_CLASSES_ANSWER), HBR_SHORT_CLASSES, 0);
+  refused(hbr_classes(file, 11, classes, enough, answer, HBR_CLASSES_ANSWER), HBR_BAD_FILE, 0);
+  if (hbr_classes(file, length, classes, enough, answer, HBR_CLASSES_ANSWER) != 0 || answer[0] != 1 || classes[0] != 4 ||
+      classes[1] != 1 || !as_filled(&classes[2], sizeof classes - 2 * sizeof classes[0])) {
+    printf("the classes of one processor of memory 4 are wrong\n");
+    wrong++;
+  }
+  fill();
 }
 
 /* the refusals of composing and of reading back on the same order; at -9 the line of job 1 has 39 bytes */
@@ -174,6 +191,7 @@ static void of_calls(void) {
   refused(hbr_check(file, length, -1, rows, 4 * 3025, answer, HBR_CHECK_ANSWER), HBR_TOO_MANY_ROWS, 0);
   refused(hbr_judge(file, length, answer, HBR_JUDGE_ANSWER - 1), HBR_SHORT_ANSWER, 0);
   refused(hbr_reason(file, length, -1, answer, HBR_REASON_ANSWER - 1), HBR_SHORT_ANSWER, 0);
+  of_classes(length);
   of_lines(length);
   of_books(length);
   of_times(length);

@@ -4,10 +4,10 @@
 #[path = "../../link/highboyrobin.rs"]
 mod highboyrobin;
 use highboyrobin::{
-    book_least, book_plan, check, judge, least, parse, plan, reason, sentence, write,
+    book_least, book_plan, check, classes, judge, least, parse, plan, reason, sentence, write,
 };
 use highboyrobin::{timed_check, timed_plan, timed_rows};
-use highboyrobin::{Book, Job, Least, Reason, Refused, Row, Sizes, Window};
+use highboyrobin::{Book, Class, Job, Least, Reason, Refused, Row, Sizes, Window};
 use highboyrobin::{MOST_BOOKED, MOST_BYTES, MOST_LINE, MOST_MAKERS, MOST_MINUTE, MOST_TIMED_ROWS};
 
 const KEPT: Row = Row {
@@ -101,6 +101,29 @@ fn order_a() {
         panic!("A at -1 has no staircase");
     };
     assert_eq!((classes, &dues[..3]), (2, &[3, 3, 0][..]));
+}
+
+// these memories have these classes: memory and processors of each
+fn has_classes(memories: &[u32], listed: &[(u32, u32)]) {
+    let mut bytes = [0; MOST_BYTES];
+    let length = write(memories, &[job((1, 5, 0))], &mut bytes).unwrap();
+    let told = classes(&bytes[..length]).unwrap();
+    assert_eq!(told.count(), listed.len());
+    let class = |&(memory, processors)| Class { memory, processors };
+    let listed: Vec<Class> = listed.iter().map(class).collect();
+    assert_eq!(told.listed(), listed);
+}
+
+fn classes_of_orders() {
+    has_classes(&[4], &[(4, 1)]);
+    has_classes(&[4, 8, 4, 2], &[(8, 1), (4, 2), (2, 1)]);
+    has_classes(&[0, u32::MAX, 0], &[(u32::MAX, 1), (0, 2)]);
+    has_classes(&[7; 16], &[(7, 16)]);
+    let distinct: Vec<u32> = (0..16).collect();
+    let each: Vec<(u32, u32)> = (0..16).rev().map(|memory| (memory, 1)).collect();
+    has_classes(&distinct, &each);
+    assert_eq!(classes(&[0; 11]), Err(refused(12, 0)));
+    assert_eq!(classes(&[0; 12]), Err(refused(1, 0)));
 }
 
 // a reason composes to this line and is read back from it; one byte less is refused, and nothing beyond the line changes
@@ -319,6 +342,7 @@ fn main() {
     order_c();
     refusals();
     order_a();
+    classes_of_orders();
     line_of_c();
     line_of_b();
     books();
