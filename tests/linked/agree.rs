@@ -2,14 +2,16 @@
 //! flow against the staircases, the table of completions against trying each, tiny orders against a
 //! search minute by minute, its plans against the four rules, its joined rows against its rows as
 //! laid out, its files against their reader, its two readers of lines against each other, its books
-//! against the orders, its plans with ready minutes and windows against a search with them.
+//! against the orders, its two ways to list classes against each other, its plans with ready minutes
+//! and windows against a search with them.
 
 mod books;
+mod classes;
 mod joins;
 mod times;
 
 use crate::draw::lines::changed;
-use crate::draw::orders::{tiny, LARGE_FAMILIES, SMALL_FAMILIES};
+use crate::draw::orders::{many_memories, tiny, LARGE_FAMILIES, SMALL_FAMILIES};
 use crate::draw::Random;
 use crate::independent::{
     composed, judge, least, least_between, meets, plan, read, read_by_form, read_by_trying, reason,
@@ -43,8 +45,9 @@ pub fn run(small: u64, large: u64) -> Result<u64, String> {
         let (_, family) = SMALL_FAMILIES[seed as usize % SMALL_FAMILIES.len()];
         let order = family(&mut random);
         times::agree(&mut random, &order)?;
+        classes::agree(&many_memories(&mut random))?;
     }
-    Ok(2 * small + small / 2 + large)
+    Ok(2 * (small + small / 2) + large)
 }
 
 fn agrees(order: &Order) -> Result<(), String> {
@@ -66,7 +69,8 @@ fn agrees(order: &Order) -> Result<(), String> {
     for away in [0, 1, 100] {
         joins::agree(order, i64::from(least + away))?;
     }
-    books::agree(order)
+    books::agree(order)?;
+    classes::agree(order)
 }
 
 /// An order at a bound that is met or not: the flow, the staircases and both ways to find them

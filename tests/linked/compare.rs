@@ -28,6 +28,10 @@ pub fn wrong(
     match expected {
         Expected::Refused(_) => {}
         Expected::Answer(numbers) => should.answer.put(numbers),
+        Expected::Classes(classes) => {
+            should.classes.put(&classes.concat());
+            should.answer.put(&[classes.len() as i32]);
+        }
         Expected::File(bytes) => {
             should.file.put(bytes);
             should.answer.put(&[bytes.len() as i32]);
@@ -136,6 +140,7 @@ fn unequal(should: &Call, is: &Call) -> Option<String> {
         ("file", is.file.unequal_at(&should.file)),
         ("memories", is.memories.unequal_at(&should.memories)),
         ("jobs", is.jobs.unequal_at(&should.jobs)),
+        ("classes", is.classes.unequal_at(&should.classes)),
         ("ready", is.ready.unequal_at(&should.ready)),
         ("windows", is.windows.unequal_at(&should.windows)),
         ("rows", is.rows.unequal_at(&should.rows)),

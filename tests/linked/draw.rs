@@ -1,5 +1,5 @@
-//! Seeded draws: the same seed gives the same orders, files, row lists, reasons, lines, books, times
-//! and buffers on every machine.
+//! Seeded draws: the same seed gives the same memories, orders, files, row lists, reasons, lines,
+//! books, times and buffers on every machine.
 
 pub mod books;
 pub mod bounds;
@@ -10,6 +10,7 @@ pub mod lengths;
 pub mod lines;
 pub mod lists;
 pub mod makers;
+pub mod memories;
 pub mod orders;
 mod packed;
 pub mod reasons;

@@ -6,7 +6,7 @@ use crate::independent::{
     self, Job, Order, Reason, Refusal, Times, MAKERS, MOST_ROWS, MOST_TIMED_ROWS,
 };
 use crate::lent::Call;
-use crate::library::{Function, REASON_NUMBERS};
+use crate::library::{Function, CLASS_NUMBERS, REASON_NUMBERS};
 use std::ops::RangeInclusive;
 
 const BOUNDS: RangeInclusive<i32> = -10_000_000..=10_000_000;
@@ -16,6 +16,8 @@ pub enum Expected {
     Refused(Refusal),
     /// These numbers in the answer, and nothing else written.
     Answer(Vec<i32>),
+    /// These classes, memory and processors of each, and their count in the answer.
+    Classes(Vec<[u32; 2]>),
     /// The rows of a plan at this bound, which keeps these times, if there are any; the answer is the
     /// lateness, if asked for, and the row count; these counts in the book, if it is booked.
     Plan {
@@ -74,6 +76,9 @@ pub fn expected(function: Function, call: &Call, known: &mut Known) -> Expected 
     }
     if function == Function::Write {
         return written(call);
+    }
+    if function == Function::Classes && call.classes.len() < CLASS_NUMBERS {
+        return refused(253, 0);
     }
     if function == Function::Sentence && call.reason.len() < REASON_NUMBERS {
         return refused(253, 0);
@@ -158,6 +163,7 @@ fn answer(function: Function, call: &Call, known: &mut Known) -> Expected {
     let bound = call.bound;
     match function {
         Function::Judge => Expected::Answer(counts(known.order())),
+        Function::Classes => Expected::Classes(independent::class_list(known.order())),
         Function::Least | Function::BookLeast => Expected::Plan {
             bound: known.least(),
             times: None,

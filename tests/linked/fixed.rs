@@ -1,9 +1,10 @@
 //! Document 01's "Orders to try", the small examples of its refusal table and its order file of C,
 //! with the values that stand there, the leasts and the bounds one lower as document 02's §3 has
 //! them, each job of maker 1 as its §4 has it; the lines, the joined rows, the ends, the makers, the
-//! books, and the ready minutes and windows of document 02 in `fixed/`.
+//! books, the classes, and the ready minutes and windows of document 02 in `fixed/`.
 
 mod books;
+mod classes;
 mod ends;
 mod joins;
 mod kept;
@@ -16,7 +17,7 @@ mod untimed;
 use crate::draw::Random;
 use crate::independent::{write, Job, Order, MAKERS};
 use crate::lent::{job_numbers, Call};
-use crate::library::{Function, READERS, REASON_NUMBERS};
+use crate::library::{Function, CLASS_NUMBERS, READERS, REASON_NUMBERS};
 use crate::trial::Trial;
 
 const C_FILE: [u8; 32] = [
@@ -74,6 +75,7 @@ pub fn run(trial: &mut Trial) {
     accepted(trial);
     trial.begin("document 02", 0);
     makers::run(trial);
+    classes::run(trial);
     books::run(trial);
     lines::run(trial);
     others::run(trial);
@@ -101,6 +103,7 @@ fn on_few(random: &mut Random, order: &Order) -> Call {
 fn on_with_room(random: &mut Random, order: &Order, numbers: usize) -> Call {
     let windows = [0, times::MOST].repeat(order.memories.len());
     Call::with_file(random, &write(order), 19)
+        .with_class_room(random, CLASS_NUMBERS)
         .with_room(random, numbers)
         .with_book(random, &[0; MAKERS])
         .with_times(random, &vec![0; order.jobs.len()], &windows)

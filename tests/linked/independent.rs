@@ -1,6 +1,6 @@
 //! Documents 01 and 02 in plain Rust, made apart from the proved code and from their text alone:
-//! orders, order files, right plans and their joining, the least lateness, reasons and their lines,
-//! books, plans with ready minutes and windows. Whether a bound is met is decided by a maximum flow,
+//! orders, order files, classes, right plans and their joining, the least lateness, reasons and their
+//! lines, books, plans with ready minutes and windows. Whether a bound is met is decided by a maximum flow,
 //! never by the staircase sums, so that each of the two can be held against the other.
 
 // a program that takes this module in may use only a part of it
@@ -42,6 +42,7 @@ mod wrap;
 pub use accept::judge;
 pub use amounts::{amounts, least, least_between, meets, plan};
 pub use book::{booked, minutes_of, MAKERS, MOST_BOOKED};
+pub use classes::{class_list, Classes};
 pub use clip::{clipped, clipped_to, joins, joins_over};
 pub use join::{join, joined};
 pub use order_file::{lists, read, write};

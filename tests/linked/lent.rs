@@ -83,6 +83,7 @@ pub struct Call {
     pub file: Lent<u8>,
     pub memories: Lent<u32>,
     pub jobs: Lent<u32>,
+    pub classes: Lent<u32>,
     pub bound: i32,
     pub ready: Lent<u32>,
     pub windows: Lent<u32>,
@@ -100,6 +101,7 @@ impl Call {
             file: Lent::holding(file, random, byte),
             memories: Lent::filled(0, random, number),
             jobs: Lent::filled(0, random, number),
+            classes: Lent::filled(0, random, number),
             bound: 0,
             ready: Lent::filled(0, random, number),
             windows: Lent::filled(0, random, number),
@@ -130,6 +132,12 @@ impl Call {
     /// The same with this bound.
     pub fn at(self, bound: i32) -> Call {
         Call { bound, ..self }
+    }
+
+    /// The same with room for so many numbers of classes.
+    pub fn with_class_room(self, random: &mut Random, numbers: usize) -> Call {
+        let classes = Lent::filled(numbers, random, number);
+        Call { classes, ..self }
     }
 
     /// The same with these ready minutes and these windows.

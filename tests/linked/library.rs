@@ -1,11 +1,12 @@
-//! The thirteen functions of the header: what they are called, how long their answers are, which
-//! refusals each can give, and a library as thirteen entries of one form.
+//! The fourteen functions of the header: what they are called, how long their answers are, which
+//! refusals each can give, and a library as fourteen entries of one form.
 
 use crate::lent::Call;
 
 #[derive(Clone, Copy, Debug, PartialEq)]
 pub enum Function {
     Judge,
+    Classes,
     Least,
     Plan,
     BookLeast,
@@ -20,8 +21,9 @@ pub enum Function {
     Write,
 }
 
-pub const FUNCTIONS: [Function; 13] = [
+pub const FUNCTIONS: [Function; 14] = [
     Function::Judge,
+    Function::Classes,
     Function::Least,
     Function::Plan,
     Function::BookLeast,
@@ -37,8 +39,9 @@ pub const FUNCTIONS: [Function; 13] = [
 ];
 
 /// Those that read an order file.
-pub const READERS: [Function; 12] = [
+pub const READERS: [Function; 13] = [
     Function::Judge,
+    Function::Classes,
     Function::Least,
     Function::Plan,
     Function::BookLeast,
@@ -62,10 +65,14 @@ pub const TIMED: [Function; 3] = [
 /// The numbers of a reason.
 pub const REASON_NUMBERS: usize = 19;
 
+/// The numbers that a list of classes must have: two to each of 16.
+pub const CLASS_NUMBERS: usize = 32;
+
 impl Function {
     pub fn name(self) -> &'static str {
         match self {
             Function::Judge => "hbr_judge",
+            Function::Classes => "hbr_classes",
             Function::Least => "hbr_least",
             Function::Plan => "hbr_plan",
             Function::BookLeast => "hbr_book_least",
@@ -95,6 +102,7 @@ impl Function {
     pub fn refusals(self) -> &'static [u32] {
         match self {
             Function::Judge => &[1, 2, 3, 4, 5, 6, 13, 7, 12, 255],
+            Function::Classes => &[1, 2, 3, 4, 5, 6, 13, 7, 12, 253, 255],
             Function::Least => &[1, 2, 3, 4, 5, 6, 13, 7, 9, 12, 255],
             Function::Plan => &[1, 2, 3, 4, 5, 6, 13, 7, 8, 9, 10, 12, 255],
             Function::BookLeast => &[1, 2, 3, 4, 5, 6, 13, 7, 9, 14, 12, 253, 255],
@@ -135,7 +143,8 @@ impl Function {
     }
 
     pub fn takes_bound(self) -> bool {
-        !self.finds_least() && !matches!(self, Function::Judge | Function::Write)
+        let without = [Function::Judge, Function::Classes, Function::Write];
+        !self.finds_least() && !without.contains(&self)
     }
 }
 
@@ -145,6 +154,7 @@ pub type Entry = fn(&mut Call) -> u32;
 #[derive(Clone, Copy)]
 pub struct Library {
     pub judge: Entry,
+    pub classes: Entry,
     pub least: Entry,
     pub plan: Entry,
     pub book_least: Entry,
@@ -163,6 +173,7 @@ impl Library {
     pub fn entry(&self, function: Function) -> Entry {
         match function {
             Function::Judge => self.judge,
+            Function::Classes => self.classes,
             Function::Least => self.least,
             Function::Plan => self.plan,
             Function::BookLeast => self.book_least,
@@ -182,6 +193,7 @@ impl Library {
     pub fn with(mut self, function: Function, entry: Entry) -> Library {
         let place = match function {
             Function::Judge => &mut self.judge,
+            Function::Classes => &mut self.classes,
             Function::Least => &mut self.least,
             Function::Plan => &mut self.plan,
             Function::BookLeast => &mut self.book_least,

@@ -7,6 +7,7 @@ use crate::library::Library;
 
 pub const LINKED: Library = Library {
     judge,
+    classes,
     least,
     plan,
     book_least,
@@ -25,6 +26,22 @@ fn judge(call: &mut Call) -> u32 {
     let (file, file_length) = (call.file.pointer(), call.file.len());
     let (answer, answer_length) = (call.answer.pointer_mut(), call.answer.len());
     unsafe { raw::hbr_judge(file, file_length, answer, answer_length) }
+}
+
+fn classes(call: &mut Call) -> u32 {
+    let (file, file_length) = (call.file.pointer(), call.file.len());
+    let (classes, classes_length) = (call.classes.pointer_mut(), call.classes.len());
+    let (answer, answer_length) = (call.answer.pointer_mut(), call.answer.len());
+    unsafe {
+        raw::hbr_classes(
+            file,
+            file_length,
+            classes,
+            classes_length,
+            answer,
+            answer_length,
+        )
+    }
 }
 
 fn least(call: &mut Call) -> u32 {

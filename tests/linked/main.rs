@@ -65,6 +65,7 @@ fn compare_linked(times: u64) -> Result<String, String> {
         refused: 2_200 * times,
         files: 2_800 * times,
         lists: 1_000 * times,
+        classes: 1_200 * times,
         books: 400 * times,
         times: 1_000 * times,
         large_times: 60 * times,

@@ -1,4 +1,4 @@
-//! The independent implementation as a library of thirteen functions: what a linked library would do
+//! The independent implementation as a library of fourteen functions: what a linked library would do
 //! that does just what is expected. The wrong libraries are made from it.
 
 use crate::expect::{expected, Expected, Known};
@@ -8,6 +8,7 @@ use crate::library::{Function, Library};
 
 pub const MODEL: Library = Library {
     judge: |call| run(Function::Judge, call),
+    classes: |call| run(Function::Classes, call),
     least: |call| run(Function::Least, call),
     plan: |call| run(Function::Plan, call),
     book_least: |call| run(Function::BookLeast, call),
@@ -27,6 +28,10 @@ fn run(function: Function, call: &mut Call) -> u32 {
     match expected(function, call, &mut known) {
         Expected::Refused(refusal) => return refusal.number + 256 * refusal.job,
         Expected::Answer(numbers) => call.answer.put(&numbers),
+        Expected::Classes(classes) => {
+            call.classes.put(&classes.concat());
+            call.answer.put(&[classes.len() as i32]);
+        }
         Expected::Plan {
             bound,
             times,

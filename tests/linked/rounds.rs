@@ -1,14 +1,17 @@
 //! The drawn calls: accepted orders with bounds, row lists, reasons, lines and books around their
-//! least lateness, orders that are refused, doubtful files, lists for the writer, books that go
-//! through many calls, and orders with ready minutes and windows.
+//! least lateness, orders that are refused, doubtful files, lists for the writer, processors of few
+//! and of many memories, books that go through many calls, and orders with ready minutes and windows.
 
 mod books;
+mod classes;
 mod times;
 
 use crate::draw::bounds::Around;
 use crate::draw::damage::{damaged, OF_ORDERS};
 use crate::draw::files::{doubtful, file_of};
-use crate::draw::lengths::{answer_length, book_length, file_room, line_room, reason_length, room};
+use crate::draw::lengths::{
+    answer_length, book_length, class_room, file_room, line_room, reason_length, room,
+};
 use crate::draw::orders::{tiny, Family, LARGE_FAMILIES, SMALL_FAMILIES};
 use crate::draw::Random;
 use crate::draw::{books as drawn_books, lines, lists, reasons, sharp};
@@ -25,6 +28,7 @@ pub struct Rounds {
     pub refused: u64,
     pub files: u64,
     pub lists: u64,
+    pub classes: u64,
     pub books: u64,
     pub times: u64,
     pub large_times: u64,
@@ -32,12 +36,13 @@ pub struct Rounds {
 
 /// Runs all parts, up to the first difference.
 pub fn run(trial: &mut Trial, rounds: &Rounds) {
-    let parts: [(&str, u64, fn(&mut Trial, u64)); 8] = [
+    let parts: [(&str, u64, fn(&mut Trial, u64)); 9] = [
         ("small orders", rounds.small, small_order),
         ("large orders", rounds.large, large_order),
         ("refused orders", rounds.refused, refused_order),
         ("files", rounds.files, doubtful_file),
         ("lists", rounds.lists, any_lists),
+        ("classes", rounds.classes, classes::any_memories),
         ("books", rounds.books, books::sequence),
         ("times", rounds.times, times::small),
         ("times of large orders", rounds.large_times, times::large),
@@ -70,6 +75,7 @@ fn accepted_order(trial: &mut Trial, families: &[Family], seed: u64) {
     trial_of(trial, Function::Judge, |random, answer| {
         Call::with_file(random, &file, answer)
     });
+    classes::list(trial, &file);
     for _ in 0..3 {
         trial_of(trial, Function::Least, |random, answer| {
             let room = room(random, asked);
@@ -237,6 +243,10 @@ fn read_all(trial: &mut Trial, file: &[u8]) {
                 return call
                     .with_reason(random, &reason)
                     .with_line_room(random, line);
+            }
+            if function == Function::Classes {
+                let room = class_room(random);
+                return call.with_class_room(random, room);
             }
             let room = random.pick(&[0, 3, 4, 200, 4 * MOST_ROWS, 4 * MOST_ROWS + 1]);
             let call = call.with_room(random, room);

@@ -9,6 +9,7 @@ use std::collections::BTreeMap;
 /// The kinds of answers that each function must have given.
 fn kinds(function: Function) -> &'static [&'static str] {
     match function {
+        Function::Classes => &["one class", "several", "16 classes"],
         Function::Reason | Function::Parse => &["none", "job", "level stairs", "falling stairs"],
         Function::Sentence => &["empty", "job", "stairs"],
         Function::Check | Function::TimedCheck => &["yes", "no"],
@@ -46,6 +47,7 @@ impl Tally {
         let outcome = match expected {
             Expected::Refused(refusal) => refusal.number.to_string(),
             Expected::Answer(numbers) => kind(function, numbers).to_string(),
+            Expected::Classes(classes) => kind_of_classes(classes.len()).to_string(),
             Expected::Line(line) => kind_of_line(line).to_string(),
             _ => "answered".to_string(),
         };
@@ -170,6 +172,14 @@ fn kind(function: Function, numbers: &[i32]) -> &'static str {
             }
         }
         _ => "answered",
+    }
+}
+
+fn kind_of_classes(count: usize) -> &'static str {
+    match count {
+        1 => "one class",
+        16 => "16 classes",
+        _ => "several",
     }
 }
 

@@ -112,6 +112,11 @@ fn told(what: &str, call: &Call) -> String {
             shown(&call.memories.content()),
         ),
         ("jobs", call.jobs.len(), shown(&call.jobs.content())),
+        (
+            "classes",
+            call.classes.len(),
+            shown(&call.classes.content()),
+        ),
         ("ready", call.ready.len(), shown(&call.ready.content())),
         (
             "windows",

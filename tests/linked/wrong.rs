@@ -37,13 +37,14 @@ macro_rules! of_one {
     };
 }
 
-/// A wrong thing of each of the thirteen functions, made likewise.
+/// A wrong thing of each of the fourteen functions, made likewise.
 macro_rules! of_all {
     ($with:ident, $type:ident: $($what:literal => $how:expr,)*) => {{
-        const ALL: &[[Wrong; 13]] = &[$({
+        const ALL: &[[Wrong; 14]] = &[$({
             const HOW: $type = $how;
             [
                 (Function::Judge, $what, |call| $with(Function::Judge, call, HOW)),
+                (Function::Classes, $what, |call| $with(Function::Classes, call, HOW)),
                 (Function::Least, $what, |call| $with(Function::Least, call, HOW)),
                 (Function::Plan, $what, |call| $with(Function::Plan, call, HOW)),
                 (Function::BookLeast, $what, |call| $with(Function::BookLeast, call, HOW)),
@@ -106,6 +107,7 @@ const ROUNDS: Rounds = Rounds {
     refused: 480,
     files: 490,
     lists: 150,
+    classes: 120,
     books: 60,
     ..NO_ROUNDS
 };
@@ -122,6 +124,7 @@ const NO_ROUNDS: Rounds = Rounds {
     refused: 0,
     files: 0,
     lists: 0,
+    classes: 0,
     books: 0,
     times: 0,
     large_times: 0,

@@ -3,7 +3,7 @@
 
 use super::Random;
 use crate::independent::{MAKERS, MOST_ROWS};
-use crate::library::{Function, REASON_NUMBERS};
+use crate::library::{Function, CLASS_NUMBERS, REASON_NUMBERS};
 
 /// Mostly enough room for the answer: exactly, or more; sometimes none, or one number too few.
 pub fn answer_length(random: &mut Random, function: Function) -> usize {
@@ -69,6 +69,20 @@ pub fn book_length(random: &mut Random) -> usize {
         9..=11 => MAKERS + random.below(20),
         12 => random.pick(&[256, 256, 256, 65_536]),
         _ => MAKERS,
+    }
+}
+
+/// Mostly room for 16 classes and no more; sometimes none, or some numbers too few, though they may be
+/// enough for an order's classes, or more.
+pub fn class_room(random: &mut Random) -> usize {
+    match random.below(24) {
+        0 => 0,
+        1 => CLASS_NUMBERS - 1,
+        2 => random.below(CLASS_NUMBERS),
+        3..=5 => CLASS_NUMBERS + 1,
+        6..=8 => CLASS_NUMBERS + random.below(40),
+        9 => random.pick(&[256, 256, 256, 65_536]),
+        _ => CLASS_NUMBERS,
     }
 }
 

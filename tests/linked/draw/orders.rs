@@ -1,9 +1,9 @@
 //! Accepted orders in families, each with what it is apt to show. Small ones are many; large ones
 //! have up to 16 processors and 48 jobs.
 
-use super::makers;
 use super::packed::packed;
 use super::Random;
+use super::{makers, memories};
 use crate::independent::{Job, Order};
 
 type Range = (i64, i64);
@@ -144,6 +144,17 @@ fn drawn(random: &mut Random, shape: Shape) -> Order {
     let processors = within(random, shape.processors);
     let memory = |_| within(random, shape.memories) as u32;
     let memories: Vec<u32> = (0..processors).map(memory).collect();
+    with_memories(random, shape, memories)
+}
+
+/// Processors of few distinct memories, or each of its own, with some jobs.
+pub fn many_memories(random: &mut Random) -> Order {
+    let memories = memories::drawn(random);
+    with_memories(random, SMALL, memories)
+}
+
+/// Jobs for these memories.
+fn with_memories(random: &mut Random, shape: Shape, memories: Vec<u32>) -> Order {
     let jobs = within(random, shape.jobs);
     let job = |_| Job {
         time: within(random, shape.times) as u32,

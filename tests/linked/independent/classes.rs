@@ -2,6 +2,7 @@
 //! whose memory still suffices." Class 1 has index 0 here.
 
 use super::{Job, Order};
+use std::collections::BTreeMap;
 
 /// The classes of an order.
 pub struct Classes {
@@ -43,4 +44,17 @@ impl Classes {
             .rposition(suffices)
             .expect("a job of an accepted order fits some processor")
     }
+}
+
+/// The memory of each class and how many processors have it, class 1 first: the processors are counted
+/// under their memories, in input order.
+pub fn class_list(order: &Order) -> Vec<[u32; 2]> {
+    let mut counts = BTreeMap::new();
+    for memory in &order.memories {
+        *counts.entry(*memory).or_insert(0) += 1;
+    }
+    let downwards = counts.into_iter().rev();
+    downwards
+        .map(|(memory, processors)| [memory, processors])
+        .collect()
 }

@@ -11,7 +11,7 @@ use crate::draw::{books, reasons, times, Random};
 use crate::expect::reason_numbers;
 use crate::independent::{plan, read, rows_asked, timed_rows_asked, Order, MAKERS};
 use crate::lent::{job_numbers, Call};
-use crate::library::{Function, FUNCTIONS};
+use crate::library::{Function, CLASS_NUMBERS, FUNCTIONS};
 use crate::trial::Trial;
 use std::collections::BTreeMap;
 
@@ -121,6 +121,7 @@ fn call(random: &mut Random, function: Function, subject: &Subject) -> Call {
     let reason = reasons::standing(random, &order, bound);
     let room = room(random, rows_asked(&order));
     call.with_room(random, room)
+        .with_class_room(random, CLASS_NUMBERS)
         .with_reason(random, &reason_numbers(reason))
         .with_line_room(random, 541)
 }
