@@ -67,6 +67,8 @@ mod booked;
 mod books;
 mod buffers;
 mod checks;
+mod class_room;
+mod classes;
 mod ends;
 mod files;
 mod forms;
@@ -180,6 +182,8 @@ fn libraries() -> Vec<(String, Library, bool)> {
         books::PARTS,
         booked::PARTS,
         full::PARTS,
+        classes::PARTS,
+        class_room::PARTS,
     ]
     .concat();
     let of_times = [
