@@ -37,6 +37,9 @@ pub const ROWS_MOST: usize = 3024;
 /// The same with ready minutes and windows.
 pub const TIMED_ROWS_MOST: usize = 8064;
 
+/// The numbers to lend for classes.
+pub const CLASS_NUMBERS: usize = 32;
+
 /// The most bytes of a line.
 pub const LINE_MOST: usize = 541;
 

@@ -28,6 +28,7 @@ pub fn compare(place: usize, case: &Case) {
         same_answers(case, task);
     }
     check_judge(case, &order);
+    check_classes(case, &order);
     check_least(case, &order);
     check_books(case, &order);
     check_tight(case, &order);
@@ -35,7 +36,7 @@ pub fn compare(place: usize, case: &Case) {
     check_plans(case, &order);
 }
 
-/// The library and its plain build give the same result, rows, book, line and answer.
+/// The library and its plain build give the same result, classes, rows, book, line and answer.
 pub fn same_answers(case: &Case, task: Task) {
     let mut ours = Buffers::new();
     let mut plain = Buffers::new();
@@ -47,6 +48,7 @@ pub fn same_answers(case: &Case, task: Task) {
     );
     assert_eq!(result, 0, "an accepted order is refused");
     assert_eq!(ours.answer, plain.answer, "answers differ");
+    assert_eq!(ours.classes, plain.classes, "classes differ");
     assert!(ours.rows == plain.rows, "rows differ");
     assert_eq!(ours.book, plain.book, "books differ");
     assert!(ours.line == plain.line, "lines differ");
@@ -59,6 +61,15 @@ fn check_judge(case: &Case, order: &independent::Order) {
     assert_eq!(processors, order.memories.len(), "processors differ");
     assert_eq!(jobs, order.jobs.len(), "jobs differ");
     assert_eq!(rows, independent::rows_asked(order), "rows asked differ");
+}
+
+fn check_classes(case: &Case, order: &independent::Order) {
+    let mut buffers = Buffers::new();
+    run(&LIBRARY, Task::Classes, case, &mut buffers);
+    let listed = independent::class_list(order);
+    assert_eq!(buffers.answer[0] as usize, listed.len(), "classes differ");
+    let numbers = &buffers.classes[..2 * listed.len()];
+    assert_eq!(numbers, listed.concat(), "classes differ");
 }
 
 fn check_least(case: &Case, order: &independent::Order) {

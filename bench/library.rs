@@ -7,6 +7,20 @@ pub fn judge(file: &[u8], answer: &mut [i32]) -> u32 {
     unsafe { raw::hbr_judge(file.as_ptr(), file.len(), answer.as_mut_ptr(), answer.len()) }
 }
 
+pub fn classes(file: &[u8], classes: &mut [u32], answer: &mut [i32]) -> u32 {
+    // SAFETY: as above.
+    unsafe {
+        raw::hbr_classes(
+            file.as_ptr(),
+            file.len(),
+            classes.as_mut_ptr(),
+            classes.len(),
+            answer.as_mut_ptr(),
+            answer.len(),
+        )
+    }
+}
+
 pub fn least(file: &[u8], rows: &mut [u32], answer: &mut [i32]) -> u32 {
     // SAFETY: as above.
     unsafe {

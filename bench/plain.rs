@@ -1,5 +1,5 @@
 //! The library's method in plain Rust, for the benchmark to compare with: the same algorithms,
-//! tables and passes, each value computed once and handed on by reference. Twelve functions of the
+//! tables and passes, each value computed once and handed on by reference. Thirteen functions of the
 //! C interface, with the same results.
 
 mod amounts;
@@ -27,6 +27,7 @@ use times::{Always, Given, Times, MOST_TIMES};
 const BOUND_MOST: i32 = 10_000_000;
 const ROWS_MOST: usize = 3024;
 const TIMED_ROWS_MOST: usize = 8064;
+const CLASS_NUMBERS: usize = 2 * order::MOST_PROCESSORS;
 
 const BOUND_OUT_OF_RANGE: Refusal = Refusal::plain(8);
 const BUFFER_TOO_SHORT: Refusal = Refusal::plain(9);
@@ -34,6 +35,7 @@ const BOUND_TOO_TIGHT: Refusal = Refusal::plain(10);
 const TOO_MANY_ROWS: Refusal = Refusal::plain(11);
 const BOOK_FULL: Refusal = Refusal::plain(14);
 const SHORT_BOOK: Refusal = Refusal::plain(253);
+const SHORT_CLASSES: Refusal = Refusal::plain(253);
 const SHORT_REASON: Refusal = Refusal::plain(253);
 const WRONG_TIMES: Refusal = Refusal::plain(253);
 const SHORT_ANSWER: Refusal = Refusal::plain(255);
@@ -41,6 +43,11 @@ const SHORT_ANSWER: Refusal = Refusal::plain(255);
 /// Judges an order file: processors, jobs, rows that a plan may have.
 pub fn judge(file: &[u8], answer: &mut [i32]) -> u32 {
     code(try_judge(file, answer))
+}
+
+/// The classes of an order file in `classes`, memory and processors of each: the number of classes.
+pub fn classes(file: &[u8], classes: &mut [u32], answer: &mut [i32]) -> u32 {
+    code(try_classes(file, classes, answer))
 }
 
 /// The least lateness, with a plan that meets it in `rows`: the lateness, the number of rows.
@@ -176,6 +183,21 @@ fn try_judge(file: &[u8], answer: &mut [i32]) -> Result<(), Refusal> {
     answer[0] = order.processor_count as i32;
     answer[1] = order.job_count as i32;
     answer[2] = rows_asked(&order, due_count) as i32;
+    Ok(())
+}
+
+fn try_classes(file: &[u8], classes: &mut [u32], answer: &mut [i32]) -> Result<(), Refusal> {
+    ask_answer(answer, 1)?;
+    if classes.len() < CLASS_NUMBERS {
+        return Err(SHORT_CLASSES);
+    }
+    let order = read::read(file)?;
+    let found = setting::classes_along(&order, &setting::by_memory(&order));
+    for (i, class) in classes.chunks_exact_mut(2).take(found.count).enumerate() {
+        class[0] = found.memories[i];
+        class[1] = found.processors[i];
+    }
+    answer[0] = found.count as i32;
     Ok(())
 }
 

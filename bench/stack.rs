@@ -17,7 +17,7 @@ mod random;
 mod timed;
 mod worst;
 
-use cases::{Case, LINE_MOST, ROWS_MOST, TIMED_ROWS_MOST};
+use cases::{Case, CLASS_NUMBERS, LINE_MOST, ROWS_MOST, TIMED_ROWS_MOST};
 use highboyrobin::{raw, MOST_BYTES, MOST_MAKERS};
 use std::arch::asm;
 use timed::Timed;
@@ -31,6 +31,7 @@ struct Function {
 
 const WRITE: Function = function("hbr_write", raw::hbr_write as *const ());
 const JUDGE: Function = function("hbr_judge", raw::hbr_judge as *const ());
+const CLASSES: Function = function("hbr_classes", raw::hbr_classes as *const ());
 const CHECK: Function = function("hbr_check", raw::hbr_check as *const ());
 const PARSE: Function = function("hbr_parse", raw::hbr_parse as *const ());
 const SENTENCE: Function = function("hbr_sentence", raw::hbr_sentence as *const ());
@@ -42,9 +43,10 @@ const BOOK_LEAST: Function = function("hbr_book_least", raw::hbr_book_least as *
 const TIMED_ROWS: Function = function("hbr_timed_rows", raw::hbr_timed_rows as *const ());
 const TIMED_CHECK: Function = function("hbr_timed_check", raw::hbr_timed_check as *const ());
 const TIMED_PLAN: Function = function("hbr_timed_plan", raw::hbr_timed_plan as *const ());
-const FUNCTIONS: [Function; 13] = [
+const FUNCTIONS: [Function; 14] = [
     WRITE,
     JUDGE,
+    CLASSES,
     CHECK,
     PARSE,
     SENTENCE,
@@ -140,6 +142,7 @@ impl Call {
 /// What the calls write to.
 struct Lent {
     file: Vec<u8>,
+    classes: Vec<u32>,
     rows: Vec<u32>,
     line: Vec<u8>,
     /// opened
@@ -175,7 +178,16 @@ fn calls(case: &Case, lists: &[u32], lent: &mut Lent) -> Vec<Call> {
         add(WRITE, &arguments, result);
     }
     add(JUDGE, &[file.clone(), answer.clone()], 0);
-    add(JUDGE, &[read(&case.file[1..]), answer.clone()], 12);
+    let short = read(&case.file[1..]);
+    add(JUDGE, &[short.clone(), answer.clone()], 12);
+    for (file, room, result) in [
+        (&file, CLASS_NUMBERS, 0),
+        (&short, CLASS_NUMBERS, 12),
+        (&short, CLASS_NUMBERS - 1, 253),
+    ] {
+        let classes = lend(&mut lent.classes[..room]);
+        add(CLASSES, &[file.clone(), classes, answer.clone()], result);
+    }
     for rows in [&case.plan, &case.long_plan, &case.plan[4..]] {
         let bound = number(case.least);
         let arguments = [file.clone(), bound, read(rows), answer.clone()];
@@ -344,6 +356,7 @@ fn main() {
     let mut stack = Box::new(Stack([0; STACK_BYTES]));
     let mut lent = Lent {
         file: vec![0; MOST_BYTES],
+        classes: vec![0; CLASS_NUMBERS],
         rows: vec![0; 4 * TIMED_ROWS_MOST],
         line: vec![0; LINE_MOST],
         book: vec![0; MOST_MAKERS],

@@ -1,7 +1,7 @@
 //! The three implementations that are compared, each behind a function that does one task on one
 //! case.
 
-use crate::cases::{Case, LINE_MOST, TIMED_ROWS_MOST};
+use crate::cases::{Case, CLASS_NUMBERS, LINE_MOST, TIMED_ROWS_MOST};
 use crate::independent::{Order, Times, MAKERS};
 use crate::timed::Timed;
 use crate::{independent, library, numbers, plain};
@@ -10,6 +10,7 @@ use std::hint::black_box;
 /// The C interface on slices, as the library and its plain build both have it.
 pub struct Functions {
     pub judge: fn(&[u8], &mut [i32]) -> u32,
+    pub classes: fn(&[u8], &mut [u32], &mut [i32]) -> u32,
     pub least: fn(&[u8], &mut [u32], &mut [i32]) -> u32,
     pub plan: fn(&[u8], i32, &mut [u32], &mut [i32]) -> u32,
     pub book_least: fn(&[u8], &mut [u32], &mut [u32], &mut [i32]) -> u32,
@@ -25,6 +26,7 @@ pub struct Functions {
 
 pub const LIBRARY: Functions = Functions {
     judge: library::judge,
+    classes: library::classes,
     least: library::least,
     plan: library::plan,
     book_least: library::book_least,
@@ -40,6 +42,7 @@ pub const LIBRARY: Functions = Functions {
 
 pub const PLAIN: Functions = Functions {
     judge: plain::judge,
+    classes: plain::classes,
     least: plain::least,
     plan: plain::plan,
     book_least: plain::book_least,
@@ -56,6 +59,7 @@ pub const PLAIN: Functions = Functions {
 #[derive(Clone, Copy)]
 pub enum Task {
     Judge,
+    Classes,
     Least,
     PlanAtLeast,
     PlanLooser,
@@ -72,8 +76,9 @@ pub enum Task {
     TimedCheckLong,
 }
 
-pub const TASKS: [(Task, &str); 11] = [
+pub const TASKS: [(Task, &str); 12] = [
     (Task::Judge, "judge a file"),
+    (Task::Classes, "classes of a file"),
     (Task::Least, "least lateness with a plan"),
     (Task::PlanAtLeast, "plan at the least lateness"),
     (Task::PlanLooser, "plan at a looser bound"),
@@ -100,6 +105,7 @@ pub const TIMED_TASKS: [(Task, &str); 4] = [
 /// What a call writes to, never cleared between calls but for the book, which each call is given just
 /// opened.
 pub struct Buffers {
+    pub classes: [u32; CLASS_NUMBERS],
     pub rows: Vec<u32>,
     pub book: [u32; MAKERS],
     pub line: Vec<u8>,
@@ -109,6 +115,7 @@ pub struct Buffers {
 impl Buffers {
     pub fn new() -> Buffers {
         Buffers {
+            classes: [0; CLASS_NUMBERS],
             rows: vec![0; 4 * TIMED_ROWS_MOST],
             book: [0; MAKERS],
             line: vec![0; LINE_MOST],
@@ -119,6 +126,7 @@ impl Buffers {
 
 pub fn run(functions: &Functions, task: Task, case: &Case, buffers: &mut Buffers) -> u32 {
     let Buffers {
+        classes,
         rows,
         book,
         line,
@@ -129,6 +137,7 @@ pub fn run(functions: &Functions, task: Task, case: &Case, buffers: &mut Buffers
     let tight = case.least - 1;
     match task {
         Task::Judge => (functions.judge)(file, answer),
+        Task::Classes => (functions.classes)(file, classes, answer),
         Task::Least => (functions.least)(file, rows, answer),
         Task::PlanAtLeast => (functions.plan)(file, case.least, rows, answer),
         Task::PlanLooser => (functions.plan)(file, case.looser, rows, answer),
@@ -178,6 +187,7 @@ pub fn run_independent(task: Task, case: &Case) {
         Task::Judge => {
             black_box(independent::rows_asked(&order));
         }
+        Task::Classes => drop(black_box(independent::class_list(&order))),
         Task::Least => {
             let least = independent::least(&order);
             drop(black_box(independent::plan(&order, least)));
