@@ -81,9 +81,9 @@ extern "C" {
 #define HBR_BOOK_FULL 14          /* a number of the book would then be over 4000000000; told last of all */
 #define HBR_READY_OUT_OF_RANGE 15 /* a job's ready minute is not 0 to 1000000; told after 7 and before 8 */
 #define HBR_BAD_WINDOW 16         /* a window is not in 0 to 1000000 or does not close after it opens; told after 15, before 8 */
+#define HBR_SHORT_CLASSES 253     /* the list of classes has under 32 numbers */
 #define HBR_SHORT_REASON 253      /* the reason has under 19 numbers */
-#define HBR_SHORT_BOOK 253        /* the book has under 16 numbers; the same number, since no function has both */
-#define HBR_SHORT_CLASSES 253     /* the classes have under 32 numbers */
+#define HBR_SHORT_BOOK 253        /* the book has under 16 numbers; the same number, since no function has two of these */
 #define HBR_WRONG_TIMES 253       /* the ready minutes are not one to a job or the windows not two numbers to a processor; after 12 */
 #define HBR_PART_JOB 254          /* the numbers of the jobs are not four to a job */
 #define HBR_SHORT_ANSWER 255      /* the answer is shorter than the function's HBR_.._ANSWER */
