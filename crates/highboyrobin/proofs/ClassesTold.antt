@@ -1,7 +1,7 @@
 -- What hbr_classes leaves behind: pairs stored one after the other, and the classes that they tell.
 use Prim.Native.Nat.{ℕ, zero, suc, _+_, _*_, _≤_, _<_}
 use mathlib.Core.Path.{_≡_, refl, sym, ap, _∙_, subst}
-use mathlib.Core.List.{List, [], _∷_, _++_, append-assoc}
+use mathlib.Core.List.{List, [], _∷_, _++_}
 use native.Mathlib.Numerals.{add-one}
 use native.Mathlib.Omega.{arith}
 use lib.IntN.{ℤ, pos}
@@ -18,28 +18,24 @@ use Rattle.order.specs.declared.Refusal.{Refusal}
 use Rattle.table.specs.Passed.{listing}
 use Rattle.table.specs.declared.Listing.{Listing}
 use Rattle.highboyrobin.specs.ClassCalls.{pairsTo, classCount, classPairs}
+use Rattle.highboyrobin.specs.ClassCallLaws.{pairs-length}
 use Rattle.highboyrobin.specs.Results.{resultOf, answeredBy}
 
 module _ (f g : ℕ → ℕ) where
-  pub pairs-length : (k : ℕ) → length (pairsTo f g k) ≡ 2 * k
-  unfolding pairsTo
-  pairs-length zero = refl
-  pairs-length (suc k) = length-append (pairsTo f g k) (f k ∷ g k ∷ []) ∙ omega (arith, pairs-length k)
-
   pub none-paired : (s : List ℕ) → s ≡ pairsTo f g 0 ++ drop (2 * 0) s
   unfolding pairsTo
   none-paired s = refl
 
   pub paired-length : (s out : List ℕ) (k : ℕ) → out ≡ pairsTo f g k ++ drop (2 * k) s → 2 * k ≤ length s → length out ≡ length s
   paired-length s out k e h =
-      ap length e ∙ length-append (pairsTo f g k) (drop (2 * k) s) ∙ omega (arith, pairs-length k, length-drop (2 * k) s)
+      ap length e ∙ length-append (pairsTo f g k) (drop (2 * k) s) ∙ omega (arith, pairs-length f g k, length-drop (2 * k) s)
 
   -- the next pair is stored behind the first k
   pub next-paired : (s out : List ℕ) (k : ℕ) → out ≡ pairsTo f g k ++ drop (2 * k) s → 2 * k + 2 ≤ length s →
       set (set out (2 * k) (f k)) (2 * k + 1) (g k) ≡ pairsTo f g (k + 1) ++ drop (2 * (k + 1)) s
   unfolding pairsTo
   next-paired s out k e h =
-      let size = pairs-length k in
+      let size = pairs-length f g k in
       let front : take (2 * k) out ≡ pairsTo f g k = ap (take (2 * k)) e ∙ take-at (pairsTo f g k) (drop (2 * k) s) (2 * k) size in
       let next : 2 * k + 2 ≡ 2 * (k + 1) = omega arith in
       let behind : drop (2 * k + 2) out ≡ drop (2 * (k + 1)) s

@@ -6,6 +6,7 @@ pub mod BookCalls
 pub mod ClassCalls
 pub mod CallLaws
 pub mod BookCallLaws
+pub mod ClassCallLaws
 pub mod TimedCallLaws
 pub mod LineCallLaws
 pub mod Inside

@@ -1,5 +1,5 @@
 -- Document 01's cases with a ●, the lines of document 02, §1, joined rows of §2, ends of §3, makers and books of §4, ready minutes and
--- windows of §5, and more: one table, and one theorem that every case holds of the definitions.
+-- windows of §5, classes passed of §6, and more: one table, and one theorem that every case holds of the definitions.
 use Prim.Native.Nat.{ℕ, suc, _-_, _≤_}
 use Prim.Native.String.{String}
 use mathlib.Core.Path.{_≡_, refl, sym, ap, _∙_, subst}
@@ -12,7 +12,7 @@ use lib.Dec.{ltb}
 use lib.IntN.{ℤ, pos, negℤ}
 use Rattle.sums.specs.Sum.{sum, sum-cong}
 use Rattle.sums.specs.Gate.{gate, gate-in, gate-out}
-use lib.ListN.{getD}
+use lib.ListN.{length, getD}
 use Rattle.sums.specs.Lists.{All, keep, nth, only, tabulate}
 use Rattle.sums.specs.Same.{sameList}
 use Rattle.order.specs.Order.{Order, processorCount, endAt, endOf}
@@ -51,13 +51,14 @@ use Rattle.wrap.specs.FrameFlow.{flowIn}
 use Rattle.amounts.specs.Flow.{Flow, covered, left, right, feasible-no-cut}
 use Rattle.order.specs.Deadline.{deadlineOf}
 use Rattle.feasible.specs.FramePlan.{plan-amounts-in}
+use Rattle.table.specs.Passed.{passed}
 use Rattle.timed.specs.Changes.{changes, changeTimes, changeCount, markAt, timedFrame, timedRowsAsked}
 use Rattle.timed.specs.ChangeLaws.{timed-framed}
 use Rattle.timed.specs.Rows.{askedRows, earlierTimed}
 use Rattle.timed.specs.Check.{isRightTimed}
 use Rattle.timed.specs.CheckLaws.{timed-yes}
 use Rattle.feasible.specs.Least.{is-least}
-use Rattle.worked.specs.Orders.{A, B, C, D, needZero, overdue, twoOverfull, twoLate, onTop, chain, wraps, shared, ofMaker, nineJobs, twoEarly}
+use Rattle.worked.specs.Orders.{A, B, C, D, needZero, overdue, twoOverfull, twoLate, onTop, chain, wraps, shared, ofMaker, nineJobs, twoEarly, ties}
 
 -- amounts by job, and for each job by stretch
 abbrev pub amountsOf : List (List ℕ) → ℕ → ℕ → ℕ
@@ -68,12 +69,19 @@ abbrev pub endingJobs : Order → ℤ → (ℕ → ℕ → ℕ) → ℕ → List
 endingJobs o bound a s =
     tabulate (processorCount o) (λ i. endsWith (stretchRows o bound a s) (mark o bound (suc s)) (suc i))
 
+-- the classes and the processors of each after each processor passed
+abbrev pub listingsOf : Order → List (List ℕ × List ℕ)
+listingsOf o =
+    tabulate (processorCount o)
+    (λ k. (classes (passed o (suc k)), tabulate (length (classes (passed o (suc k)))) (λ i. processorsIn (passed o (suc k)) (suc i))))
+
 -- a case: a least lateness; a reason at a bound with its minutes owed and on hand; a plan and whether it is right; the line of a reason,
 -- and a reason that does not stand; amounts with their layout and its joined rows; rows and the joined ones; amounts, a stretch and the
 -- job that each processor ends it with; what an order is refused with; its file; a booked call with the counts handed in, what its table
 -- answers, and the counts given back; the counts after booked calls from opening on; of an order with times the number of its changes and
 -- of the rows asked for, what is refused before 10 with a buffer of so many numbers, a plan that keeps the times and one that does not,
--- amounts with their joined rows, and that there is no plan, by what each stretch's classes have at most
+-- amounts with their joined rows, and that there is no plan, by what each stretch's classes have at most; the classes and the processors
+-- of each after each processor passed
 pub data Case : Type 0 where
   leastIs : Order → ℤ → Case
   reasonIs : Order → ℤ → Reason → ℕ → ℤ → Case
@@ -94,6 +102,7 @@ pub data Case : Type 0 where
   timedWrongIs : Order → ℤ → Times → List Row → Case
   timedLaidIs : Order → ℤ → Times → List (List ℕ) → List Row → Case
   timedTightIs : Order → ℤ → Times → List ℕ → Case
+  passesAs : Order → List (List ℕ × List ℕ) → Case
 
 -- what a case says, in the words of the definitions
 abbrev pub Holds : Case → Type 0
@@ -120,6 +129,7 @@ Holds (timedWrongIs o bound t rows) = ¬ RightTimed 1 o bound t rows
 Holds (timedLaidIs o bound t amounts plan) =
     (joined (layoutIn o (timedFrame o bound t) (amountsOf amounts)) ≡ plan) × RightTimed 1 o bound t plan
 Holds (timedTightIs o bound t cut) = (p : ℕ) → 1 ≤ p → (rows : List Row) → ¬ RightTimed p o bound t rows
+Holds (passesAs o listings) = listingsOf o ≡ listings
 
 -- a row: job, processor, from, to; and a row of job 1 on processor 1
 abbrev row : ℕ → ℕ → ℕ → ℕ → Row
@@ -251,6 +261,14 @@ cases =
     ∷ timedRefusedIs D (pos 10000001) (times (0 ∷ 1000000 ∷ 0 ∷ []) ((0, 1000001) ∷ (7, 7) ∷ [])) 0 (refused 16 1)
     ∷ timedRefusedIs D (pos 10000001) (times (0 ∷ 1000000 ∷ 0 ∷ []) ((0, 9) ∷ (7, 8) ∷ [])) 0 (refused 8 0)
     ∷ timedRefusedIs D (pos 10000000) (times (0 ∷ 1000000 ∷ 0 ∷ []) ((0, 9) ∷ (7, 1000000) ∷ [])) 0 (refused 9 0)
+    -- document 02, §6: memories 4, 8, 4, 2 pass as 8; 8, 4; 8, 4 with two; 8, 4, 2. Equal ones are one class
+    ∷ passesAs ties
+    (((8 ∷ []), (1 ∷ []))
+    ∷ ((8 ∷ 4 ∷ []), (1 ∷ 1 ∷ []))
+    ∷ ((8 ∷ 4 ∷ []), (1 ∷ 2 ∷ []))
+    ∷ ((8 ∷ 4 ∷ 2 ∷ []), (1 ∷ 2 ∷ 1 ∷ []))
+    ∷ [])
+    ∷ passesAs D (((8 ∷ []), (1 ∷ [])) ∷ ((8 ∷ []), (2 ∷ [])) ∷ [])
     -- beyond document 01's: of two overfull staircases, the one that ranks first
     ∷ reasonIs twoOverfull (minus 1) (stairs (pos 4 ∷ pos 2 ∷ [])) 8 (pos 6)
     -- an empty row, and one that goes backwards, beside a right plan
@@ -287,6 +305,7 @@ data Value : Type 0 where
   books : List ℕ → Value
   changed : ℕ → ℕ → Value
   timedLaid : List Row → Bool → Value
+  listings : List (List ℕ × List ℕ) → Value
 
 -- whether the jobs must have more inside a cut of classes, one for each stretch, than there is room: each its time less what it can have
 -- outside, in the stretches whose class is below its own
@@ -324,6 +343,7 @@ computed (timedWrongIs o bound t rows) = checked (isRightTimed o bound t (number
 computed (timedLaidIs o bound t amounts plan) =
     timedLaid (joined (layoutIn o (timedFrame o bound t) (amountsOf amounts))) (isRightTimed o bound t (numbersOf plan))
 computed (timedTightIs o bound t cut) = checked (overfullBy o bound t cut)
+computed (passesAs o told) = listings (listingsOf o)
 
 abbrev stated : Case → Value
 stated (leastIs o least) = leastOf accepted least
@@ -345,6 +365,7 @@ stated (timedRightIs o bound t rows) = checked true
 stated (timedWrongIs o bound t rows) = checked false
 stated (timedLaidIs o bound t amounts plan) = timedLaid plan true
 stated (timedTightIs o bound t cut) = checked true
+stated (passesAs o told) = listings told
 
 right-rows : (o : Order) (bound : ℤ) (rows : List Row) → isRight o bound (numbersOf rows) ≡ true → Right o bound rows
 right-rows o bound rows e =
@@ -424,6 +445,7 @@ case-holds (timedWrongIs o bound t rows) e =
     λ r. true≢false (sym (rows-timed o bound t rows r) ∙ no-plan)
 case-holds (timedLaidIs o bound t amounts plan) e = (cc, timed-rows o bound t plan cc)
 case-holds (timedTightIs o bound t cut) e = cut-tight o bound t cut cc
+case-holds (passesAs o told) e = cc
 
 all-hold : (cs : List Case) → map computed cs ≡ map stated cs → All Holds cs
 all-hold [] e = tt

@@ -71,3 +71,7 @@ nineJobs due =
 -- document 02, §5: two jobs due at 10 and 11 on one processor; at -20 both ends are below 0
 abbrev pub twoEarly : Order
 twoEarly = order (4 ∷ []) (job 3 (pos 10) 4 ∷ job 3 (pos 11) 4 ∷ [])
+
+-- document 02, §6: two processors of one memory, neither first nor last
+abbrev pub ties : Order
+ties = order (4 ∷ 8 ∷ 4 ∷ 2 ∷ []) (job 1 (pos 9) 0 ∷ [])
