@@ -48,6 +48,9 @@ timed-case-requires c κs = search needs
 watch-case-requires : tie.Need-watch-case-requires Inv-loop μ-loop
 watch-case-requires c κs = search needs
 
+classes-case-requires : tie.Need-classes-case-requires Inv-loop μ-loop
+classes-case-requires c κs = search needs
+
 returns : tie.Need-returns Inv-loop μ-loop
 returns c = search needs
 
@@ -82,6 +85,7 @@ main-spec =
     asked-case-requires
     timed-case-requires
     watch-case-requires
+    classes-case-requires
     returns
     add-k
     loop-less
