@@ -1,4 +1,5 @@
-use Prim.Native.Nat.{suc, _-_, _≤_, _<_}
+use Prim.Native.Nat.{ℕ, suc, _+_, _≤_, _<_}
+use lib.ListN.{getD}
 use borrow.Author.Needs.{needs}
 use Rattle.table.specs.Listings.{next-some, one-more}
 use native.Mathlib.Omega.{arith}
@@ -38,7 +39,8 @@ array-read-procs c = omega (arith, next c)
 add-procs : tie.Need-add-procs
 add-procs c =
     let s = c .before .before .before in
-    omega (arith, s .pre .1 (c .next-class .result - 1) (omega (arith, next c)))
+    let low : (i : ℕ) → i < 16 → getD (s .args .before .procs) i 0 + 1 < 4294967296 = λ i b. omega (arith, s .pre .1 i b) in
+    record { fits = low _ (omega (arith, next c)) }
 
 array-write-procs : tie.Need-array-write-procs
 array-write-procs c = omega (arith, next c)
