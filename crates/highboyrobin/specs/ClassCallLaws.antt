@@ -10,12 +10,12 @@ use lib.Dec.{leb}
 use lib.IntN.{ℤ}
 use lib.ListN.{length, getD, drop, length-append}
 use lib.Seq.{getD-at}
-use Rattle.sums.specs.Lists.{total, only}
+use Rattle.sums.specs.Lists.{only}
 use Rattle.sums.specs.Members.{in-All}
 use Rattle.sums.specs.Sum.{sum, sum-cong}
 use Rattle.sums.specs.Totals.{total-cong, total-ones}
 use Rattle.order.specs.Order.{Order, processorCount}
-use Rattle.order.specs.Class.{classes, classFor, memoryOfClass, processorsIn, processorsTo}
+use Rattle.order.specs.Class.{classFor, memoryOfClass, processorsIn, processorsTo}
 use Rattle.order.specs.ClassLaws.{classes-fall, class-of-processor, processorsTo-is}
 use Rattle.order.specs.Refusals.{accepted, judge}
 use Rattle.order_file.specs.File.{orderIn}

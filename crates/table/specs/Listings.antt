@@ -1,5 +1,5 @@
--- The listing of classes while processors are passed: the class of the next one, what it adds, and that the order in which
--- processors stand does not matter.
+-- The listing of classes while processors are passed: the class of the next one, and what it adds. Only this crate's own functions are
+-- held to `NextClass` and `Small`.
 use Prim.Native.Nat.{ℕ, zero, suc, _+_, _-_, _≤_, _<_}
 use mathlib.Core.Path.{_≡_, refl, sym, ap, _∙_, subst}
 use mathlib.Core.Bool.{Bool}
@@ -8,16 +8,16 @@ use mathlib.Core.Logic.{_⊎_, inl, inr, _≢_}
 use native.Mathlib.Omega.{arith}
 use native.Mathlib.Decide.{decLt}
 use borrow.Author.Tests.{le-leb, lt-leb, eq-eqb, ne-eqb}
-use lib.Dec.{ltb, eqb}
-use lib.ListN.{length, getD, set, length-append, List·getD-append}
-use Rattle.sums.specs.Lists.{All, In, total, only, tabulate}
+use lib.Dec.{eqb}
+use lib.ListN.{length, getD, set, length-append}
+use lib.Seq.{getD-at}
+use Rattle.sums.specs.Lists.{All, In, only, tabulate}
 use Rattle.sums.specs.Members.{All-map, All-in, in-All, in-at, at-in, in-append}
-use Rattle.sums.specs.Places.{getD-tabulate, set-tabulate, tabulate-cong}
+use Rattle.sums.specs.Places.{getD-tabulate, set-tabulate}
 use Rattle.sums.specs.Totals.{total-append, total-cong}
-use Rattle.order.specs.Order.{Order, processorCount}
-use Rattle.order.specs.Sorted.{distinct}
+use Rattle.order.specs.Order.{Order}
 use Rattle.order.specs.Class.{classes, lastThatSuffices, classFor, processorsIn}
-use Rattle.order.specs.ClassLaws.{classes-fall, memory-in-classes, class-in-memories, class-at-most, classes-few}
+use Rattle.order.specs.ClassLaws.{classes-fall, memory-in-classes, class-in-memories, classes-few}
 use Rattle.order.specs.Table.{padded}
 use Rattle.table.specs.FallingLaws.{distinct-behind, distinct-met}
 use Rattle.table.specs.Passed.{listing, processorsOf, OneMore}
@@ -41,6 +41,14 @@ pub next-some : (count : ℕ) (memories : List ℕ) (memory class : ℕ) → Nex
 next-some count memories memory class (inl n) = omega (arith, n .0 .0, n .1)
 next-some count memories memory class (inr n) = omega (arith, n .1)
 
+-- a listing with a memory, and one processor more, at a class
+abbrev pub withOne : Listing → ℕ → ℕ → Listing
+withOne l memory class = record {
+  count = class;
+  memories = set (l .memories) (class - 1) memory;
+  procs = set (l .procs) (class - 1) (getD (l .procs) (class - 1) 0 + 1);
+}
+
 -- all of falling memories suffice for the least
 last-whole : (need : ℕ) (ms : List ℕ) → All (λ m. need ≤ m) ms → lastThatSuffices need ms ≡ length ms
 unfolding lastThatSuffices
@@ -53,11 +61,7 @@ unfolding lastThatSuffices
 last-behind need m [] l = rw (lt-leb need m l) refl
 last-behind need m (y ∷ ms) l = rw (last-behind need m ms l) refl
 
--- behind a list
-getD-behind : (xs : List ℕ) (x : ℕ) → getD (xs ++ (x ∷ [])) (length xs) 0 ≡ x
-getD-behind [] x = refl
-getD-behind (y ∷ xs) x = getD-behind xs x
-
+-- one more behind a list changes no other place
 getD-other : (xs : List ℕ) (x i : ℕ) → i ≢ length xs → getD (xs ++ (x ∷ [])) i 0 ≡ getD xs i 0
 getD-other [] x zero ne = absurd (ne refl)
 getD-other [] x (suc i) ne = refl
@@ -104,12 +108,7 @@ module _ (ms : List ℕ) (x : ℕ) (least : All (λ m. x ≤ m) ms) where
   counted i = processorsIn before (suc i)
 
   -- so the listing has this memory and one processor more there
-  joined : length ms < 16 → (class : ℕ) → Joins class →
-      _≡_ {A = Listing} (record {
-        count = class;
-        memories = set (padded 16 (classes before)) (class - 1) x;
-        procs = set (tabulate 16 counted) (class - 1) (getD (tabulate 16 counted) (class - 1) 0 + 1);
-      }) (listing after)
+  joined : length ms < 16 → (class : ℕ) → Joins class → withOne (listing before) x class ≡ listing after
   joined few class j =
       let place : class - 1 < 16 = omega (arith, j .some, j .length-is, classes-few after, length-append ms (x ∷ [])) in
       let next : class ≡ suc (class - 1) = omega (arith, j .some) in
@@ -167,7 +166,7 @@ module _ (ms : List ℕ) (x : ℕ) (least : All (λ m. x ≤ m) ms) where
         some = omega arith;
         its-memory = ap (λ (k : ℕ). getD (classes after) k 0) back
             ∙ ap (λ (cs : List ℕ). getD cs (length (classes before)) 0) e
-            ∙ getD-behind (classes before) x;
+            ∙ getD-at (classes before) x [] 0 (length (classes before)) refl;
         others = λ i ne. ap (λ (cs : List ℕ). getD cs i 0) e ∙ getD-other (classes before) x i (λ q. ne (q ∙ sym back));
         stay = All-map _ _ ms (λ m l. ap (lastThatSuffices m) e ∙ last-behind m x (classes before) l) above;
       }
@@ -179,19 +178,12 @@ module _ (ms : List ℕ) (x : ℕ) (least : All (λ m. x ≤ m) ms) where
             | no h ↦ let e : m ≡ x = omega arith in absurd (out (subst (λ (y : ℕ). In y ms) e i))
           ]
 
--- one processor more, as the code adds it
+-- one processor more at its class makes the listing of one processor more
 pub one-more : (before : Listing) (memory class : ℕ) → NextClass (before .count) (before .memories) memory class →
-    OneMore before memory (record {
-      count = class;
-      memories = set (before .memories) (class - 1) memory;
-      procs = set (before .procs) (class - 1) (getD (before .procs) (class - 1) 0 + 1);
-    })
+    OneMore before memory (withOne before memory class)
 one-more before memory class next ms few least e =
-    subst (λ (b : Listing). NextClass (b .count) (b .memories) memory class → _≡_ {A = Listing} (record {
-      count = class;
-      memories = set (b .memories) (class - 1) memory;
-      procs = set (b .procs) (class - 1) (getD (b .procs) (class - 1) 0 + 1);
-    }) (listing (processorsOf (ms ++ (memory ∷ []))))) (sym e)
+    subst (λ (b : Listing). NextClass (b .count) (b .memories) memory class →
+    withOne b memory class ≡ listing (processorsOf (ms ++ (memory ∷ [])))) (sym e)
     (λ n. joined ms memory least few class (joins n)) next
   where
     cs : List ℕ

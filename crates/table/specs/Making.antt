@@ -4,7 +4,7 @@ use mathlib.Core.Path.{_≡_, sym, ap, _∙_}
 use mathlib.Core.List.{List}
 use native.Mathlib.Omega.{arith}
 use lib.IntN.{pos}
-use lib.ListN.{length, getD}
+use lib.ListN.{getD}
 use Rattle.sums.specs.Sum.{sum-cong}
 use Rattle.sums.specs.Members.{All-at}
 use Rattle.sums.specs.Places.{length-tabulate, getD-tabulate}

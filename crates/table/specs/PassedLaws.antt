@@ -1,17 +1,16 @@
 -- The pass over the sorted list: it begins with no class, each processor passed has no more memory than those before it, and with all
 -- of them passed the listing is the order's: "the former one for every order".
-use Prim.Native.Nat.{ℕ, zero, suc, _+_, _-_, _≤_, _<_}
+use Prim.Native.Nat.{ℕ, zero, suc, _-_, _≤_, _<_}
 use mathlib.Core.Path.{_≡_, refl, sym, ap, _∙_}
-use mathlib.Core.List.{List, [], _∷_, _++_}
+use mathlib.Core.List.{List, []}
 use native.Mathlib.Omega.{arith}
 use lib.Dec.{eqb}
 use lib.ListN.{length, getD, replicate}
 use Rattle.sums.specs.Lists.{All, total, only, tabulate}
 use Rattle.sums.specs.Members.{All-at, All-from}
 use Rattle.sums.specs.Pairs.{Pairwise-at}
-use Rattle.sums.specs.Places.{length-tabulate, getD-tabulate, tabulate-cong, tabulate-more, tabulate-getD}
+use Rattle.sums.specs.Places.{length-tabulate, getD-tabulate, tabulate-cong, tabulate-getD}
 use Rattle.sums.specs.Rearranged.{Rearranged, rearranged-in}
-use Rattle.sums.specs.Totals.{total-cong}
 use Rattle.order.specs.Order.{Order, Numbers, processorCount, memoryOf}
 use Rattle.order.specs.Sorted.{distinct, processorOrder}
 use Rattle.order.specs.OrderingLaws.{processors-ordered}
@@ -22,7 +21,7 @@ use Rattle.order.specs.Table.{orderOf, padded}
 use Rattle.order.specs.declared.Order.{Order as OrderTable}
 use Rattle.table.specs.FallingLaws.{distinct-same, ordered-places}
 use Rattle.table.specs.Listings.{Small}
-use Rattle.table.specs.Passed.{listing, processorsOf, passed, OneMore}
+use Rattle.table.specs.Passed.{listing, processorsOf, passed}
 use Rattle.table.specs.declared.Listing.{Listing}
 
 -- the order in which processors stand does not matter

@@ -1,5 +1,5 @@
 // Document 02's "classes found in one pass": the distinct memories downwards and the processors of each, from the processors by
-// falling memory. All serve the crates above and have a `requires`.
+// falling memory. `classes_of` serves the crates above; all have a `requires`.
 use super::Listing;
 use order::Order;
 ghost use mathlib.Core.Path.{_≡_};
@@ -24,7 +24,7 @@ fn next_class(count: usize, memories: [u32; 16], memory: u32) -> usize
 }
 
 // A listing with one processor more, of no more memory than any passed: one more of the last class, or one class more.
-pub fn with_processor(before: Listing, memory: u32) -> Listing
+fn with_processor(before: Listing, memory: u32) -> Listing
     requires { ⌜ (before .count < 16) × Small (before .procs) ⌝ }
     ensures { λ r. ⌜ OneMore before memory r ⌝ }
 {

@@ -3,12 +3,6 @@ use borrow.Author.Needs.{needs}
 use native.Mathlib.Omega.{arith}
 use Rattle.cases.proofs.listing.print_classes.Statement.{statement}
 use Rattle.cases.proofs.listing.print_classes.Tie as tie
-use Rattle.cases.proofs.listing.print_classes.Reads as reads
-use Rattle.cases.proofs.listing.print_classes.Lts as lts
-use Rattle.cases.proofs.print.number.Reads as number-reads
-use Rattle.cases.proofs.print.text.Reads as text-reads
-use Rattle.order.proofs.orderings.processor_order.Reads as processor-order-reads
-use Rattle.table.proofs.passing.classes_of.Reads as classes-of-reads
 
 abbrev Inv-loop : tie.InvT-loop
 Inv-loop listing k₀ t5 k = k ≤ 16

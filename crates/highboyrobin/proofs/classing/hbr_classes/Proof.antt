@@ -2,7 +2,7 @@
 use mathlib.Core.Path.{sym, ap, _∙_, subst}
 use mathlib.Core.List.{[], append-nil}
 use lib.ListN.{length}
-use Rattle.order.specs.Order.{Order, processorCount}
+use Rattle.order.specs.Order.{Order}
 use Rattle.order.specs.Refusals.{limits, orderRows, Accepted}
 use Rattle.order.specs.RefusalLaws.{accepted-iff}
 use Rattle.order.specs.StructLaws.{few-processors}
@@ -18,14 +18,6 @@ use borrow.Author.Needs.{needs}
 use native.Mathlib.Omega.{arith}
 use Rattle.highboyrobin.proofs.classing.hbr_classes.Statement.{statement}
 use Rattle.highboyrobin.proofs.classing.hbr_classes.Tie as tie
-use Rattle.highboyrobin.proofs.classing.hbr_classes.Reads as reads
-use Rattle.highboyrobin.proofs.classing.hbr_classes.Lts as lts
-use Rattle.highboyrobin.proofs.answers.put_count.Reads as put-count-reads
-use Rattle.highboyrobin.proofs.classing.put_classes.Reads as put-classes-reads
-use Rattle.highboyrobin.proofs.results.result_of.Reads as result-of-reads
-use Rattle.order.proofs.orderings.processor_order.Reads as processor-order-reads
-use Rattle.order_file.proofs.read.read_order.Reads as read-order-reads
-use Rattle.table.proofs.passing.classes_of.Reads as classes-of-reads
 
 returns : tie.Need-returns
 returns c =

@@ -1,5 +1,5 @@
 use Prim.Native.Nat.{ℕ, _-_, _*_, _≤_}
-use mathlib.Core.Path.{_≡_, refl, ap, _∙_}
+use mathlib.Core.Path.{_≡_, ap, _∙_}
 use mathlib.Core.List.{List, _++_}
 use lib.ListN.{length, getD, drop, length-set}
 use Rattle.table.specs.declared.Listing.{Listing}
@@ -9,8 +9,6 @@ use borrow.Author.Needs.{needs}
 use native.Mathlib.Omega.{arith}
 use Rattle.highboyrobin.proofs.classing.put_classes.Statement.{statement}
 use Rattle.highboyrobin.proofs.classing.put_classes.Tie as tie
-use Rattle.highboyrobin.proofs.classing.put_classes.Reads as reads
-use Rattle.highboyrobin.proofs.classing.put_classes.Lts as lts
 
 -- the pairs of the first k classes
 abbrev pairs : Listing → ℕ → List ℕ

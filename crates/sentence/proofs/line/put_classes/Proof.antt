@@ -13,10 +13,6 @@ use borrow.Author.Needs.{needs}
 use native.Mathlib.Omega.{arith}
 use Rattle.sentence.proofs.line.put_classes.Statement.{statement}
 use Rattle.sentence.proofs.line.put_classes.Tie as tie
-use Rattle.sentence.proofs.line.put_classes.Reads as reads
-use Rattle.sentence.proofs.line.put_classes.Lts as lts
-use Rattle.sentence.proofs.line.put_between.Reads as put-between-reads
-use Rattle.sentence.proofs.line.put_class.Reads as put-class-reads
 
 abbrev Inv-loop : tie.InvT-loop
 Inv-loop out₀ k memories dues next₀ i₀ out next i =

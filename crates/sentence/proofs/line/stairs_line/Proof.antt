@@ -16,12 +16,6 @@ use borrow.Author.Needs.{needs}
 use native.Mathlib.Omega.{arith}
 use Rattle.sentence.proofs.line.stairs_line.Statement.{statement}
 use Rattle.sentence.proofs.line.stairs_line.Tie as tie
-use Rattle.sentence.proofs.line.stairs_line.Reads as reads
-use Rattle.sentence.proofs.line.stairs_line.Lts as lts
-use Rattle.sentence.proofs.line.put_classes.Reads as put-classes-reads
-use Rattle.sentence.proofs.line.put_sums.Reads as put-sums-reads
-use Rattle.sentence.proofs.standing.weigh.Reads as weigh-reads
-use Rattle.table.proofs.making.table_of.Reads as table-of-reads
 
 table-of-requires : tie.Need-table-of-requires
 table-of-requires c κs = search needs

@@ -15,9 +15,6 @@ use Rattle.table.specs.PassedLaws.{none-passed, passed-small, passed-lea
 use native.Mathlib.Omega.{arith}
 use Rattle.table.proofs.passing.classes_of.Statement.{statement}
 use Rattle.table.proofs.passing.classes_of.Tie as tie
-use Rattle.table.proofs.passing.classes_of.Reads as reads
-use Rattle.table.proofs.passing.classes_of.Lts as lts
-use Rattle.table.proofs.passing.with_processor.Reads as with-processor-reads
 
 -- the memory of the processor passed after i others
 abbrev memory : Order → ℕ → ℕ

@@ -4,8 +4,6 @@ use borrow.Author.Needs.{needs}
 use native.Mathlib.Omega.{arith}
 use Rattle.table.proofs.passing.next_class.Statement.{statement}
 use Rattle.table.proofs.passing.next_class.Tie as tie
-use Rattle.table.proofs.passing.next_class.Reads as reads
-use Rattle.table.proofs.passing.next_class.Lts as lts
 
 returns : tie.Need-returns
 returns c = inr (λ h. omega (arith, c .if1 .taken, h .0), omega (arith, c .if1 .taken))

@@ -5,9 +5,6 @@ use Rattle.table.specs.Listings.{next-some, one-more}
 use native.Mathlib.Omega.{arith}
 use Rattle.table.proofs.passing.with_processor.Statement.{statement}
 use Rattle.table.proofs.passing.with_processor.Tie as tie
-use Rattle.table.proofs.passing.with_processor.Reads as reads
-use Rattle.table.proofs.passing.with_processor.Lts as lts
-use Rattle.table.proofs.passing.next_class.Reads as next-class-reads
 
 -- the class that the processor joins
 next : (c : tie.After-next-class) → (0 < c .next-class .result) × (c .next-class .result ≤ suc (c .before .before .before .args .before .count))
