@@ -1,5 +1,5 @@
 /* Plans an order from C: two processors, three jobs of two makers. Prints the least lateness, a plan that meets it, why -1 is too
- * tight, in due times and as a sentence, and the minutes booked for each maker. */
+ * tight, in due times and as a sentence, the classes that it speaks of, and the minutes booked for each maker. */
 #include "highboyrobin.h"
 #include <stdio.h>
 
@@ -9,8 +9,10 @@ int main(void) {
   static uint8_t file[HBR_MOST_BYTES];
   static uint32_t rows[4 * HBR_MOST_ROWS];
   static uint8_t line[HBR_MOST_LINE];
+  static uint32_t classes[2 * HBR_MOST_CLASSES];
   static uint32_t book[HBR_MOST_MAKERS]; /* opened: sixteen zeros */
   int32_t length[HBR_WRITE_ANSWER], least[HBR_BOOK_LEAST_ANSWER], reason[HBR_REASON_ANSWER], written[HBR_SENTENCE_ANSWER];
+  int32_t count[HBR_CLASSES_ANSWER];
 
   uint32_t result = hbr_write(memories, 2, jobs, 12, file, sizeof file, length, HBR_WRITE_ANSWER);
   if (result == 0)
@@ -19,6 +21,8 @@ int main(void) {
     result = hbr_reason(file, (size_t)length[0], -1, reason, HBR_REASON_ANSWER);
   if (result == 0)
     result = hbr_sentence(file, (size_t)length[0], -1, reason, HBR_REASON_ANSWER, line, sizeof line, written, HBR_SENTENCE_ANSWER);
+  if (result == 0)
+    result = hbr_classes(file, (size_t)length[0], classes, 2 * HBR_MOST_CLASSES, count, HBR_CLASSES_ANSWER);
   if (result != 0) {
     printf("refused %u, job %u\n", hbr_number(result), hbr_job(result));
     return 1;
@@ -34,6 +38,8 @@ int main(void) {
       printf(" %d", reason[3 + k]);
     printf("\n%.*s\n", (int)written[0], (const char *)line);
   }
+  for (int k = 0; k < count[0]; k++)
+    printf("class %d: memory %u, processors %u\n", k + 1, (unsigned)classes[2 * k], (unsigned)classes[2 * k + 1]);
   printf("booked: maker 1 %u minutes, maker 2 %u minutes\n", (unsigned)book[0], (unsigned)book[1]);
   return 0;
 }

@@ -1,8 +1,8 @@
 // Plans an order from Rust: two processors, three jobs of two makers. Prints the least lateness, a plan that meets it, why -1 is too
-// tight, in due times and as a sentence, and the minutes booked for each maker.
+// tight, in due times and as a sentence, the classes that it speaks of, and the minutes booked for each maker.
 #[allow(dead_code)]
 mod highboyrobin;
-use highboyrobin::{book_least, judge, reason, sentence, write};
+use highboyrobin::{book_least, classes, judge, reason, sentence, write};
 use highboyrobin::{Book, Job, Reason, Refused, Row, MOST_BYTES, MOST_LINE};
 
 fn main() -> Result<(), Refused> {
@@ -45,6 +45,10 @@ fn main() -> Result<(), Refused> {
         print!("lateness -1 is too tight: due times");
         dues[..classes].iter().for_each(|due| print!(" {due}"));
         println!("\n{}", sentence(file, -1, &why, &mut [0; MOST_LINE])?);
+    }
+    for (number, class) in (1..).zip(classes(file)?.listed()) {
+        let (memory, processors) = (class.memory, class.processors);
+        println!("class {number}: memory {memory}, processors {processors}");
     }
     let [first, second, ..] = book.counts;
     println!("booked: maker 1 {first} minutes, maker 2 {second} minutes");
