@@ -60,12 +60,8 @@ slice-write-list-2 : tie.Need-slice-write-list-2 Inv-loop μ-loop
 slice-write-list-2 c =
     let l = c .before .before .before .loop in
     let s = c .before .before .before .before in
-    omega (
-      arith,
-      l .inv .2,
-      paired-length _ _ (s .args .list .now) (l .list) (l .i) (l .inv .3) (omega (arith, l .inv .2)),
-      length-set (l .list) (2 * l .i) (getD (s .args .t2 .memories) (l .i) 0),
-    )
+    let size = paired-length _ _ (s .args .list .now) (l .list) (l .i) (l .inv .3) (omega (arith, l .inv .2)) in
+    rw length-set (omega (arith, l .inv .2, size))
 
 add-i : tie.Need-add-i Inv-loop μ-loop
 add-i c = search needs
