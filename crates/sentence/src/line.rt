@@ -3,7 +3,6 @@ use super::Weighed;
 use super::standing::weigh;
 use order::Order;
 use order::deadline::end_of;
-use order::orderings::processor_order;
 use reason::Reason;
 use reason::Tightness;
 use reason::Why;
@@ -131,11 +130,13 @@ fn stairs_line(order: Order, bound: i32, dues: [i32; 16], k: usize, out: &mut [u
     ensures { λ r. ⌜ Put (now (out .entry)) 0 (composed (orderOf order) bound (found (stairs (take k dues)))) (now (out .exit)) r
         × (r ≤ 598) ⌝ }
 {
-    let weighed = weigh(order, table_of(order), bound, dues, k);
+    let t = table_of(order);
+    let by_memory = t.by_memory;
+    let weighed = weigh(order, t, bound, dues, k);
     match weighed {
         Weighed::Falls => 0,
         Weighed::Stands(owed, on_hand) => {
-            let memories = classes_of(order, processor_order(order)).memories;
+            let memories = classes_of(order, by_memory).memories;
             let behind = put_classes(out, memories, dues, k);
             put_sums(out, behind, owed, on_hand as i32)
         }
