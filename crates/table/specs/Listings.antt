@@ -1,53 +1,29 @@
--- The listing of classes while processors are passed: the class of the next one, and what it adds. Only this crate's own functions are
--- held to `NextClass` and `Small`.
+-- The listing of classes while processors are passed: the class of the next one, and what it adds.
 use Prim.Native.Nat.{ℕ, zero, suc, _+_, _-_, _≤_, _<_}
 use mathlib.Core.Path.{_≡_, refl, sym, ap, _∙_, subst}
 use mathlib.Core.Bool.{Bool}
 use mathlib.Core.List.{List, [], _∷_, _++_}
-use mathlib.Core.Logic.{_⊎_, inl, inr, _≢_}
+use mathlib.Core.Logic.{inl, inr, _≢_}
 use native.Mathlib.Omega.{arith}
 use native.Mathlib.Decide.{decLt}
 use borrow.Author.Tests.{le-leb, lt-leb, eq-eqb, ne-eqb}
 use lib.Dec.{eqb}
-use lib.ListN.{length, getD, set, length-append}
+use lib.ListN.{length, getD, length-append}
 use lib.Seq.{getD-at}
-use Rattle.sums.specs.Lists.{All, In, only, tabulate}
+use Rattle.sums.specs.Lists.{All, In, only}
 use Rattle.sums.specs.Members.{All-map, All-in, in-All, in-at, at-in, in-append}
-use Rattle.sums.specs.Places.{getD-tabulate, set-tabulate}
-use Rattle.sums.specs.Totals.{total-append, total-cong}
-use Rattle.order.specs.Order.{Order}
-use Rattle.order.specs.Class.{classes, lastThatSuffices, classFor, processorsIn}
-use Rattle.order.specs.ClassLaws.{classes-fall, memory-in-classes, class-in-memories, classes-few}
-use Rattle.order.specs.Table.{padded}
+use Rattle.sums.specs.Places.{set-tabulate}
+use Rattle.sums.specs.Totals.{only-le, total-append, total-cong, total-most, total-none}
+use Rattle.order.specs.Order.{Order, processorCount}
+use Rattle.order.specs.Class.{classes, lastThatSuffices, classFor, memoryOfClass, processorsIn}
+use Rattle.order.specs.ClassLaws.{classes-fall, memory-in-classes, class-in-memories, class-of-processor, classes-few}
 use Rattle.table.specs.FallingLaws.{distinct-behind, distinct-met}
-use Rattle.table.specs.Passed.{listing, processorsOf, OneMore}
-use Rattle.table.specs.declared.Listing.{Listing}
+use Rattle.table.specs.Passed.{listing, processorsOf, lastClass, withClass, OneMore}
+use Rattle.table.specs.declared.LastClass.{LastClass}
 
--- the last class listed has this memory
-abbrev pub LastHas : ℕ → List ℕ → ℕ → Type 0
-LastHas count memories memory = (0 < count) × (getD memories (count - 1) 0 ≡ memory)
-
--- the class of the processor passed next: the last one where that has its memory, else one more
-abbrev pub NextClass : ℕ → List ℕ → ℕ → ℕ → Type 0
-NextClass count memories memory class =
-    (LastHas count memories memory × (class ≡ count)) ⊎ ((¬ LastHas count memories memory) × (class ≡ suc count))
-
--- counts to which one can be added
-abbrev pub Small : List ℕ → Type 0
-Small procs = (i : ℕ) → i < 16 → getD procs i 0 ≤ 15
-
-pub next-some : (count : ℕ) (memories : List ℕ) (memory class : ℕ) → NextClass count memories memory class →
-    (0 < class) × (class ≤ suc count)
-next-some count memories memory class (inl n) = omega (arith, n .0 .0, n .1)
-next-some count memories memory class (inr n) = omega (arith, n .1)
-
--- a listing with a memory, and one processor more, at a class
-abbrev pub withOne : Listing → ℕ → ℕ → Listing
-withOne l memory class = record {
-  count = class;
-  memories = set (l .memories) (class - 1) memory;
-  procs = set (l .procs) (class - 1) (getD (l .procs) (class - 1) 0 + 1);
-}
+-- a last class, if there is one, has this memory
+abbrev pub LastHas : LastClass → ℕ → Type 0
+LastHas c memory = (0 < c .number) × (c .memory ≡ memory)
 
 -- all of falling memories suffice for the least
 last-whole : (need : ℕ) (ms : List ℕ) → All (λ m. need ≤ m) ms → lastThatSuffices need ms ≡ length ms
@@ -67,6 +43,31 @@ getD-other [] x zero ne = absurd (ne refl)
 getD-other [] x (suc i) ne = refl
 getD-other (y ∷ xs) x zero ne = refl
 getD-other (y ∷ xs) x (suc i) ne = getD-other xs x i (λ e. ne (ap suc e))
+
+-- the memory of a class, at its place
+memory-at : (o : Order) (k : ℕ) → 0 < k → memoryOfClass o k ≡ getD (classes o) (k - 1) 0
+unfolding memoryOfClass
+memory-at o zero l = absurd (omega arith)
+memory-at o (suc k) l = ap (λ (i : ℕ). getD (classes o) i 0) (omega arith)
+
+-- no processor is beyond the last class, and no more are in one than there are
+none-beyond : (o : Order) → processorsIn o (suc (length (classes o))) ≡ 0
+unfolding processorsIn
+none-beyond o =
+    total-none (o .memories) _
+    (in-All _ (o .memories) (λ m i. ap (λ (b : Bool). only b 1)
+    (ne-eqb (classFor o m) (suc (length (classes o))) (λ e. omega (arith, class-of-processor o m i .1)))))
+
+few-in : (o : Order) (k : ℕ) → processorsIn o k ≤ processorCount o
+unfolding processorsIn
+few-in o k =
+    omega (arith, total-most (o .memories) (λ m. only (eqb (classFor o m) k) 1) 1 (in-All _ (o .memories) (λ m _. only-le (eqb (classFor o m) k) 1)))
+
+-- fewer than sixteen processors passed have fewer classes, and fewer in the last
+pub last-small : (ms : List ℕ) → length ms < 16 →
+    (lastClass (processorsOf ms) .number < 16) × (lastClass (processorsOf ms) .procs < 16)
+last-small ms few =
+    let o = processorsOf ms in (omega (arith, classes-few o), omega (arith, few-in o (length (classes o))))
 
 module _ (ms : List ℕ) (x : ℕ) (least : All (λ m. x ≤ m) ms) where
   abbrev before : Order
@@ -104,38 +105,44 @@ module _ (ms : List ℕ) (x : ℕ) (least : All (λ m. x ≤ m) ms) where
           itself m (inl e) = omega arith
           itself m (inr k) = absurd k
 
-  abbrev counted : ℕ → ℕ
-  counted i = processorsIn before (suc i)
-
-  -- so the listing has this memory and one processor more there
-  joined : length ms < 16 → (class : ℕ) → Joins class → withOne (listing before) x class ≡ listing after
-  joined few class j =
-      let place : class - 1 < 16 = omega (arith, j .some, j .length-is, classes-few after, length-append ms (x ∷ [])) in
-      let next : class ≡ suc (class - 1) = omega (arith, j .some) in
-      cc (
-        sym (j .length-is),
-        set-tabulate 16 (λ i. getD (classes before) i 0) (λ i. getD (classes after) i 0) (class - 1) x (j .its-memory)
-            (λ k l ne. sym (j .others k ne)),
-        set-tabulate 16 counted (λ i. processorsIn after (suc i)) (class - 1) (getD (tabulate 16 counted) (class - 1) 0 + 1)
-            (rw (getD-tabulate 16 counted 0 (class - 1) place)
-            (added class j (class - 1) ∙ ap (λ (b : Bool). counted (class - 1) + only b 1) (eq-eqb class (suc (class - 1)) next)))
-            (λ k l ne. sym (added class j k ∙ ap (λ (b : Bool). counted k + only b 1) (ne-eqb class (suc k) (λ e. ne (omega arith)))
-            ∙ omega arith)),
+  -- so it is the last class, with one processor more, and the listing has it at its place
+  joined : (class procs : ℕ) → Joins class → procs ≡ processorsIn before class + 1 →
+      let next : LastClass = record { number = class; memory = x; procs = procs } in
+      (next ≡ lastClass after) × (withClass (listing before) next ≡ listing after)
+  joined class procs j e =
+      let at : class ≡ suc (class - 1) = omega (arith, j .some) in
+      let more : processorsIn after (suc (class - 1)) ≡ procs = added class j (class - 1)
+      ∙ omega (arith, e, ap (processorsIn before) at, ap (λ (b : Bool). only b 1) (eq-eqb class (suc (class - 1)) at)) in (
+        cc (
+          sym (j .length-is),
+          sym (ap (memoryOfClass after) (j .length-is) ∙ memory-at after class (j .some) ∙ j .its-memory),
+          sym (ap (processorsIn after) (j .length-is ∙ at) ∙ more),
+        ),
+        cc (
+          sym (j .length-is),
+          set-tabulate 16 (λ i. getD (classes before) i 0) (λ i. getD (classes after) i 0) (class - 1) x (j .its-memory)
+              (λ k l ne. sym (j .others k ne)),
+          set-tabulate 16 (λ i. processorsIn before (suc i)) (λ i. processorsIn after (suc i)) (class - 1) procs more
+              (λ k l ne. sym (added class j k
+              ∙ ap (λ (b : Bool). processorsIn before (suc k) + only b 1) (ne-eqb class (suc k) (λ e. ne (omega arith))) ∙ omega arith)),
+        ),
       )
 
   -- the last class has its memory exactly if some processor passed has
-  last-met : LastHas (length (classes before)) (classes before) x → In x ms
+  last-met : LastHas (lastClass before) x → In x ms
   last-met l =
       class-in-memories before x
-      (subst (λ (m : ℕ). In m (classes before)) (l .1) (at-in (classes before) 0 (length (classes before) - 1) (omega (arith, l .0))))
+      (subst (λ (m : ℕ). In m (classes before)) (sym (memory-at before (length (classes before)) (l .0)) ∙ l .1)
+      (at-in (classes before) 0 (length (classes before) - 1) (omega (arith, l .0))))
 
-  met-last : In x ms → LastHas (length (classes before)) (classes before) x
+  met-last : In x ms → LastHas (lastClass before) x
   met-last i =
       let p = in-at (classes before) 0 x (memory-in-classes before x i) in
       elim (decLt (suc (p .0)) (length (classes before))) [
         | no l ↦
+            let some : 0 < length (classes before) = omega (arith, p .1) in
             let e : length (classes before) - 1 ≡ p .0 = omega (arith, p .1) in
-            (omega (arith, p .1), ap (λ (k : ℕ). getD (classes before) k 0) e ∙ p .2)
+            (some, memory-at before (length (classes before)) some ∙ ap (λ (k : ℕ). getD (classes before) k 0) e ∙ p .2)
         | yes l ↦
             let m = All-in _ ms least _ (class-in-memories before _ (at-in (classes before) 0 (suc (p .0)) l)) in
             absurd (omega (arith, p .2, m, classes-fall before (p .0) (suc (p .0)) (omega arith) l))
@@ -149,7 +156,8 @@ module _ (ms : List ℕ) (x : ℕ) (least : All (λ m. x ≤ m) ms) where
       record {
         length-is = ap length e;
         some = l .0;
-        its-memory = ap (λ (cs : List ℕ). getD cs (length (classes before) - 1) 0) e ∙ l .1;
+        its-memory = ap (λ (cs : List ℕ). getD cs (length (classes before) - 1) 0) e
+            ∙ sym (memory-at before (length (classes before)) (l .0)) ∙ l .1;
         others = λ i _. ap (λ (cs : List ℕ). getD cs i 0) e;
         stay = in-All _ ms (λ m _. ap (lastThatSuffices m) e);
       }
@@ -178,24 +186,24 @@ module _ (ms : List ℕ) (x : ℕ) (least : All (λ m. x ≤ m) ms) where
             | no h ↦ let e : m ≡ x = omega arith in absurd (out (subst (λ (y : ℕ). In y ms) e i))
           ]
 
--- one processor more at its class makes the listing of one processor more
-pub one-more : (before : Listing) (memory class : ℕ) → NextClass (before .count) (before .memories) memory class →
-    OneMore before memory (withOne before memory class)
-one-more before memory class next ms few least e =
-    subst (λ (b : Listing). NextClass (b .count) (b .memories) memory class →
-    withOne b memory class ≡ listing (processorsOf (ms ++ (memory ∷ [])))) (sym e)
-    (λ n. joined ms memory least few class (joins n)) next
+-- one processor more of the last class
+pub one-more : (last : LastClass) (memory : ℕ) → LastHas last memory →
+    OneMore last memory (record { number = last .number; memory = memory; procs = last .procs + 1 })
+one-more last memory has ms least e =
+    subst (λ (c : LastClass). LastHas c memory →
+    let next : LastClass = record { number = c .number; memory = memory; procs = c .procs + 1 } in
+    (next ≡ lastClass (processorsOf (ms ++ (memory ∷ []))))
+    × (withClass (listing (processorsOf ms)) next ≡ listing (processorsOf (ms ++ (memory ∷ []))))) (sym e)
+    (λ h. joined ms memory least _ _ (same-class ms memory least (last-met ms memory least h)) refl) has
+
+-- one class more, of one processor
+pub class-more : (last : LastClass) (memory class : ℕ) → ¬ LastHas last memory → class ≡ suc (last .number) →
+    OneMore last memory (record { number = class; memory = memory; procs = 1 })
+class-more last memory class out is ms least e =
+    joined ms memory least class 1
+    (subst (Joins ms memory least) (sym class-is)
+    (new-class ms memory least (λ i. out (subst (λ (c : LastClass). LastHas c memory) (sym e) (met-last ms memory least i)))))
+    (omega (arith, none-beyond (processorsOf ms), ap (processorsIn (processorsOf ms)) class-is))
   where
-    cs : List ℕ
-    cs = classes (processorsOf ms)
-
-    held : 0 < length cs → getD (padded 16 cs) (length cs - 1) 0 ≡ getD cs (length cs - 1) 0
-    held l = getD-tabulate 16 (λ i. getD cs i 0) 0 (length cs - 1) (omega (arith, classes-few (processorsOf ms)))
-
-    joins : NextClass (length cs) (padded 16 cs) memory class → Joins ms memory least class
-    joins (inl n) =
-        subst (Joins ms memory least) (sym (n .1))
-        (same-class ms memory least (last-met ms memory least (n .0 .0, sym (held (n .0 .0)) ∙ n .0 .1)))
-    joins (inr n) =
-        subst (Joins ms memory least) (sym (n .1))
-        (new-class ms memory least (λ i. let l = met-last ms memory least i in n .0 (l .0, held (l .0) ∙ l .1)))
+    class-is : class ≡ suc (length (classes (processorsOf ms)))
+    class-is = is ∙ ap (λ (c : LastClass). suc (c .number)) e

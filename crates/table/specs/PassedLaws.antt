@@ -14,14 +14,13 @@ use Rattle.sums.specs.Rearranged.{Rearranged, rearranged-in}
 use Rattle.order.specs.Order.{Order, Numbers, processorCount, memoryOf}
 use Rattle.order.specs.Sorted.{distinct, processorOrder}
 use Rattle.order.specs.OrderingLaws.{processors-ordered}
-use Rattle.order.specs.Class.{classes, lastThatSuffices, classFor, processorsIn}
-use Rattle.order.specs.ClassLaws.{processorsIn-few, classes-few}
+use Rattle.order.specs.Class.{classes, lastThatSuffices, classFor, memoryOfClass, processorsIn}
 use Rattle.order.specs.StructLaws.{processor-count}
 use Rattle.order.specs.Table.{orderOf, padded}
 use Rattle.order.specs.declared.Order.{Order as OrderTable}
 use Rattle.table.specs.FallingLaws.{distinct-same, ordered-places}
-use Rattle.table.specs.Listings.{Small}
-use Rattle.table.specs.Passed.{listing, processorsOf, passed}
+use Rattle.table.specs.Passed.{listing, processorsOf, passed, lastClass}
+use Rattle.table.specs.declared.LastClass.{LastClass}
 use Rattle.table.specs.declared.Listing.{Listing}
 
 -- the order in which processors stand does not matter
@@ -38,18 +37,12 @@ listing-same o o′ same =
           ∙ ap (λ (cs : List ℕ). total (o′ .memories) (λ m. only (eqb (lastThatSuffices m cs) (suc i)) 1)) e),
     )
 
--- before the first processor
-pub none-passed : _≡_ {A = Listing} (record { count = 0; memories = replicate 16 0; procs = replicate 16 0 }) (listing (processorsOf []))
-unfolding classes distinct processorsIn
-none-passed = refl
-
--- fewer than sixteen processors passed have few classes, and few in each
-pub passed-small : (ms : List ℕ) → length ms < 16 →
-    (length (classes (processorsOf ms)) < 16) × Small (tabulate 16 (λ i. processorsIn (processorsOf ms) (suc i)))
-passed-small ms few = (
-  omega (arith, classes-few (processorsOf ms)),
-  λ i l. rw (getD-tabulate 16 (λ i. processorsIn (processorsOf ms) (suc i)) 0 i l) (omega (arith, processorsIn-few (processorsOf ms) i)),
-)
+-- before the first processor there is no class
+pub none-passed :
+    (_≡_ {A = LastClass} (record { number = 0; memory = 0; procs = 0 }) (lastClass (processorsOf [])))
+    × (_≡_ {A = Listing} (record { count = 0; memories = replicate 16 0; procs = replicate 16 0 }) (listing (processorsOf [])))
+unfolding classes distinct memoryOfClass processorsIn
+none-passed = (refl, refl)
 
 module _ (o : Order) where
   abbrev order : List ℕ

@@ -19,6 +19,13 @@ pub struct Listing {
     pub procs: [u32; 16],
 }
 
+// The last class of the processors passed so far: its number, its memory and its processors; 0 each before the first.
+pub struct LastClass {
+    pub number: usize,
+    pub memory: u32,
+    pub procs: u32,
+}
+
 // Counts of jobs (n), processors (m), classes (s) and distinct due times (q); for each job its time, its class from 1 and its lead
 // (1,000,000 less the due time); the class of each processor; the processors of each class; the leads of the distinct due times, by rising
 // due time; the processors' numbers by falling memory and the jobs' numbers by falling need, ties in input order, 0 beyond.

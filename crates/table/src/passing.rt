@@ -1,5 +1,6 @@
 // Document 02's "classes found in one pass": the distinct memories downwards and the processors of each, from the processors by
-// falling memory. `classes_of` serves the crates above; all have a `requires`.
+// falling memory. `classes_of` serves the crates above; both have a `requires`.
+use super::LastClass;
 use super::Listing;
 use order::Order;
 ghost use mathlib.Core.Path.{_≡_};
@@ -7,36 +8,31 @@ ghost use Prim.Native.Nat.{_≤_, _<_};
 ghost use Rattle.order.specs.Sorted.{processorOrder};
 ghost use Rattle.order.specs.Table.{orderOf, padded};
 ghost use Rattle.table.specs.Passed.{listing, OneMore};
-ghost use Rattle.table.specs.Listings.{NextClass, Small};
 
-// The class of the processor passed next: the last one listed where that has its memory, else one more.
-fn next_class(count: usize, memories: [u32; 16], memory: u32) -> usize
-    requires { ⌜ count ≤ 16 ⌝ }
-    ensures { λ r. ⌜ NextClass count memories memory r ⌝ }
+// The last class with one processor more, of no more memory than any passed: one more of that class, or one class more.
+fn with_processor(last: LastClass, memory: u32) -> LastClass
+    requires { ⌜ (last .number < 16) × (last .procs < 16) ⌝ }
+    ensures { λ r. ⌜ OneMore last memory r ⌝ }
+    ensures { λ r. ⌜ (0 < r .number) × (r .number ≤ 16) ⌝ }
 {
-    if count == 0 {
-        return 1;
+    if last.number == 0 {
+        return LastClass {
+            number: 1,
+            memory,
+            procs: 1,
+        };
     }
-    if memories[count - 1] == memory {
-        return count;
+    if last.memory == memory {
+        return LastClass {
+            number: last.number,
+            memory,
+            procs: last.procs + 1,
+        };
     }
-    count + 1
-}
-
-// A listing with one processor more, of no more memory than any passed: one more of the last class, or one class more.
-fn with_processor(before: Listing, memory: u32) -> Listing
-    requires { ⌜ (before .count < 16) × Small (before .procs) ⌝ }
-    ensures { λ r. ⌜ OneMore before memory r ⌝ }
-{
-    let mut memories = before.memories;
-    let mut procs = before.procs;
-    let count = next_class(before.count, memories, memory);
-    memories[count - 1] = memory;
-    procs[count - 1] += 1;
-    Listing {
-        count,
-        memories,
-        procs,
+    LastClass {
+        number: last.number + 1,
+        memory,
+        procs: 1,
     }
 }
 
@@ -46,15 +42,24 @@ pub fn classes_of(order: Order, by_memory: [u32; 16]) -> Listing
     ensures { λ r. ⌜ r ≡ listing (orderOf order) ⌝ }
 {
     let n = order.processors as usize;
-    let mut found = Listing {
-        count: 0,
-        memories: [0u32; 16],
-        procs: [0u32; 16],
+    let mut memories = [0u32; 16];
+    let mut procs = [0u32; 16];
+    let mut last = LastClass {
+        number: 0,
+        memory: 0,
+        procs: 0,
     };
     let mut k: usize = 0;
     while k < n {
-        found = with_processor(found, order.memories[(by_memory[k] - 1) as usize]);
+        last = with_processor(last, order.memories[(by_memory[k] - 1) as usize]);
+        let count = last.number;
+        memories[count - 1] = last.memory;
+        procs[count - 1] = last.procs;
         k += 1;
     }
-    found
+    Listing {
+        count: last.number,
+        memories,
+        procs,
+    }
 }
