@@ -36,7 +36,8 @@ fn put_classes(list: &mut [u32], found: Listing)
 
 #[no_mangle]
 pub extern "C" fn hbr_classes(file: &[u8], classes: &mut [u32], answer: &mut [i32]) -> u32
-    ensures { λ r. ⌜ r ≡ resultOf (judge (classesCall (now (file .entry)) (length (now (classes .entry))) (length (now (answer .entry))))) ⌝ }
+    ensures { λ r. ⌜ r ≡ resultOf (judge (classesCall (now (file .entry)) (length (now (classes .entry)))
+        (length (now (answer .entry))))) ⌝ }
     ensures { λ r. ⌜ now (classes .exit) ≡ answeredBy (judge (classesCall (now (file .entry)) (length (now (classes .entry)))
         (length (now (answer .entry))))) (classPairs (orderIn (now (file .entry)))) (now (classes .entry)) ⌝ }
     ensures { λ r. ⌜ now (answer .exit) ≡ answeredBy (judge (classesCall (now (file .entry)) (length (now (classes .entry)))

@@ -61,13 +61,17 @@ none-beyond o =
 few-in : (o : Order) (k : ℕ) → processorsIn o k ≤ processorCount o
 unfolding processorsIn
 few-in o k =
-    omega (arith, total-most (o .memories) (λ m. only (eqb (classFor o m) k) 1) 1 (in-All _ (o .memories) (λ m _. only-le (eqb (classFor o m) k) 1)))
+    omega (
+      arith,
+      total-most (o .memories) (λ m. only (eqb (classFor o m) k) 1) 1
+          (in-All _ (o .memories) (λ m _. only-le (eqb (classFor o m) k) 1)),
+    )
 
 -- fewer than sixteen processors passed have fewer classes, and fewer in the last
 pub last-small : (ms : List ℕ) → length ms < 16 →
     (lastClass (processorsOf ms) .number < 16) × (lastClass (processorsOf ms) .procs < 16)
 last-small ms few =
-    let o = processorsOf ms in (omega (arith, classes-few o), omega (arith, few-in o (length (classes o))))
+    (omega (arith, classes-few (processorsOf ms)), omega (arith, few-in (processorsOf ms) (length (classes (processorsOf ms)))))
 
 module _ (ms : List ℕ) (x : ℕ) (least : All (λ m. x ≤ m) ms) where
   abbrev before : Order

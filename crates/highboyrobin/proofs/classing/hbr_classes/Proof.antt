@@ -1,4 +1,5 @@
 -- `hbr_classes`: the answer's room, the list's length, then the reader decide.
+use Prim.Native.Nat.{_≤_}
 use mathlib.Core.Path.{sym, ap, _∙_, subst}
 use mathlib.Core.List.{[], append-nil}
 use lib.ListN.{length}
@@ -58,64 +59,40 @@ returns-3 c =
 enum-told : tie.Need-enum-told
 enum-told c = search needs
 
-processor-order-requires : tie.Need-processor-order-requires
-processor-order-requires c κs =
+-- the order that was read is accepted, and so it has at most sixteen classes
+read-accepted : (c : tie.After-order) → Accepted (orderOf (c .before .before .before .read-order .result .order))
+read-accepted c =
     let q = c .before .before .before in
     let f = q .before .before .before .before .before .args .file .now in
     let r = q .read-order .result in
     let e = q .read-order .ensures .0 in
     let ok = c .before .enum-told .given .1 in
-    few-processors (r .order) (subst Accepted (sym (order-is f r e ok)) (order-accepted f r e ok))
+    subst Accepted (sym (order-is f r e ok)) (order-accepted f r e ok)
+
+few : (c : tie.After-classes-of) → c .classes-of .result .count ≤ 16
+few c =
+    let o = orderOf (c .before .before .before .before .before .read-order .result .order) in
+    few-listed o (accepted-iff o .0 (read-accepted (c .before .before)) .few-processors) (c .classes-of .result) (c .classes-of .ensures)
+
+processor-order-requires : tie.Need-processor-order-requires
+processor-order-requires c κs = few-processors (c .before .before .before .read-order .result .order) (read-accepted c)
 
 classes-of-requires : tie.Need-classes-of-requires
-classes-of-requires c κs =
-    let q = c .before .before .before .before in
-    let f = q .before .before .before .before .before .args .file .now in
-    let r = q .read-order .result in
-    let e = q .read-order .ensures .0 in
-    let ok = c .before .before .enum-told .given .1 in (
-      few-processors (r .order) (subst Accepted (sym (order-is f r e ok)) (order-accepted f r e ok)),
-      c .processor-order .ensures,
-    )
+classes-of-requires c κs = (
+  few-processors (c .before .before .before .before .read-order .result .order) (read-accepted (c .before)),
+  c .processor-order .ensures,
+)
 
 put-classes-requires : tie.Need-put-classes-requires
-put-classes-requires c κs =
-    let q = c .before .before .before .before .before .before in
-    let f = q .before .before .before .before .before .args .file .now in
-    let r = q .read-order .result in
-    let e = q .read-order .ensures .0 in
-    let ok = c .before .before .before .before .enum-told .given .1 in
-    let o = orderOf (r .order) in (
-      few-listed o (accepted-iff o .0 (subst Accepted (sym (order-is f r e ok)) (order-accepted f r e ok)) .few-processors)
-          (c .before .classes-of .result) (c .before .classes-of .ensures),
-      q .before .if2 .left,
-    )
+put-classes-requires c κs = (few (c .before), c .before .before .before .before .before .before .before .if2 .left)
 
 cast-put-count : tie.Need-cast-put-count
-cast-put-count c =
-    let q = c .before .before .before .before .before .before .before .before .before .before .before in
-    let f = q .before .before .before .before .before .args .file .now in
-    let r = q .read-order .result in
-    let e = q .read-order .ensures .0 in
-    let ok = c .before .before .before .before .before .before .before .before .before .enum-told .given .1 in
-    let o = orderOf (r .order) in
-    let k = c .before .before .before .before .before .before .classes-of in
-    let few = few-listed o (accepted-iff o .0 (subst Accepted (sym (order-is f r e ok)) (order-accepted f r e ok)) .few-processors)
-    (k .result) (k .ensures) in
-    omega (arith, few)
+cast-put-count c = omega (arith, few (c .before .before .before .before .before .before))
 
 put-count-requires : tie.Need-put-count-requires
 put-count-requires c κs =
-    let q = c .before .before .before .before .before .before .before .before .before .before .before in
-    let f = q .before .before .before .before .before .args .file .now in
-    let r = q .read-order .result in
-    let e = q .read-order .ensures .0 in
-    let ok = c .before .before .before .before .before .before .before .before .before .enum-told .given .1 in
-    let o = orderOf (r .order) in
-    let k = c .before .before .before .before .before .before .classes-of in
-    let few = few-listed o (accepted-iff o .0 (subst Accepted (sym (order-is f r e ok)) (order-accepted f r e ok)) .few-processors)
-    (k .result) (k .ensures) in
-    (omega (arith, few), q .before .before .if1 .left)
+    let k = c .before .before .before .before .before .before in
+    (omega (arith, few k), k .before .before .before .before .before .before .before .if1 .left)
 
 same-length : tie.Need-same-length
 same-length c = search needs

@@ -5,7 +5,7 @@ use borrow.Author.Needs.{needs}
 use lib.ListN.{getD}
 use Rattle.sums.specs.Lists.{tabulate}
 use Rattle.sums.specs.Places.{length-tabulate, tabulate-more}
-use Rattle.order.specs.Order.{memoryOf, processorCount}
+use Rattle.order.specs.Order.{Numbers, memoryOf, processorCount}
 use Rattle.order.specs.Sorted.{processorOrder}
 use Rattle.order.specs.StructLaws.{processor-count}
 use Rattle.order.specs.Table.{orderOf}
@@ -43,25 +43,23 @@ mul-with-processor c = search needs
 array-read-with-processor : tie.Need-array-read-with-processor Inv-loop μ-loop
 array-read-with-processor c = search needs
 
+-- the next number of the sorted list is a processor's
+numbered : (c : tie.In-loop Inv-loop μ-loop) →
+    Numbers (c .before .before .args .t1 .processors) (getD (c .before .before .args .t2) (c .before .loop .k) 0)
+numbered c =
+    let s = c .before .before in next-number (s .args .t1) (s .pre .0) (s .args .t2) (s .pre .1) (c .before .loop .k) (omega arith)
+
 sub-with-processor : tie.Need-sub-with-processor Inv-loop μ-loop
-sub-with-processor c =
-    let s = c .before .before in
-    omega (arith, next-number (s .args .t1) (s .pre .0) (s .args .t2) (s .pre .1) (c .before .loop .k) (omega arith))
+sub-with-processor c = omega (arith, numbered c)
 
 cast-with-processor : tie.Need-cast-with-processor Inv-loop μ-loop
-cast-with-processor c =
-    let s = c .before .before in
-    omega (arith, next-number (s .args .t1) (s .pre .0) (s .args .t2) (s .pre .1) (c .before .loop .k) (omega arith))
+cast-with-processor c = omega (arith, numbered c)
 
 mul-with-processor-2 : tie.Need-mul-with-processor-2 Inv-loop μ-loop
-mul-with-processor-2 c =
-    let s = c .before .before in
-    omega (arith, next-number (s .args .t1) (s .pre .0) (s .args .t2) (s .pre .1) (c .before .loop .k) (omega arith))
+mul-with-processor-2 c = omega (arith, numbered c, c .before .before .pre .0)
 
 element-copy-out-with-processor : tie.Need-element-copy-out-with-processor Inv-loop μ-loop
-element-copy-out-with-processor c =
-    let s = c .before .before in
-    omega (arith, next-number (s .args .t1) (s .pre .0) (s .args .t2) (s .pre .1) (c .before .loop .k) (omega arith))
+element-copy-out-with-processor c = omega (arith, numbered c, c .before .before .pre .0)
 
 with-processor-requires : tie.Need-with-processor-requires Inv-loop μ-loop
 with-processor-requires c κs =
