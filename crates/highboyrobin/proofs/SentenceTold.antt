@@ -1,22 +1,16 @@
 -- What hbr_sentence and hbr_parse leave behind, by the table's verdict and by what composing and reading back answer.
-use Prim.Native.Nat.{ℕ, _+_, _*_, _≤_, _<_}
+use Prim.Native.Nat.{ℕ, _+_, _*_, _≤_}
 use mathlib.Core.Path.{_≡_, refl, sym, ap, _∙_, subst}
 use mathlib.Core.List.{List, [], _∷_, _++_}
-use borrow.Author.Tests.{lt-ltb, le-ltb}
 use lib.IntN.{ℤ, pos}
 use lib.ListN.{length, drop}
 use Rattle.order.specs.Order.{Order}
-use Rattle.order.specs.Refusals.{limits, TableRow, Verdict, accepted, refused, judge, answerBy, orderRows, boundRow, roomRow, fileRow}
-use Rattle.order.specs.RefusalLaws.{judge-clear}
+use Rattle.order.specs.Refusals.{limits, Verdict, accepted, refused, judge, answerBy, orderRows, boundRow, roomRow}
 use Rattle.order.specs.Table.{refusalTold, acceptanceTold}
 use Rattle.order.specs.TableLaws.{refused-told, verdict-refused, verdict-accepted}
 use Rattle.order.specs.declared.Acceptance.{Acceptance}
 use Rattle.order.specs.declared.Acceptance.the-variants.{Accepted as Accepts, Refused as Refuses}
 use Rattle.order.specs.declared.Refusal.{Refusal}
-use Rattle.order_file.specs.File.{goodFile, orderIn, readRows}
-use Rattle.order_file.specs.ReaderLaws.{file-refused, file-read}
-use Rattle.order_file.specs.Told.{readTold}
-use Rattle.order_file.specs.declared.OrderRead.{OrderRead}
 use Rattle.reason.specs.Told.{whyOf}
 use Rattle.reason.specs.declared.Why.{Why}
 use Rattle.sentence.specs.Handed.{handed}
@@ -24,8 +18,7 @@ use Rattle.sentence.specs.Line.{composed, readBack}
 use Rattle.sentence.specs.Told.{composeRows, composedTold, lengthTold, lineBy, readRows as lineRows, recoveredBy}
 use Rattle.sentence.specs.declared.Composed.{Composed}
 use Rattle.sentence.specs.declared.Composed.the-variants.{Length, Refused}
-use Rattle.highboyrobin.specs.Calls.{whyFrom, sentenceCall}
-use Rattle.highboyrobin.specs.Results.{resultOf, answeredBy, answerRow, shortReasonRow}
+use Rattle.highboyrobin.specs.Results.{resultOf, answeredBy}
 
 -- what hbr_sentence leaves behind
 module _ (v : Verdict) (text line : List ℕ) (answer : List ℤ) where
@@ -48,38 +41,11 @@ module _ (v : Verdict) (text line : List ℕ) (answer : List ℤ) where
       (answer′ : List ℤ) → answer′ ≡ pos n ∷ drop 1 answer → SentenceEnded 0 line′ answer′
   sentence-done e n size line′ l answer′ a = rw e (refl, (l, a ∙ ap (λ (k : ℕ). pos k ∷ drop 1 answer) size))
 
--- how hbr_sentence comes to its verdict
-module _ (f : List ℕ) (bound : ℤ) (numbers : List ℤ) (lent answer : ℕ) where
-  pub answer-short : answer < 1 → judge (sentenceCall f bound numbers lent answer) ≡ refused 255 0
-  unfolding judge sentenceCall
-  answer-short h = rw (lt-ltb answer 1 h)
-
-  module _ (room : 1 ≤ answer) where
-    pub reason-short : length numbers < 19 → judge (sentenceCall f bound numbers lent answer) ≡ refused 253 0
-    unfolding judge sentenceCall
-    reason-short h = rw (le-ltb answer 1 room, lt-ltb (length numbers) 19 h)
-
-    module _ (whole : 19 ≤ length numbers) (r : OrderRead) (e : readTold r ≡ answerBy (judge (readRows f)) (orderIn f)) where
-      abbrev rows : List TableRow
-      rows = composeRows (orderIn f) bound (whyFrom numbers) lent
-
-      first-clear : judge (sentenceCall f bound numbers lent answer) ≡ judge (fileRow (goodFile f) ∷ rows)
-      unfolding sentenceCall
-      first-clear =
-          judge-clear (answerRow answer 1 ∷ shortReasonRow (length numbers) ∷ []) (fileRow (goodFile f) ∷ rows)
-          (rw (le-ltb answer 1 room) refl, (rw (le-ltb (length numbers) 19 whole) refl, tt))
-
-      pub sentence-unread : (why : Refusal) → r .status ≡ Refuses why →
-          judge (sentenceCall f bound numbers lent answer) ≡ refusalTold why
-      unfolding composeRows
-      sentence-unread why is =
-          first-clear
-          ∙ file-refused f r e rows
-          (boundRow bound ∷ roomRow lent (length (composed (orderIn f) bound
-          (handed (orderIn f) (whyFrom numbers)))) ∷ []) refl why is
-
-      pub sentence-read : r .status ≡ Accepts → judge (sentenceCall f bound numbers lent answer) ≡ judge rows
-      sentence-read is = first-clear ∙ file-read f r e rows is
+-- its table begins with the order's rows
+pub compose-begins : (o : Order) (bound : ℤ) (why : Why) (lent : ℕ) →
+    composeRows o bound why lent ≡ orderRows limits o ++ (boundRow bound ∷ roomRow lent (length (composed o bound (handed o why))) ∷ [])
+unfolding composeRows
+compose-begins o bound why lent = refl
 
 -- what composing answers, for the order that was read and the bound as the machine reads it back
 abbrev pub ComposeTold : Order → ℤ → Why → List ℕ → List ℕ → Composed → Type 0

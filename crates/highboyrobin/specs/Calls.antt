@@ -8,9 +8,9 @@ use lib.IntN.{ℤ, pos, negsuc}
 use lib.ListN.{length, getD, drop}
 use Rattle.sums.specs.Lists.{tabulate}
 use Rattle.order.specs.Order.{Order, processorCount, jobCount, jobOf}
-use Rattle.order.specs.Refusals.{limits, TableRow, Verdict, accepted, refused, judge, orderRows, boundRow, fileRow}
+use Rattle.order.specs.Refusals.{limits, TableRow, Verdict, accepted, refused, judge, orderRows, boundRow}
 use Rattle.order_file.specs.Bytes.{signed}
-use Rattle.order_file.specs.File.{goodFile, orderIn, writeRows}
+use Rattle.order_file.specs.File.{orderIn, writeRows}
 use Rattle.plan.specs.Check.{isRight, checkRows}
 use Rattle.profile.specs.Reason.{Reason, overEnd, stairs}
 use Rattle.profile.specs.Search.{Found, nothing, found, reasonOf}
@@ -25,7 +25,7 @@ use Rattle.sentence.specs.Line.{composed, readBack}
 use Rattle.sentence.specs.Told.{composeRows, readRows}
 use Rattle.planner.specs.Rows.{rowsAsked, leastRows, planRows}
 use Rattle.planner.specs.Written.{Written}
-use Rattle.highboyrobin.specs.Results.{fileCall, answerRow, answeredBy, partJobRow, shortReasonRow}
+use Rattle.highboyrobin.specs.Results.{fileCall, listCall, answerRow, answeredBy, partJobRow}
 
 -- hbr_judge: the processors, the jobs, and the rows to be lent
 abbrev pub judgeCall : List ℕ → ℕ → List TableRow
@@ -83,12 +83,10 @@ whyFrom numbers = record {
 abbrev pub lineFrom : List ℕ → ℤ → List ℤ → List ℕ
 lineFrom file bound numbers = composed (orderIn file) bound (handed (orderIn file) (whyFrom numbers))
 
-unfoldable pub sentenceCall : List ℕ → ℤ → List ℤ → ℕ → ℕ → List TableRow
+-- its reason has as many numbers as hbr_reason answers
+abbrev pub sentenceCall : List ℕ → ℤ → List ℤ → ℕ → ℕ → List TableRow
 sentenceCall file bound numbers lent answer =
-    answerRow answer 1
-    ∷ shortReasonRow (length numbers)
-    ∷ fileRow (goodFile file)
-    ∷ composeRows (orderIn file) bound (whyFrom numbers) lent
+    listCall answer 1 (length numbers) 19 file (composeRows (orderIn file) bound (whyFrom numbers) lent)
 
 -- hbr_parse: the reason of a line, or none, in the numbers of hbr_reason
 abbrev pub parseCall : List ℕ → ℤ → ℕ → List TableRow

@@ -1,22 +1,22 @@
--- What hbr_classes tells, where it succeeds: at its places the list has each class's memory and processors, the memories fall, all
--- processors are counted, and hbr_reason speaks of no class that is not among them.
+-- What hbr_classes tells, where it succeeds: at its places the list has each class's memory and how many processors have it, the memories
+-- fall, all processors are counted, and hbr_reason speaks of no class that is not among them.
 use Prim.Native.Nat.{ℕ, zero, suc, _+_, _*_, _≤_, _<_}
 use mathlib.Core.Path.{_≡_, refl, sym, ap, _∙_}
 use mathlib.Core.List.{List, [], _∷_, _++_, append-assoc}
 use native.Mathlib.Decide.{decLt}
 use native.Mathlib.Omega.{arith}
 use borrow.Author.Tests.{le-leb}
-use lib.Dec.{leb}
+use lib.Dec.{eqb, leb}
 use lib.IntN.{ℤ}
 use lib.ListN.{length, getD, drop, length-append}
 use lib.Seq.{getD-at}
-use Rattle.sums.specs.Lists.{only}
+use Rattle.sums.specs.Lists.{only, total}
 use Rattle.sums.specs.Members.{in-All}
 use Rattle.sums.specs.Sum.{sum, sum-cong}
 use Rattle.sums.specs.Totals.{total-cong, total-ones}
 use Rattle.order.specs.Order.{Order, processorCount}
 use Rattle.order.specs.Class.{classFor, memoryOfClass, processorsIn, processorsTo}
-use Rattle.order.specs.ClassLaws.{classes-fall, class-of-processor, processorsTo-is}
+use Rattle.order.specs.ClassLaws.{classes-fall, class-of-processor, processorsIn-is, processorsTo-is}
 use Rattle.order.specs.Refusals.{accepted, judge}
 use Rattle.order_file.specs.File.{orderIn}
 use Rattle.profile.specs.Reason.{stairs}
@@ -63,6 +63,13 @@ module _ (file list : List ℕ) (answer : List ℤ) (e : judge (classesCall file
   pub class-told : (k : ℕ) → k < classCount o →
       (getD told (2 * k) 0 ≡ memoryOfClass o (suc k)) × (getD told (2 * k + 1) 0 ≡ processorsIn o (suc k))
   class-told k l = rw e (pair-at _ _ (classCount o) k (drop (length (classPairs o)) list) l)
+
+  -- each class has as many processors as have its memory
+  pub processors-have : (k : ℕ) → k < classCount o →
+      getD told (2 * k + 1) 0 ≡ total (o .memories) (λ m. only (eqb m (getD told (2 * k) 0)) 1)
+  processors-have k l =
+      class-told k l .1 ∙ processorsIn-is o k l
+      ∙ ap (λ (x : ℕ). total (o .memories) (λ m. only (eqb m x) 1)) (sym (class-told k l .0))
 
   pub memories-fall : (i k : ℕ) → i < k → k < classCount o → getD told (2 * k) 0 < getD told (2 * i) 0
   unfolding memoryOfClass

@@ -4,7 +4,7 @@ use mathlib.Core.Bool.{not}
 use mathlib.Core.List.{List, _∷_, _++_}
 use lib.Dec.{ltb, eqb}
 use lib.ListN.{length, drop}
-use Rattle.order.specs.Refusals.{mostMakers, TableRow, Verdict, accepted, refused, row, whole, fileRow}
+use Rattle.order.specs.Refusals.{TableRow, Verdict, accepted, refused, row, whole, fileRow}
 use Rattle.order.specs.Table.{numberBy, carriedBy}
 use Rattle.order_file.specs.File.{goodFile}
 
@@ -27,13 +27,6 @@ partJobRow numbers = row 254 (whole (not (eqb (numbers % 4) 0)))
 
 abbrev pub shortListRow : ℕ → ℕ → TableRow
 shortListRow numbers asked = row 253 (whole (ltb numbers asked))
-
--- of a reason, as many as hbr_reason answers; of a book, as many as there are makers
-abbrev pub shortReasonRow : ℕ → TableRow
-shortReasonRow numbers = shortListRow numbers 19
-
-abbrev pub shortBookRow : ℕ → TableRow
-shortBookRow numbers = shortListRow numbers mostMakers
 
 -- the table of a call that takes a file: the answer's room, 12, then the rows of the entry point
 unfoldable pub fileCall : ℕ → ℕ → List ℕ → List TableRow → List TableRow

@@ -1,10 +1,10 @@
 -- Classes as facts: a job fits a processor exactly if the processor's class is not beyond the job's; the processors of a
 -- class are those with its memory; a need of 0 belongs to the last class.
 use Prim.Native.Nat.{ℕ, zero, suc, _≤_, _<_}
-use mathlib.Core.Path.{_≡_, refl, ap, _∙_}
+use mathlib.Core.Path.{_≡_, refl, sym, ap, _∙_}
 use mathlib.Core.Bool.{Bool, true, false, cond}
 use mathlib.Core.List.{List, [], _∷_}
-use mathlib.Core.Logic.{_↔_}
+use mathlib.Core.Logic.{_↔_, _≢_}
 use native.Mathlib.Omega.{arith}
 use native.Mathlib.Nat.{le-of-suc-le-suc}
 use native.Mathlib.Decide.{decLe, decLt}
@@ -16,7 +16,7 @@ use native.Mathlib.Decide.{ℕ-discrete}
 use Rattle.sums.specs.Lists.{In, total, only, nth}
 use Rattle.sums.specs.Members.{in-All, in-at, at-in}
 use Rattle.sums.specs.Pairs.{Pairwise-at}
-use Rattle.sums.specs.Totals.{only-le, total-cong, total-ge, total-most, sum-total}
+use Rattle.sums.specs.Totals.{only-le, total-cong, total-ge, total-most, total-none, sum-total}
 use Rattle.order.specs.Order.{Order, processorCount}
 use Rattle.order.specs.SortedLaws.{ltb-strict, distinct-falls, in-distinct, distinct-in, distinct-length}
 use Rattle.order.specs.Class.{classes, lastThatSuffices, classFor, memoryOfClass, processorsIn, processorsTo}
@@ -176,29 +176,59 @@ processorsTo-is o k =
     ∙ total-cong (o .memories) _ _ (in-All _ (o .memories) (λ m i. only-class (classFor o m) k (class-of-processor o m i .0)))
 
 module _ (o : Order) where
+  -- no two classes have one memory
+  classes-apart : (i k : ℕ) → i < length (classes o) → k < length (classes o) → getD (classes o) i 0 ≡ getD (classes o) k 0 → i ≡ k
+  classes-apart i k m l e =
+      elim (decLt i k) [
+        | yes h ↦ absurd (omega (arith, classes-fall o i k h l))
+        | no h ↦
+            elim (decLt k i) [
+              | yes g ↦ absurd (omega (arith, classes-fall o k i g m))
+              | no g ↦ omega arith
+            ]
+      ]
+
   -- each class has a processor
   pub processorsIn-some : (k : ℕ) → k < length (classes o) → 1 ≤ processorsIn o (suc k)
   unfolding processorsIn
   processorsIn-some k l =
       let i = class-in-memories o (getD (classes o) k 0) (at-in (classes o) 0 k l) in
       let c = class-of-memory o (getD (classes o) k 0) i in
-      let e : classFor o (getD (classes o) k 0) ≡ suc k = omega (arith, c .2, same (c .0) (c .1) (c .3)) in
+      let e : classFor o (getD (classes o) k 0) ≡ suc k = omega (arith, c .2, classes-apart (c .0) k (c .1) l (c .3)) in
       omega (
         arith,
         total-ge (o .memories) (λ m. only (eqb (classFor o m) (suc k)) 1) (getD (classes o) k 0) i,
         ap (λ b. only b 1) (eq-eqb _ _ e),
       )
+
+  -- the processors of a class are those that have its memory
+  pub processorsIn-is : (k : ℕ) → k < length (classes o) →
+      processorsIn o (suc k) ≡ total (o .memories) (λ m. only (eqb m (memoryOfClass o (suc k))) 1)
+  unfolding memoryOfClass processorsIn
+  processorsIn-is k l =
+      total-cong (o .memories) (λ m. only (eqb (classFor o m) (suc k)) 1) (λ m. only (eqb m (getD (classes o) k 0)) 1)
+      (in-All _ (o .memories) has)
     where
-      same : (n : ℕ) → n < length (classes o) → getD (classes o) n 0 ≡ getD (classes o) k 0 → n ≡ k
-      same n m e =
-          elim (decLt n k) [
-            | yes h ↦ absurd (omega (arith, classes-fall o n k h l))
-            | no h ↦
-                elim (decLt k n) [
-                  | yes g ↦ absurd (omega (arith, classes-fall o k n g m))
-                  | no g ↦ omega arith
-                ]
+      has : (m : ℕ) → In m (o .memories) → only (eqb (classFor o m) (suc k)) 1 ≡ only (eqb m (getD (classes o) k 0)) 1
+      has m i =
+          let c = class-of-memory o m i in
+          elim (ℕ-discrete m (getD (classes o) k 0)) [
+            | yes e ↦
+                let same : classFor o m ≡ suc k = omega (arith, c .2, classes-apart (c .0) k (c .1) l (c .3 ∙ e)) in
+                rw (eq-eqb (classFor o m) (suc k) same, eq-eqb m (getD (classes o) k 0) e) refl
+            | no ne ↦
+                let other : classFor o m ≢ suc k
+                = λ e. let same : c .0 ≡ k = omega (arith, c .2) in ne (sym (c .3) ∙ ap (λ (j : ℕ). getD (classes o) j 0) same) in
+                rw (ne-eqb (classFor o m) (suc k) other, ne-eqb m (getD (classes o) k 0) ne) refl
           ]
+
+  -- none is beyond the last class
+  pub processorsIn-none : processorsIn o (suc (length (classes o))) ≡ 0
+  unfolding processorsIn
+  processorsIn-none =
+      total-none (o .memories) _
+      (in-All _ (o .memories) (λ m i. ap (λ (b : Bool). only b 1)
+      (ne-eqb (classFor o m) (suc (length (classes o))) (λ e. omega (arith, class-of-processor o m i .1)))))
 
   pub processorsTo-some : (k : ℕ) → k < length (classes o) → 1 ≤ processorsTo o (suc k)
   unfolding processorsTo sum
@@ -218,6 +248,11 @@ module _ (o : Order) where
             (in-All _ (o .memories) (λ m i. only-le (leb (classFor o m) k) 1)),
       )
 
-  pub processorsIn-few : (k : ℕ) → processorsIn o (suc k) ≤ processorCount o
-  unfolding processorsTo sum
-  processorsIn-few k = omega (arith, processorsTo-few (suc k))
+  pub processorsIn-few : (k : ℕ) → processorsIn o k ≤ processorCount o
+  unfolding processorsIn
+  processorsIn-few k =
+      omega (
+        arith,
+        total-most (o .memories) (λ m. only (eqb (classFor o m) k) 1) 1
+            (in-All _ (o .memories) (λ m i. only-le (eqb (classFor o m) k) 1)),
+      )

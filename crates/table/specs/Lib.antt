@@ -3,7 +3,7 @@ pub mod Tabled
 pub mod SameMembers
 pub mod FallingLaws
 pub mod Passed
-pub mod Listings
+pub mod OneMoreLaws
 pub mod PassedLaws
 pub mod ClassRows
 pub mod GridLaws

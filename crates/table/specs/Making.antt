@@ -94,7 +94,7 @@ module _ (o : Order) (t : Table) (m : Tabled lastDue o t) where
           lead-most (jobOf o (suc j) .due) (All-at _ (o .jobs) noJob (dues-in-range o a) j (at l)),
         );
         grid = grid-small o a _ (m .grid);
-        procs = λ i l. omega (arith, m .procs i l, processorsIn-few o i, a .few-processors);
+        procs = λ i l. omega (arith, m .procs i l, processorsIn-few o (suc i), a .few-processors);
         some-proc = λ i l. omega (
           arith,
           m .procs i (omega (arith, m .few-classes)),

@@ -6,15 +6,13 @@ use Rattle.order.specs.Table.{orderOf}
 use Rattle.order_file.specs.File.{orderIn}
 use Rattle.order_file.specs.ReaderLaws.{reader-refused, order-is}
 use Rattle.highboyrobin.specs.Calls.{whyFrom}
+use Rattle.highboyrobin.proofs.Calling.{list-few, list-read, list-refused, list-short}
 use Rattle.highboyrobin.proofs.Carried.{carried-few, read-carries, compose-carries}
 use Rattle.highboyrobin.proofs.SentenceTold.{
   sentence-refused,
   sentence-told,
   sentence-done,
-  answer-short,
-  reason-short,
-  sentence-unread,
-  sentence-read,
+  compose-begins,
   compose-moved,
   compose-refused,
   compose-wrote,
@@ -34,16 +32,14 @@ use Rattle.sentence.proofs.compose.compose.Reads as compose-reads
 returns : tie.Need-returns
 returns c =
     let s = c .before .before .before .args in
-    sentence-refused _ _ _ _ 255 0 (answer-short (s .file .now) (s .bound) (s .reason .now) (length (s .line .now))
-    (length (s .answer .now))
-    (c .if1 .taken)) _ refl
+    sentence-refused _ _ _ _ 255 0
+    (list-short (s .file .now) (length (s .answer .now)) 1 (length (s .reason .now)) 19 _ (c .if1 .taken)) _ refl
 
 returns-2 : tie.Need-returns-2
 returns-2 c =
     let s = c .before .before .before .before .args in
-    sentence-refused _ _ _ _ 253 0 (reason-short (s .file .now) (s .bound) (s .reason .now) (length (s .line .now))
-    (length (s .answer .now))
-    (c .before .if1 .left) (c .if2 .taken)) _ refl
+    sentence-refused _ _ _ _ 253 0
+    (list-few (s .file .now) (length (s .answer .now)) 1 (length (s .reason .now)) 19 (c .before .if1 .left) _ (c .if2 .taken)) _ refl
 
 read-order-requires : tie.Need-read-order-requires
 read-order-requires c κs = search needs
@@ -66,9 +62,10 @@ returns-3 c =
     let r = c .before .before .before .before .read-order .result in
     let e = c .before .before .before .before .read-order .ensures .0 in
     sentence-told _ _ _ _ (c .before .before .status .given .0 .0)
-    (sentence-unread f (s .bound) (s .reason .now) (length (s .line .now)) (length (s .answer .now))
+    (list-refused f (length (s .answer .now)) 1 (length (s .reason .now)) 19
     (c .before .before .before .before .before .before .if1 .left) (c .before .before .before .before .before .if2 .left)
-    r e _ (c .before .before .status .given .1)) _ (c .result-of .ensures) _ refl
+    r e _ _ (compose-begins (orderIn f) (s .bound) (whyFrom (s .reason .now)) (length (s .line .now))) _
+    (c .before .before .status .given .1)) _ (c .result-of .ensures) _ refl
 
 enum-told : tie.Need-enum-told
 enum-told c = search needs
@@ -150,10 +147,10 @@ returns-4 c =
     let h = compose-refused (orderIn f) (s .bound) w (s .line .now) _ (q .result) t (c .before .before .composed .given .0 .0)
     (c .before .before .composed .given .1) in
     sentence-told _ _ _ _ (c .before .before .composed .given .0 .0)
-    (sentence-read f (s .bound) (s .reason .now) (length (s .line .now)) (length (s .answer .now))
+    (list-read f (length (s .answer .now)) 1 (length (s .reason .now)) 19
     (c .before .before .before .before .before .before .before .before .before .before .before .before .before .if1 .left)
     (c .before .before .before .before .before .before .before .before .before .before .before .before .if2 .left)
-    r e ok ∙ h .0) _ (c .result-of2 .ensures) _ (h .1)
+    r e _ ok ∙ h .0) _ (c .result-of2 .ensures) _ (h .1)
 
 same-length-2 : tie.Need-same-length-2
 same-length-2 c = search needs
@@ -182,11 +179,11 @@ returns-5 c =
     let h = compose-wrote (orderIn f) (s .bound) w (s .line .now) _ (q .result) t
     (c .before .before .before .before .composed2 .given .0 .0) (c .before .before .before .before .composed2 .given .1) in
     sentence-done _ _ _ _
-    (sentence-read f (s .bound) (s .reason .now) (length (s .line .now)) (length (s .answer .now))
+    (list-read f (length (s .answer .now)) 1 (length (s .reason .now)) 19
     (c .before .before .before .before .before .before .before .before .before .before .before .before .before .before
     .before .if1 .left) (c .before .before .before .before .before .before .before .before .before .before .before .before
     .before .before .if2 .left)
-    r e ok ∙ h .0) _ (h .1) _ (h .2) _ (c .before .put-count .ensures)
+    r e _ ok ∙ h .0) _ (h .1) _ (h .2) _ (c .before .put-count .ensures)
 
 pub hbr-sentence-spec : {M : Type 1} → statement M
 hbr-sentence-spec =

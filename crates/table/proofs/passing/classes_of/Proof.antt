@@ -10,7 +10,7 @@ use Rattle.order.specs.Sorted.{processorOrder}
 use Rattle.order.specs.StructLaws.{processor-count}
 use Rattle.order.specs.Table.{orderOf}
 use Rattle.order.specs.declared.Order.{Order}
-use Rattle.table.specs.Listings.{last-small}
+use Rattle.table.specs.OneMoreLaws.{last-small}
 use Rattle.table.specs.Passed.{listing, processorsOf, passed, lastClass, withClass}
 use Rattle.table.specs.PassedLaws.{none-passed, passed-least, all-passed, next-number, next-memory}
 use Rattle.table.specs.declared.Listing.{Listing}

@@ -1,5 +1,5 @@
 use borrow.Author.Needs.{needs}
-use Rattle.table.specs.Listings.{one-more, class-more}
+use Rattle.table.specs.OneMoreLaws.{one-more, class-more}
 use native.Mathlib.Omega.{arith}
 use Rattle.table.proofs.passing.with_processor.Statement.{statement}
 use Rattle.table.proofs.passing.with_processor.Tie as tie

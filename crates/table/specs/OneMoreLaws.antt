@@ -1,4 +1,5 @@
--- The listing of classes while processors are passed: the class of the next one, and what it adds.
+-- One processor more, of no more memory than those passed: one more of the last class, or one class more, and so the listing of them and
+-- this one.
 use Prim.Native.Nat.{ℕ, zero, suc, _+_, _-_, _≤_, _<_}
 use mathlib.Core.Path.{_≡_, refl, sym, ap, _∙_, subst}
 use mathlib.Core.Bool.{Bool}
@@ -13,10 +14,17 @@ use lib.Seq.{getD-at}
 use Rattle.sums.specs.Lists.{All, In, only}
 use Rattle.sums.specs.Members.{All-map, All-in, in-All, in-at, at-in, in-append}
 use Rattle.sums.specs.Places.{set-tabulate}
-use Rattle.sums.specs.Totals.{only-le, total-append, total-cong, total-most, total-none}
-use Rattle.order.specs.Order.{Order, processorCount}
+use Rattle.sums.specs.Totals.{total-append, total-cong}
+use Rattle.order.specs.Order.{Order}
 use Rattle.order.specs.Class.{classes, lastThatSuffices, classFor, memoryOfClass, processorsIn}
-use Rattle.order.specs.ClassLaws.{classes-fall, memory-in-classes, class-in-memories, class-of-processor, classes-few}
+use Rattle.order.specs.ClassLaws.{
+  classes-fall,
+  memory-in-classes,
+  class-in-memories,
+  classes-few,
+  processorsIn-few,
+  processorsIn-none,
+}
 use Rattle.table.specs.FallingLaws.{distinct-behind, distinct-met}
 use Rattle.table.specs.Passed.{listing, processorsOf, lastClass, withClass, OneMore}
 use Rattle.table.specs.declared.LastClass.{LastClass}
@@ -50,28 +58,11 @@ unfolding memoryOfClass
 memory-at o zero l = absurd (omega arith)
 memory-at o (suc k) l = ap (λ (i : ℕ). getD (classes o) i 0) (omega arith)
 
--- no processor is beyond the last class, and no more are in one than there are
-none-beyond : (o : Order) → processorsIn o (suc (length (classes o))) ≡ 0
-unfolding processorsIn
-none-beyond o =
-    total-none (o .memories) _
-    (in-All _ (o .memories) (λ m i. ap (λ (b : Bool). only b 1)
-    (ne-eqb (classFor o m) (suc (length (classes o))) (λ e. omega (arith, class-of-processor o m i .1)))))
-
-few-in : (o : Order) (k : ℕ) → processorsIn o k ≤ processorCount o
-unfolding processorsIn
-few-in o k =
-    omega (
-      arith,
-      total-most (o .memories) (λ m. only (eqb (classFor o m) k) 1) 1
-          (in-All _ (o .memories) (λ m _. only-le (eqb (classFor o m) k) 1)),
-    )
-
 -- fewer than sixteen processors passed have fewer classes, and fewer in the last
 pub last-small : (ms : List ℕ) → length ms < 16 →
     (lastClass (processorsOf ms) .number < 16) × (lastClass (processorsOf ms) .procs < 16)
 last-small ms few =
-    (omega (arith, classes-few (processorsOf ms)), omega (arith, few-in (processorsOf ms) (length (classes (processorsOf ms)))))
+    (omega (arith, classes-few (processorsOf ms)), omega (arith, processorsIn-few (processorsOf ms) (length (classes (processorsOf ms)))))
 
 module _ (ms : List ℕ) (x : ℕ) (least : All (λ m. x ≤ m) ms) where
   abbrev before : Order
@@ -207,7 +198,7 @@ class-more last memory class out is ms least e =
     joined ms memory least class 1
     (subst (Joins ms memory least) (sym class-is)
     (new-class ms memory least (λ i. out (subst (λ (c : LastClass). LastHas c memory) (sym e) (met-last ms memory least i)))))
-    (omega (arith, none-beyond (processorsOf ms), ap (processorsIn (processorsOf ms)) class-is))
+    (omega (arith, processorsIn-none (processorsOf ms), ap (processorsIn (processorsOf ms)) class-is))
   where
     class-is : class ≡ suc (length (classes (processorsOf ms)))
     class-is = is ∙ ap (λ (c : LastClass). suc (c .number)) e
