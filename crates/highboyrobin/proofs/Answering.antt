@@ -5,11 +5,11 @@ use mathlib.Core.List.{List, _++_}
 use lib.IntN.{ℤ}
 use lib.ListN.{length, drop, take-append-drop}
 use Rattle.order.specs.Order.{Order}
-use Rattle.order.specs.Refusals.{mostMakers, Verdict, accepted, refused}
+use Rattle.order.specs.Refusals.{mostMakers, Verdict, accepted, refused, leftBy}
 use Rattle.order.specs.Table.{refusalTold}
 use Rattle.order.specs.TableLaws.{refused-told}
 use Rattle.order.specs.declared.Refusal.{Refusal}
-use Rattle.highboyrobin.specs.Results.{resultOf, answeredBy}
+use Rattle.highboyrobin.specs.Results.{resultOf}
 use Rattle.book.specs.Book.{bookedBy}
 use Rattle.highboyrobin.specs.Calls.{PlanAnswered, PlanBy}
 use Rattle.highboyrobin.specs.BookCalls.{countsIn, bookLeft}
@@ -17,7 +17,7 @@ use Rattle.highboyrobin.specs.BookCalls.{countsIn, bookLeft}
 -- what a call leaves behind, by the verdict
 module _ (v : Verdict) (numbers entry : List ℤ) where
   abbrev pub Ended : ℕ → List ℤ → Type 0
-  Ended result exit = (result ≡ resultOf v) × (exit ≡ answeredBy v numbers entry)
+  Ended result exit = (result ≡ resultOf v) × (exit ≡ leftBy v numbers entry)
 
   pub ended-refused : (number job : ℕ) → v ≡ refused number job → Ended (number + 256 * job) entry
   ended-refused number job e = rw e (refl, refl)

@@ -11,7 +11,7 @@ use Rattle.sums.specs.Places.{getD-tabulate}
 use Rattle.order.specs.Order.{Order, processorCount}
 use Rattle.order.specs.Class.{classes, memoryOfClass, processorsIn}
 use Rattle.order.specs.ClassLaws.{classes-few}
-use Rattle.order.specs.Refusals.{Verdict, accepted, refused}
+use Rattle.order.specs.Refusals.{Verdict, accepted, refused, leftBy}
 use Rattle.order.specs.Table.{refusalTold}
 use Rattle.order.specs.TableLaws.{refused-told}
 use Rattle.order.specs.declared.Refusal.{Refusal}
@@ -19,7 +19,7 @@ use Rattle.table.specs.Passed.{listing}
 use Rattle.table.specs.declared.Listing.{Listing}
 use Rattle.highboyrobin.specs.ClassCalls.{pairsTo, classCount, classPairs}
 use Rattle.highboyrobin.specs.ClassCallLaws.{pairs-length}
-use Rattle.highboyrobin.specs.Results.{resultOf, answeredBy}
+use Rattle.highboyrobin.specs.Results.{resultOf}
 
 module _ (f g : ℕ → ℕ) where
   pub none-paired : (s : List ℕ) → s ≡ pairsTo f g 0 ++ drop (2 * 0) s
@@ -71,7 +71,7 @@ module _ (v : Verdict) (o : Order) (list : List ℕ) (entry : List ℤ) where
   abbrev pub ClassesEnded : ℕ → List ℕ → List ℤ → Type 0
   ClassesEnded result list′ exit =
       (result ≡ resultOf v)
-      × ((list′ ≡ answeredBy v (classPairs o) list) × (exit ≡ answeredBy v (pos (classCount o) ∷ []) entry))
+      × ((list′ ≡ leftBy v (classPairs o) list) × (exit ≡ leftBy v (pos (classCount o) ∷ []) entry))
 
   pub classes-refused : (number job : ℕ) → v ≡ refused number job → ClassesEnded (number + 256 * job) list entry
   classes-refused number job e = rw e (refl, (refl, refl))

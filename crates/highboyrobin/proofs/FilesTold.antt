@@ -10,7 +10,7 @@ use lib.IntN.{ℤ, pos}
 use lib.ListN.{length, drop}
 use Rattle.sums.specs.Places.{length-tabulate}
 use Rattle.order.specs.Order.{Order, processorCount, jobCount}
-use Rattle.order.specs.Refusals.{limits, Verdict, accepted, refused, judge, answerBy, roomRow, countRows, orderRows}
+use Rattle.order.specs.Refusals.{limits, Verdict, accepted, refused, judge, answerBy, leftBy, roomRow, countRows, orderRows}
 use Rattle.order.specs.RefusalLaws.{judge-accepted, counts-in-limits}
 use Rattle.order.specs.Table.{refusalTold}
 use Rattle.order.specs.declared.Refusal.{Refusal}
@@ -18,7 +18,7 @@ use Rattle.order_file.specs.File.{fileLength, writeRows, writtenBy, ReadBackBy}
 use Rattle.order_file.specs.Told.{writtenTold}
 use Rattle.order_file.specs.declared.OrderWritten.{OrderWritten}
 use Rattle.order_file.specs.declared.OrderWritten.the-variants.{Bytes, Refused}
-use Rattle.highboyrobin.specs.Results.{resultOf, answeredBy}
+use Rattle.highboyrobin.specs.Results.{resultOf}
 use Rattle.highboyrobin.specs.Calls.{orderFrom, writeCall}
 use Rattle.order.specs.TableLaws.{refused-told, verdict-refused, verdict-accepted}
 
@@ -27,7 +27,7 @@ module _ (v : Verdict) (o : Order) (file : List ℕ) (entry : List ℤ) where
   abbrev pub WriteEnded : ℕ → List ℕ → List ℤ → Type 0
   WriteEnded result file′ exit =
       (result ≡ resultOf v)
-      × ((file′ ≡ writtenBy v o file) × (ReadBackBy v o file′ × (exit ≡ answeredBy v (pos (fileLength o) ∷ []) entry)))
+      × ((file′ ≡ writtenBy v o file) × (ReadBackBy v o file′ × (exit ≡ leftBy v (pos (fileLength o) ∷ []) entry)))
 
   pub write-refused : (number job : ℕ) → v ≡ refused number job → (file′ : List ℕ) → file′ ≡ file →
       WriteEnded (number + 256 * job) file′ entry

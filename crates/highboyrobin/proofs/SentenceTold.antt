@@ -5,7 +5,7 @@ use mathlib.Core.List.{List, [], _∷_, _++_}
 use lib.IntN.{ℤ, pos}
 use lib.ListN.{length, drop}
 use Rattle.order.specs.Order.{Order}
-use Rattle.order.specs.Refusals.{limits, Verdict, accepted, refused, judge, answerBy, orderRows, boundRow, roomRow}
+use Rattle.order.specs.Refusals.{limits, Verdict, accepted, refused, judge, answerBy, leftBy, orderRows, boundRow, roomRow}
 use Rattle.order.specs.Table.{refusalTold, acceptanceTold}
 use Rattle.order.specs.TableLaws.{refused-told, verdict-refused, verdict-accepted}
 use Rattle.order.specs.declared.Acceptance.{Acceptance}
@@ -15,16 +15,16 @@ use Rattle.reason.specs.Told.{whyOf}
 use Rattle.reason.specs.declared.Why.{Why}
 use Rattle.sentence.specs.Handed.{handed}
 use Rattle.sentence.specs.Line.{composed, readBack}
-use Rattle.sentence.specs.Told.{composeRows, composedTold, lengthTold, lineBy, readRows as lineRows, recoveredBy}
+use Rattle.sentence.specs.Told.{composeRows, composedTold, lengthTold, readRows as lineRows, recoveredBy}
 use Rattle.sentence.specs.declared.Composed.{Composed}
 use Rattle.sentence.specs.declared.Composed.the-variants.{Length, Refused}
-use Rattle.highboyrobin.specs.Results.{resultOf, answeredBy}
+use Rattle.highboyrobin.specs.Results.{resultOf}
 
 -- what hbr_sentence leaves behind
 module _ (v : Verdict) (text line : List ℕ) (answer : List ℤ) where
   abbrev pub SentenceEnded : ℕ → List ℕ → List ℤ → Type 0
   SentenceEnded result line′ answer′ =
-      (result ≡ resultOf v) × ((line′ ≡ lineBy v text line) × (answer′ ≡ answeredBy v (pos (length text) ∷ []) answer))
+      (result ≡ resultOf v) × ((line′ ≡ leftBy v text line) × (answer′ ≡ leftBy v (pos (length text) ∷ []) answer))
 
   pub sentence-refused : (number job : ℕ) → v ≡ refused number job → (line′ : List ℕ) → line′ ≡ line →
       SentenceEnded (number + 256 * job) line′ answer
@@ -51,7 +51,7 @@ compose-begins o bound why lent = refl
 abbrev pub ComposeTold : Order → ℤ → Why → List ℕ → List ℕ → Composed → Type 0
 ComposeTold o bound why line line′ c =
     (composedTold c ≡ answerBy (judge (composeRows o bound why (length line))) (length (composed o bound (handed o why))))
-    × ((line′ ≡ lineBy (judge (composeRows o bound why (length line))) (composed o bound (handed o why)) line)
+    × ((line′ ≡ leftBy (judge (composeRows o bound why (length line))) (composed o bound (handed o why)) line)
     × (lengthTold c ≤ 598))
 
 pub compose-moved : (o o′ : Order) (read bound : ℤ) (why why′ : Why) (line line′ : List ℕ) (c : Composed) → o ≡ o′ → read ≡ bound →
@@ -68,7 +68,7 @@ module _ (o : Order) (bound : ℤ) (why : Why) (line line′ : List ℕ) (c : Co
   text = composed o bound (handed o why)
 
   kept : (number job : ℕ) → v ≡ refused number job → line′ ≡ line
-  kept number job e = t .1 .0 ∙ ap (λ (w : Verdict). lineBy w text line) e
+  kept number job e = t .1 .0 ∙ ap (λ (w : Verdict). leftBy w text line) e
 
   pub compose-refused : (r : Refusal) → c ≡ Refused r → (v ≡ refusalTold r) × (line′ ≡ line)
   compose-refused r e =
@@ -82,7 +82,7 @@ module _ (o : Order) (bound : ℤ) (why : Why) (line line′ : List ℕ) (c : Co
       let w = verdict-accepted v n (length text) (sym (ap composedTold e) ∙ t .0) in (
         w .0,
         w .1,
-        t .1 .0 ∙ ap (λ (x : Verdict). lineBy x text line) (w .0),
+        t .1 .0 ∙ ap (λ (x : Verdict). leftBy x text line) (w .0),
         subst (λ (x : Composed). lengthTold x ≤ 598) e
             (t .1 .1),
       )

@@ -8,7 +8,7 @@ use lib.IntN.{ℤ, pos, negsuc}
 use lib.ListN.{length, getD, drop}
 use Rattle.sums.specs.Lists.{tabulate}
 use Rattle.order.specs.Order.{Order, processorCount, jobCount, jobOf}
-use Rattle.order.specs.Refusals.{limits, TableRow, Verdict, accepted, refused, judge, orderRows, boundRow}
+use Rattle.order.specs.Refusals.{limits, TableRow, Verdict, accepted, refused, judge, leftBy, orderRows, boundRow}
 use Rattle.order_file.specs.Bytes.{signed}
 use Rattle.order_file.specs.File.{orderIn, writeRows}
 use Rattle.plan.specs.Check.{isRight, checkRows}
@@ -25,7 +25,7 @@ use Rattle.sentence.specs.Line.{composed, readBack}
 use Rattle.sentence.specs.Told.{composeRows, readRows}
 use Rattle.planner.specs.Rows.{rowsAsked, leastRows, planRows}
 use Rattle.planner.specs.Written.{Written}
-use Rattle.highboyrobin.specs.Results.{fileCall, listCall, answerRow, answeredBy, partJobRow}
+use Rattle.highboyrobin.specs.Results.{fileCall, listCall, answerRow, partJobRow}
 
 -- hbr_judge: the processors, the jobs, and the rows to be lent
 abbrev pub judgeCall : List ℕ → ℕ → List TableRow
@@ -64,7 +64,7 @@ reasonNumbers o (found (stairs dues)) = pos 2 ∷ pos (length dues) ∷ pos 0 �
 
 abbrev pub reasonAnswer : List ℕ → ℤ → List ℤ → List ℤ
 reasonAnswer file bound answer =
-    answeredBy (judge (reasonCall file bound (length answer))) (reasonNumbers (orderIn file) (reasonOf (orderIn file) bound)) answer
+    leftBy (judge (reasonCall file bound (length answer))) (reasonNumbers (orderIn file) (reasonOf (orderIn file) bound)) answer
 
 -- hbr_sentence: nineteen numbers as a reason is handed in, each kind with no number that is not its own; others tell none
 abbrev pub tightnessFrom : ℤ → ℤ → ℤ → Tightness
@@ -94,7 +94,7 @@ parseCall file bound lent = fileCall lent 19 file (readRows (orderIn file) bound
 
 abbrev pub parseAnswer : List ℕ → ℤ → List ℕ → List ℤ → List ℤ
 parseAnswer file bound line answer =
-    answeredBy (judge (parseCall file bound (length answer))) (reasonNumbers (orderIn file) (readBack (orderIn file) bound line)) answer
+    leftBy (judge (parseCall file bound (length answer))) (reasonNumbers (orderIn file) (readBack (orderIn file) bound line)) answer
 
 -- hbr_check: 1 for yes, 0 for no
 abbrev pub checkCall : List ℕ → ℤ → ℕ → ℕ → List TableRow
@@ -105,7 +105,7 @@ yesOrNo right = pos (cond right 1 0) ∷ []
 
 abbrev pub checkAnswer : List ℕ → ℤ → List ℕ → List ℤ → List ℤ
 checkAnswer file bound rows answer =
-    answeredBy (judge (checkCall file bound (length rows) (length answer))) (yesOrNo (isRight (orderIn file) bound rows)) answer
+    leftBy (judge (checkCall file bound (length rows) (length answer))) (yesOrNo (isRight (orderIn file) bound rows)) answer
 
 -- hbr_write: the order of two lists of numbers, four to a job: time, due time as two's complement, need, maker
 unfoldable pub orderFrom : List ℕ → List ℕ → Order

@@ -17,13 +17,12 @@ use Rattle.sums.specs.Totals.{total-cong, total-ones}
 use Rattle.order.specs.Order.{Order, processorCount}
 use Rattle.order.specs.Class.{classFor, memoryOfClass, processorsIn, processorsTo}
 use Rattle.order.specs.ClassLaws.{classes-fall, class-of-processor, processorsIn-is, processorsTo-is}
-use Rattle.order.specs.Refusals.{accepted, judge}
+use Rattle.order.specs.Refusals.{accepted, judge, leftBy}
 use Rattle.order_file.specs.File.{orderIn}
 use Rattle.profile.specs.Reason.{stairs}
 use Rattle.profile.specs.ReasonLaws.{reason-found}
 use Rattle.profile.specs.Search.{found, reasonOf}
 use Rattle.highboyrobin.specs.ClassCalls.{classesCall, pairsTo, classCount, classPairs}
-use Rattle.highboyrobin.specs.Results.{answeredBy}
 
 -- two numbers behind a list
 first-behind : (xs : List ℕ) (a b n : ℕ) (rest : List ℕ) → length xs ≡ n →
@@ -58,7 +57,7 @@ module _ (file list : List ℕ) (answer : List ℤ) (e : judge (classesCall file
 
   -- the list that is left
   abbrev pub told : List ℕ
-  told = answeredBy (judge (classesCall file (length list) (length answer))) (classPairs o) list
+  told = leftBy (judge (classesCall file (length list) (length answer))) (classPairs o) list
 
   pub class-told : (k : ℕ) → k < classCount o →
       (getD told (2 * k) 0 ≡ memoryOfClass o (suc k)) × (getD told (2 * k + 1) 0 ≡ processorsIn o (suc k))

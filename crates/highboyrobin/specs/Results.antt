@@ -1,21 +1,15 @@
--- What a call from C or Rust leaves behind: one number as its result, and a lent answer that is written on success only.
+-- What a call from C or Rust returns: one number as its result; and the rows that stand before the refusal table.
 use Prim.Native.Nat.{ℕ, _+_, _*_, _%_}
 use mathlib.Core.Bool.{not}
-use mathlib.Core.List.{List, _∷_, _++_}
+use mathlib.Core.List.{List, _∷_}
 use lib.Dec.{ltb, eqb}
-use lib.ListN.{length, drop}
-use Rattle.order.specs.Refusals.{TableRow, Verdict, accepted, refused, row, whole, fileRow}
+use Rattle.order.specs.Refusals.{TableRow, Verdict, row, whole, fileRow}
 use Rattle.order.specs.Table.{numberBy, carriedBy}
 use Rattle.order_file.specs.File.{goodFile}
 
 -- the result: 0 where the call succeeds, else the refusal's number and 256 times what it carries
 abbrev pub resultOf : Verdict → ℕ
 resultOf v = numberBy v + 256 * carriedBy v
-
--- a lent list at exit, the answer or another: these numbers and what stood beyond them; what it held where the call is refused
-abbrev pub answeredBy : {A : Type 0} → Verdict → List A → List A → List A
-answeredBy accepted numbers entry = numbers ++ drop (length numbers) entry
-answeredBy (refused number job) numbers entry = entry
 
 -- three rows that stand before document 01's table, with numbers that no paper gives: the answer is too short; the jobs' numbers are
 -- not four to a job; another lent list has fewer numbers than are asked for

@@ -9,7 +9,7 @@ use lib.IntN.{ℤ, pos}
 use lib.ListN.{length, getD, drop}
 use Rattle.sums.specs.Lists.{tabulate}
 use Rattle.order.specs.Order.{Order, processorCount, jobCount}
-use Rattle.order.specs.Refusals.{TableRow, Verdict, accepted, refused, judge, row, whole, fileRow}
+use Rattle.order.specs.Refusals.{TableRow, Verdict, accepted, refused, judge, leftBy, row, whole, fileRow}
 use Rattle.order.specs.Table.{orderOf}
 use Rattle.order_file.specs.File.{goodFile, orderIn}
 use Rattle.wrap.specs.FrameAt.{Times}
@@ -20,7 +20,7 @@ use Rattle.timed.specs.Times.{timesOf}
 use Rattle.timed.specs.Written.{TimedWritten}
 use Rattle.timed.specs.declared.Times.{Times as TimesTable}
 use Rattle.highboyrobin.specs.Calls.{yesOrNo}
-use Rattle.highboyrobin.specs.Results.{resultOf, answerRow, answeredBy}
+use Rattle.highboyrobin.specs.Results.{resultOf, answerRow}
 use Rattle.highboyrobin.specs.declared.TimedRead.{TimedRead}
 use Rattle.highboyrobin.specs.declared.TimedStatus.the-variants.{Refused, Read}
 
@@ -60,7 +60,7 @@ timedRowsCall file bound ready windows lent =
 
 abbrev pub timedRowsAnswer : (file : List ℕ) → ℤ → (ready windows : List ℕ) → List ℤ → List ℤ
 timedRowsAnswer file bound ready windows answer =
-    answeredBy (judge (timedRowsCall file bound ready windows (length answer)))
+    leftBy (judge (timedRowsCall file bound ready windows (length answer)))
     (pos (timedRowsAsked (orderIn file) bound (timesIn ready windows)) ∷ []) answer
 
 -- hbr_timed_plan
@@ -86,5 +86,5 @@ timedCheckCall file bound ready windows numbers lent =
 
 abbrev pub timedCheckAnswer : (file : List ℕ) → ℤ → (ready windows rows : List ℕ) → List ℤ → List ℤ
 timedCheckAnswer file bound ready windows rows answer =
-    answeredBy (judge (timedCheckCall file bound ready windows (length rows) (length answer)))
+    leftBy (judge (timedCheckCall file bound ready windows (length rows) (length answer)))
     (yesOrNo (isRightTimed (orderIn file) bound (timesIn ready windows) rows)) answer

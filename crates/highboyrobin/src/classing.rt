@@ -14,9 +14,9 @@ ghost use mathlib.Core.List.{[], _∷_, _++_};
 ghost use Prim.Native.Nat.{ℕ, _*_, _≤_};
 ghost use lib.IntN.{pos};
 ghost use lib.ListN.{length, getD, drop};
-ghost use Rattle.order.specs.Refusals.{judge};
+ghost use Rattle.order.specs.Refusals.{judge, leftBy};
 ghost use Rattle.order_file.specs.File.{orderIn};
-ghost use Rattle.highboyrobin.specs.Results.{resultOf, answeredBy};
+ghost use Rattle.highboyrobin.specs.Results.{resultOf};
 ghost use Rattle.highboyrobin.specs.ClassCalls.{classesCall, pairsTo, classCount, classPairs};
 
 // Two numbers to a class, in the first places.
@@ -38,9 +38,9 @@ fn put_classes(list: &mut [u32], found: Listing)
 pub extern "C" fn hbr_classes(file: &[u8], classes: &mut [u32], answer: &mut [i32]) -> u32
     ensures { λ r. ⌜ r ≡ resultOf (judge (classesCall (now (file .entry)) (length (now (classes .entry)))
         (length (now (answer .entry))))) ⌝ }
-    ensures { λ r. ⌜ now (classes .exit) ≡ answeredBy (judge (classesCall (now (file .entry)) (length (now (classes .entry)))
+    ensures { λ r. ⌜ now (classes .exit) ≡ leftBy (judge (classesCall (now (file .entry)) (length (now (classes .entry)))
         (length (now (answer .entry))))) (classPairs (orderIn (now (file .entry)))) (now (classes .entry)) ⌝ }
-    ensures { λ r. ⌜ now (answer .exit) ≡ answeredBy (judge (classesCall (now (file .entry)) (length (now (classes .entry)))
+    ensures { λ r. ⌜ now (answer .exit) ≡ leftBy (judge (classesCall (now (file .entry)) (length (now (classes .entry)))
         (length (now (answer .entry))))) (pos (classCount (orderIn (now (file .entry)))) ∷ []) (now (answer .entry)) ⌝ }
 {
     if answer.len() < 1 {

@@ -12,9 +12,8 @@ ghost use mathlib.Core.Path.{_≡_};
 ghost use mathlib.Core.List.{[], _∷_};
 ghost use lib.IntN.{pos};
 ghost use lib.ListN.{length};
-ghost use Rattle.order.specs.Refusals.{judge};
-ghost use Rattle.sentence.specs.Told.{lineBy};
-ghost use Rattle.highboyrobin.specs.Results.{resultOf, answeredBy};
+ghost use Rattle.order.specs.Refusals.{judge, leftBy};
+ghost use Rattle.highboyrobin.specs.Results.{resultOf};
 ghost use Rattle.highboyrobin.specs.Calls.{lineFrom, sentenceCall};
 
 #[no_mangle]
@@ -27,10 +26,10 @@ pub extern "C" fn hbr_sentence(
 ) -> u32
     ensures { λ r. ⌜ r ≡ resultOf (judge (sentenceCall (now (file .entry)) bound (now (reason .entry)) (length (now (line .entry)))
         (length (now (answer .entry))))) ⌝ }
-    ensures { λ r. ⌜ now (line .exit) ≡ lineBy (judge (sentenceCall (now (file .entry)) bound (now (reason .entry))
+    ensures { λ r. ⌜ now (line .exit) ≡ leftBy (judge (sentenceCall (now (file .entry)) bound (now (reason .entry))
         (length (now (line .entry))) (length (now (answer .entry))))) (lineFrom (now (file .entry)) bound (now (reason .entry)))
         (now (line .entry)) ⌝ }
-    ensures { λ r. ⌜ now (answer .exit) ≡ answeredBy (judge (sentenceCall (now (file .entry)) bound (now (reason .entry))
+    ensures { λ r. ⌜ now (answer .exit) ≡ leftBy (judge (sentenceCall (now (file .entry)) bound (now (reason .entry))
         (length (now (line .entry))) (length (now (answer .entry)))))
         (pos (length (lineFrom (now (file .entry)) bound (now (reason .entry)))) ∷ []) (now (answer .entry)) ⌝ }
 {

@@ -11,9 +11,9 @@ ghost use mathlib.Core.Path.{_≡_};
 ghost use mathlib.Core.List.{[], _∷_};
 ghost use lib.IntN.{pos};
 ghost use lib.ListN.{length};
-ghost use Rattle.order.specs.Refusals.{judge};
+ghost use Rattle.order.specs.Refusals.{judge, leftBy};
 ghost use Rattle.order_file.specs.File.{fileLength, writtenBy, ReadBackBy};
-ghost use Rattle.highboyrobin.specs.Results.{resultOf, answeredBy};
+ghost use Rattle.highboyrobin.specs.Results.{resultOf};
 ghost use Rattle.highboyrobin.specs.Calls.{orderFrom, writeCall};
 
 #[no_mangle]
@@ -30,7 +30,7 @@ pub extern "C" fn hbr_write(
         (orderFrom (now (memories .entry)) (now (jobs .entry))) (now (file .entry)) ⌝ }
     ensures { λ r. ⌜ ReadBackBy (judge (writeCall (now (memories .entry)) (now (jobs .entry)) (length (now (file .entry)))
         (length (now (answer .entry))))) (orderFrom (now (memories .entry)) (now (jobs .entry))) (now (file .exit)) ⌝ }
-    ensures { λ r. ⌜ now (answer .exit) ≡ answeredBy (judge (writeCall (now (memories .entry)) (now (jobs .entry))
+    ensures { λ r. ⌜ now (answer .exit) ≡ leftBy (judge (writeCall (now (memories .entry)) (now (jobs .entry))
         (length (now (file .entry))) (length (now (answer .entry)))))
         (pos (fileLength (orderFrom (now (memories .entry)) (now (jobs .entry)))) ∷ []) (now (answer .entry)) ⌝ }
 {

@@ -27,7 +27,7 @@ use Rattle.order.specs.declared.Order.{Order as OrderTable}
 use Rattle.order.specs.declared.Refusal.{Refusal}
 use Rattle.order.specs.declared.Acceptance.{Acceptance}
 use Rattle.order.specs.declared.Acceptance.the-variants.{Accepted, Refused}
-use Rattle.order.proofs.Ranges.{finding-some, finding-none}
+use Rattle.order.specs.FindingLaws.{finding-some, finding-none}
 
 -- where the first rows refuse, the whole table answers the same
 pub stays-refused : (rows later : List TableRow) (a : Acceptance) (r : Refusal) → acceptanceTold a ≡ judge rows → a ≡ Refused r →

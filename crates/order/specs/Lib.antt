@@ -9,6 +9,7 @@ pub mod Refusals
 pub mod Table
 pub mod Machine
 pub mod RefusalLaws
+pub mod FindingLaws
 pub mod EndLaws
 pub mod LeadLaws
 pub mod TableLaws

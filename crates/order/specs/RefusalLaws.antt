@@ -144,6 +144,19 @@ judge-refused-append (r ∷ rs) later number carried e = go (r .finding) e (judg
 pub accepted≢refused : {n c : ℕ} → accepted ≡ refused n c → ⊥
 accepted≢refused e = let z : _≡_ {A = ℕ} 0 1 = cc in omega arith
 
+-- a refusal whose number none of the first rows has is one of the later rows'
+pub later-numbered : (number carried : ℕ) (rows later : List TableRow) → All (λ (r : TableRow). r .number ≡ number → ⊥) rows →
+    judge (rows ++ later) ≡ refused number carried → judge later ≡ refused number carried
+unfolding judge
+later-numbered number carried [] later h e = e
+later-numbered number carried (r ∷ rs) later h e = go (r .finding) e (later-numbered number carried rs later (h .1))
+  where
+    go : (f : Finding) → verdictOf (r .number) f (judge (rs ++ later)) ≡ refused number carried →
+        (judge (rs ++ later) ≡ refused number carried → judge later ≡ refused number carried) →
+        judge later ≡ refused number carried
+    go clear t rest = rest t
+    go (holds c) t rest = absurd (h .0 cc)
+
 -- where a table accepts, so do its first rows
 pub accepted-first : (rows later : List TableRow) → judge (rows ++ later) ≡ accepted → judge rows ≡ accepted
 accepted-first rows later e = decided (judge rows) refl

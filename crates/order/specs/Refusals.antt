@@ -7,6 +7,7 @@ use mathlib.Core.Bool.{Bool, true, false, cond, not, _&&_}
 use mathlib.Core.List.{List, [], _∷_, _++_}
 use lib.Dec.{leb, ltb, eqb}
 use lib.IntN.{ℤ, pos, negsuc}
+use lib.ListN.{length, drop}
 use lib.Signed.{leZ}
 use Rattle.order.specs.Order.{Job, Order, processorCount, jobCount}
 
@@ -60,6 +61,11 @@ pub data Answer (A : Type 0) : Type 0 where
 abbrev pub answerBy : {A : Type 0} → Verdict → A → Answer A
 answerBy accepted value = answer value
 answerBy (refused number carried) value = refusal number carried
+
+-- a lent buffer at exit: what is written, and what stood beyond it; where the call is refused, what it held
+abbrev pub leftBy : {A : Type 0} → Verdict → List A → List A → List A
+leftBy accepted written entry = written ++ drop (length written) entry
+leftBy (refused number carried) written entry = entry
 
 -- a condition about no single job or processor: it carries 0
 abbrev pub whole : Bool → Finding

@@ -13,7 +13,8 @@ use lib.Signed.{ltZ, _<ℤ_}
 use Rattle.sums.specs.Lists.{All}
 use Rattle.sums.specs.Members.{All-map, All-at, All-from}
 use Rattle.order.specs.Order.{Job, Order, jobCount, Numbers, noJob, jobOf, endOf}
-use Rattle.order.specs.Refusals.{clear, holds, first, firstAfter}
+use Rattle.order.specs.FindingLaws.{Outcome, none-passes, passes-at, outcome}
+use Rattle.order.specs.Refusals.{clear, holds}
 use Rattle.order.specs.RefusalLaws.{first-at, first-none}
 use Rattle.order.specs.Whole.{ltZ-true, true-ltZ, ltZ-false, false-ltZ}
 use Rattle.profile.specs.Profile.{Overfull}
@@ -25,29 +26,6 @@ use Rattle.profile.specs.SearchLaws.{firstOverfull-found, firstOverfull-
 abbrev pub NoReason : Order → ℤ → Type 0
 NoReason o bound =
     ((j : ℕ) → Numbers (jobCount o) j → InTime bound (jobOf o j)) × ((dues : List ℤ) → ¬ Overfull o bound dues)
-
--- what a search through a list comes to: no member passes, or the one at the place i does, and none before it
-data Outcome {A : Type 0} (test : A → Bool) (d : A) (k : ℕ) (xs : List A) : Type 0 where
-  none-passes : firstAfter k test xs ≡ clear → All (λ x. test x ≡ false) xs → Outcome test d k xs
-  passes-at : (i : ℕ) → firstAfter k test xs ≡ holds (suc (k + i)) → i < length xs →
-      ((e : ℕ) → e < i → test (getD xs e d) ≡ false) → test (getD xs i d) ≡ true → Outcome test d k xs
-
-outcome : {A : Type 0} (test : A → Bool) (d : A) (k : ℕ) (xs : List A) → Outcome test d k xs
-unfolding firstAfter
-outcome test d k [] = none-passes refl tt
-outcome {A} test d k (x ∷ xs) = go (test x) refl (outcome test d (suc k) xs)
-  where
-    earlier : (i : ℕ) → test x ≡ false → ((e : ℕ) → e < i → test (getD xs e d) ≡ false) → (e : ℕ) → e < suc i →
-        test (getD (x ∷ xs) e d) ≡ false
-    earlier i t f zero l = t
-    earlier i t f (suc e) l = f e (le-of-suc-le-suc l)
-
-    go : (b : Bool) → test x ≡ b → Outcome test d (suc k) xs → Outcome test d k (x ∷ xs)
-    go true t r =
-        passes-at 0 (rw t (ap (λ (n : ℕ). holds (suc n)) (omega arith))) (omega arith) (λ e l. absurd (omega arith)) t
-    go false t (none-passes e a) = none-passes (rw t e) (t, a)
-    go false t (passes-at i e l f p) =
-        passes-at (suc i) (rw t (e ∙ ap (λ (n : ℕ). holds (suc n)) (omega arith))) (omega arith) (earlier i t f) p
 
 module _ (o : Order) (bound : ℤ) where
   -- a job is over its end where the test says so

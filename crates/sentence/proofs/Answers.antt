@@ -17,6 +17,7 @@ use Rattle.order.specs.Refusals.{
   judge,
   answer,
   answerBy,
+  leftBy,
   orderRows,
   boundRow,
   roomRow,
@@ -36,7 +37,7 @@ use Rattle.reason.specs.declared.Why.{Why}
 use Rattle.text.specs.Text.{Put}
 use Rattle.sentence.specs.Handed.{handed}
 use Rattle.sentence.specs.Line.{composed, readBack}
-use Rattle.sentence.specs.Told.{composeRows, lineBy, readRows, recoveredBy}
+use Rattle.sentence.specs.Told.{composeRows, readRows, recoveredBy}
 
 -- the rows of acceptance, then 8, then others
 module _ (o : Order) (bound : ℤ) (later : List TableRow) where
@@ -68,23 +69,23 @@ module _ (o : Order) (bound : ℤ) (why : Why) (entry : List ℕ) where
 
   -- a refusal leaves the buffer
   refuses : (r : Refusal) → v ≡ refusalTold r → (answerBy (refusalTold r) 0 ≡ answerBy v (length text)) ×
-      (entry ≡ lineBy v text entry)
+      (entry ≡ leftBy v text entry)
   refuses r e = let t = refused-told r in rw (e, t .2) (refl, refl)
 
   pub compose-order : (a : Acceptance) (r : Refusal) → acceptanceTold a ≡ judge (orderRows limits o) → a ≡ Refused r →
-      (answerBy (refusalTold r) 0 ≡ answerBy v (length text)) × (entry ≡ lineBy v text entry)
+      (answerBy (refusalTold r) 0 ≡ answerBy v (length text)) × (entry ≡ leftBy v text entry)
   unfolding composeRows
   compose-order a r e is = refuses r (order-refused o bound (roomRow (length entry) (length text) ∷ []) a r e is)
 
   module _ (a : Accepted o) where
     pub compose-bound : boundInRange bound ≡ false →
-        (answerBy (refusalTold BoundOutOfRange) 0 ≡ answerBy v (length text)) × (entry ≡ lineBy v text entry)
+        (answerBy (refusalTold BoundOutOfRange) 0 ≡ answerBy v (length text)) × (entry ≡ leftBy v text entry)
     unfolding composeRows
     compose-bound h = refuses BoundOutOfRange (bound-refused o bound (roomRow (length entry) (length text) ∷ []) a h)
 
     module _ (b : boundInRange bound ≡ true) where
       pub compose-short : length entry < length text →
-          (answerBy (refusalTold BufferTooShort) 0 ≡ answerBy v (length text)) × (entry ≡ lineBy v text entry)
+          (answerBy (refusalTold BufferTooShort) 0 ≡ answerBy v (length text)) × (entry ≡ leftBy v text entry)
       unfolding composeRows judge
       compose-short h =
           refuses BufferTooShort
@@ -92,7 +93,7 @@ module _ (o : Order) (bound : ℤ) (why : Why) (entry : List ℕ) where
 
       -- else the line stands in it
       pub compose-done : (after : List ℕ) (n r : ℕ) → length text ≤ length entry → n ≡ length text → Put entry 0 text after r →
-          (answer n ≡ answerBy v (length text)) × (after ≡ lineBy v text entry)
+          (answer n ≡ answerBy v (length text)) × (after ≡ leftBy v text entry)
       unfolding composeRows judge
       compose-done after n r h size p =
           let open-is : v ≡ accepted

@@ -2,7 +2,7 @@
 use Prim.Native.Nat.{ℕ}
 use mathlib.Core.List.{List, [], _∷_, _++_}
 use lib.IntN.{ℤ}
-use lib.ListN.{length, drop}
+use lib.ListN.{length}
 use Rattle.order.specs.Order.{Order}
 use Rattle.order.specs.Refusals.{limits, TableRow, Verdict, accepted, refused, Answer, answer, answerBy, orderRows, boundRow, roomRow}
 use Rattle.order.specs.Table.{refusalTold}
@@ -27,11 +27,6 @@ composedTold (Refused r) = answerBy (refusalTold r) 0
 abbrev pub lengthTold : Composed → ℕ
 lengthTold (Length n) = n
 lengthTold (Refused r) = 0
-
--- the buffer at exit: the line and what stood beyond it; what it held where the call is refused
-abbrev pub lineBy : Verdict → List ℕ → List ℕ → List ℕ
-lineBy accepted line entry = line ++ drop (length line) entry
-lineBy (refused number carried) line entry = entry
 
 -- reading back judges the rows of acceptance, then 8
 unfoldable pub readRows : Order → ℤ → List TableRow

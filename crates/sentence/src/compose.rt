@@ -12,17 +12,17 @@ use text::put::put_bytes;
 ghost use mathlib.Core.Path.{_≡_};
 ghost use Prim.Native.Nat.{_≤_};
 ghost use lib.ListN.{length};
-ghost use Rattle.order.specs.Refusals.{judge, answerBy};
+ghost use Rattle.order.specs.Refusals.{judge, answerBy, leftBy};
 ghost use Rattle.order.specs.Table.{orderOf};
 ghost use Rattle.sentence.specs.Handed.{handed};
 ghost use Rattle.sentence.specs.Line.{composed};
-ghost use Rattle.sentence.specs.Told.{composeRows, composedTold, lengthTold, lineBy};
+ghost use Rattle.sentence.specs.Told.{composeRows, composedTold, lengthTold};
 
 // The line goes into the lent buffer; where no reason stands it is empty.
 pub fn compose(order: Order, bound: i32, why: Why, line: &mut [u8]) -> Composed
     ensures { λ r. ⌜ composedTold r ≡ answerBy (judge (composeRows (orderOf order) bound why (length (now (line .entry)))))
         (length (composed (orderOf order) bound (handed (orderOf order) why))) ⌝ }
-    ensures { λ r. ⌜ now (line .exit) ≡ lineBy (judge (composeRows (orderOf order) bound why (length (now (line .entry)))))
+    ensures { λ r. ⌜ now (line .exit) ≡ leftBy (judge (composeRows (orderOf order) bound why (length (now (line .entry)))))
         (composed (orderOf order) bound (handed (orderOf order) why)) (now (line .entry)) ⌝ }
     ensures { λ r. ⌜ lengthTold r ≤ 598 ⌝ }
 {

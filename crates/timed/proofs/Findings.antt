@@ -1,12 +1,12 @@
 -- What the walks over ready minutes and windows find: the first bad one, counted from 1, or none.
-use Prim.Native.Nat.{ℕ, zero, suc, _+_, _≤_, _<_}
-use mathlib.Core.Path.{_≡_, refl, sym}
+use Prim.Native.Nat.{ℕ, suc, _+_, _≤_, _<_}
+use mathlib.Core.Path.{_≡_, sym}
 use mathlib.Core.Bool.{Bool, true, false, not}
 use native.Mathlib.Omega.{arith}
 use native.Mathlib.Numerals.{add-one}
 use borrow.Author.Tests.{le-leb, lt-leb}
 use Rattle.sums.specs.Lists.{tabulate}
-use Rattle.order.specs.Refusals.{clear, holds, first}
+use Rattle.order.specs.Refusals.{first}
 use Rattle.order.specs.RefusalLaws.{first-tabulate, none-tabulate}
 use Rattle.order.specs.Table.{findingOf}
 use Rattle.timed.specs.Times.{minuteInRange}
@@ -24,19 +24,3 @@ minute-high minute h = rw (lt-leb minute 1000000 h)
 
 pub minute-good : (minute : ℕ) → minute ≤ 1000000 → not (minuteInRange minute) ≡ false
 minute-good minute h = rw (le-leb minute 1000000 h)
-
--- what a test says that stands for another
-pub not-of : (b t : Bool) → t ≡ b → not t ≡ false → not b ≡ false
-not-of b t e f = rw (sym e) f
-
-pub not-of-false : (b t : Bool) → t ≡ b → not t ≡ true → not b ≡ true
-not-of-false b t e f = rw (sym e) f
-
--- a number that stands for a finding
-pub finding-some : (j : ℕ) → 0 < j → findingOf j ≡ holds j
-finding-some zero h = absurd (omega arith)
-finding-some (suc j) h = refl
-
-pub finding-none : (j : ℕ) → j ≤ 0 → findingOf j ≡ clear
-finding-none zero h = refl
-finding-none (suc j) h = absurd (omega arith)

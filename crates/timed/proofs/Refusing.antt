@@ -28,7 +28,7 @@ use Rattle.order.specs.declared.Acceptance.the-variants.{Refused}
 use Rattle.wrap.specs.FrameAt.{Times}
 use Rattle.timed.specs.Times.{minuteInRange, windowGood, readyRow, windowRow}
 use Rattle.timed.specs.Rows.{askedRows}
-use Rattle.timed.proofs.Findings.{finding-some, finding-none}
+use Rattle.order.specs.FindingLaws.{finding-some, finding-none}
 
 module _ (o : Order) (bound : ℤ) (t : Times) where
   abbrev later : List TableRow

@@ -3,7 +3,8 @@ use lib.IntN.{pos}
 use Rattle.order.specs.Machine.{machine-back}
 use borrow.Author.Count.{below-none, below-more}
 use mathlib.Core.Path.{ap, _∙_}
-use Rattle.order.proofs.Ranges.{job-found, no-job-found, not-of, not-of-false}
+use Rattle.order.specs.FindingLaws.{not-of, not-of-false}
+use Rattle.order.proofs.Ranges.{job-found, no-job-found}
 use Prim.Native.Nat.{ℕ, _≤_, _<_, _-_}
 use mathlib.Core.Path.{_≡_}
 use mathlib.Core.Bool.{false, not}

@@ -1,5 +1,6 @@
 use borrow.Author.Count.{below-none, below-more}
-use Rattle.order.proofs.Ranges.{job-found, no-job-found, time-low, time-high, time-good}
+use Rattle.order.specs.FindingLaws.{time-low, time-high, time-good}
+use Rattle.order.proofs.Ranges.{job-found, no-job-found}
 use Prim.Native.Nat.{ℕ, _≤_, _<_, _-_}
 use mathlib.Core.Path.{_≡_}
 use mathlib.Core.Bool.{false, not}

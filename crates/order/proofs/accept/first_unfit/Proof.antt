@@ -4,7 +4,8 @@ use mathlib.Core.Bool.{false, not}
 use borrow.Author.Count.{below-none, below-more}
 use Rattle.order.specs.Refusals.{fitsSome}
 use Rattle.order.specs.Table.{jobAt, orderOf}
-use Rattle.order.proofs.Ranges.{job-found, no-job-found, not-of, not-of-false}
+use Rattle.order.specs.FindingLaws.{not-of, not-of-false}
+use Rattle.order.proofs.Ranges.{job-found, no-job-found}
 use borrow.Author.Needs.{needs}
 use native.Mathlib.Omega.{arith}
 use Rattle.order.proofs.accept.first_unfit.Statement.{statement}

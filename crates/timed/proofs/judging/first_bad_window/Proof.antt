@@ -7,7 +7,8 @@ use borrow.Author.Count.{below-none, below-more}
 use borrow.Author.Needs.{needs}
 use Rattle.sums.specs.Lists.{nth}
 use Rattle.timed.specs.Times.{windowGood}
-use Rattle.timed.proofs.Findings.{one-found, none-found, not-of, not-of-false}
+use Rattle.order.specs.FindingLaws.{not-of, not-of-false}
+use Rattle.timed.proofs.Findings.{one-found, none-found}
 use Rattle.timed.proofs.judging.first_bad_window.Statement.{statement}
 use Rattle.timed.proofs.judging.first_bad_window.Tie as tie
 
