@@ -22,15 +22,17 @@
  * processor one window as two numbers: the minute at which it opens and the one at which it closes; all from 0 to
  * HBR_MOST_MINUTE, each window closing after it opens. ready_length is the number of jobs, windows_length twice that of processors.
  *
+ * Needs. Where you know how long sessions are and not what they need, hbr_needs fills the needs in from a table that you edit.
+ *
  * Results. Each function returns 0 where it succeeds, else a refusal: its number is hbr_number(result), and the job that it is
- * about, of 16 the processor, 0 where it is about none, hbr_job(result). Of several refusals that apply the first is told:
- * HBR_SHORT_ANSWER, HBR_PART_JOB, HBR_SHORT_CLASSES, HBR_SHORT_REASON or HBR_SHORT_BOOK, 12, HBR_WRONG_TIMES, then 1 to 6, 13, 7,
- * 15, 16, 8 to 11, 14.
+ * about, of 16 the processor, of 17 and 18 the length, 0 where it is about none, hbr_job(result). Of several refusals that apply the
+ * first is told: HBR_SHORT_ANSWER, HBR_PART_JOB, HBR_SHORT_CLASSES, HBR_SHORT_REASON, HBR_SHORT_BOOK or HBR_LONG_LIST, 12,
+ * HBR_WRONG_TIMES, then 17, 18, 1 to 6, 13, 7, 15, 16, 8 to 11, 14.
  *
  * Memory. You own every buffer; nothing is kept after a call, and nothing is allocated. Two buffers of one call must not overlap
  * unless both are const. Lengths count elements, not bytes. Pointers must be valid and aligned, not NULL, also where the length is
- * 0. A REFUSED CALL WRITES NOTHING, neither to classes, rows, book, file or line nor to the answer. A call that succeeds leaves what
- * lies beyond its classes, its rows, its book, its file, its line or its answer as it was.
+ * 0. A REFUSED CALL WRITES NOTHING, neither to classes, rows, book, file, line or needs nor to the answer. A call that succeeds leaves
+ * what lies beyond its classes, its rows, its book, its file, its line, its needs or its answer as it was.
  *
  * Threads. A call keeps nothing, so calls may run at once on several threads, and a call may be interrupted by another: in a
  * signal or interrupt handler, or by a thread switch. As long as a call runs, no buffer that it writes may be read or written by
@@ -52,7 +54,7 @@ extern "C" {
 
 /* the most processors, jobs and classes of an order, bytes of its file, rows of a plan, rows of a plan with times, bytes of a reason's
  * line; makers are numbered up to HBR_MOST_MAKERS, and a book has as many numbers, none over HBR_MOST_BOOKED; no ready minute, opening
- * or closing is over HBR_MOST_MINUTE */
+ * or closing is over HBR_MOST_MINUTE; the lines of a table of needs that count, the longest length, the most lengths of a call */
 #define HBR_MOST_PROCESSORS 16
 #define HBR_MOST_JOBS 48
 #define HBR_MOST_CLASSES 16
@@ -63,17 +65,21 @@ extern "C" {
 #define HBR_MOST_MAKERS 16
 #define HBR_MOST_BOOKED 4000000000u
 #define HBR_MOST_MINUTE 1000000
+#define HBR_TABLE_LINES 32
+#define HBR_LONGEST_LENGTH 100000
+#define HBR_MOST_LENGTHS 16777215
 
 /* refusals */
 #define HBR_NO_PROCESSOR 1        /* the order has no processor */
 #define HBR_TOO_MANY_PROCESSORS 2 /* it has over 16 */
 #define HBR_NO_JOB 3              /* it has no job */
 #define HBR_TOO_MANY_JOBS 4       /* it has over 48 */
-#define HBR_TIME_OUT_OF_RANGE 5   /* a job's time is not 1 to 100000 */
+#define HBR_TIME_OUT_OF_RANGE 5   /* a job's time, or a length listed for hbr_needs, is not 1 to 100000 */
 #define HBR_DUE_OUT_OF_RANGE 6    /* a job's due time is not -1000000 to 1000000 */
 #define HBR_FITS_NO_PROCESSOR 7   /* a job needs more memory than any processor has */
 #define HBR_BOUND_OUT_OF_RANGE 8  /* the bound is not -10000000 to 10000000 */
-#define HBR_BUFFER_TOO_SHORT 9    /* rows: as hbr_judge, hbr_timed_rows tell; file: 4 bytes a processor, 16 a job, 12; line: its length */
+#define HBR_BUFFER_TOO_SHORT 9    /* rows: as hbr_judge, hbr_timed_rows tell; file: 4 bytes a processor, 16 a job, 12; line: its length;
+                                   * needs: one to a length */
 #define HBR_BOUND_TOO_TIGHT 10    /* no plan whatever meets the bound: hbr_reason tells why, but not with times */
 #define HBR_TOO_MANY_ROWS 11      /* over 3024 rows to check, with times over 8064 */
 #define HBR_BAD_FILE 12           /* the file is under 12 or over 844 bytes, or its lists and its trailer disagree */
@@ -81,9 +87,12 @@ extern "C" {
 #define HBR_BOOK_FULL 14          /* a number of the book would then be over 4000000000; told last of all */
 #define HBR_READY_OUT_OF_RANGE 15 /* a job's ready minute is not 0 to 1000000; told after 7 and before 8 */
 #define HBR_BAD_WINDOW 16         /* a window is not in 0 to 1000000 or does not close after it opens; told after 15, before 8 */
+#define HBR_LENGTH_UNMET 17       /* no line of the table of needs meets a length */
+#define HBR_LENGTH_MET_TWICE 18   /* two lines of it meet a length */
 #define HBR_SHORT_CLASSES 253     /* the list of classes has under 32 numbers */
 #define HBR_SHORT_REASON 253      /* the reason has under 19 numbers */
 #define HBR_SHORT_BOOK 253        /* the book has under 16 numbers; the same number, since no function has two of these */
+#define HBR_LONG_LIST 253         /* over 16777215 lengths: a result has no room for such a place */
 #define HBR_WRONG_TIMES 253       /* the ready minutes are not one to a job or the windows not two numbers to a processor; after 12 */
 #define HBR_PART_JOB 254          /* the numbers of the jobs are not four to a job */
 #define HBR_SHORT_ANSWER 255      /* the answer is shorter than the function's HBR_.._ANSWER */
@@ -202,6 +211,18 @@ uint32_t hbr_timed_plan(const uint8_t *file, size_t file_length, int32_t bound, 
 uint32_t hbr_timed_check(const uint8_t *file, size_t file_length, int32_t bound, const uint32_t *ready, size_t ready_length,
                          const uint32_t *windows, size_t windows_length, const uint32_t *rows, size_t rows_length, int32_t *answer,
                          size_t answer_length);
+
+/* The needs of listed lengths, from a table that you edit: three numbers to a line, from length, to length, need. A line meets each
+ * length from the one to the other, both included; one whose from or to is not 1 to HBR_LONGEST_LENGTH, or whose from is above its to,
+ * meets none. The first HBR_TABLE_LINES lines count, in any order; further ones are passed over, and one or two numbers left over are
+ * no line. Each length from 1 to HBR_LONGEST_LENGTH must be met by exactly one line. From needs[0] on each listed length has the need of its
+ * line; lengths are of any number up to HBR_MOST_LENGTHS, none too. Refusals, in the order in which they are told: 255, 253, 17 (no
+ * line meets a length) and 18 (two or more meet one), each carrying the smallest such length, 5 (a listed length is not 1 to
+ * HBR_LONGEST_LENGTH: its place in the list, counted from 1, the first such), 9 (needs has fewer numbers than lengths).
+ * answer[0] the number of needs filled in. */
+#define HBR_NEEDS_ANSWER 1
+uint32_t hbr_needs(const uint32_t *table, size_t table_length, const uint32_t *lengths, size_t lengths_length, uint32_t *needs,
+                   size_t needs_length, int32_t *answer, size_t answer_length);
 
 /* Writes the order file of an order: memories, one number to a processor; jobs, four to a job: time, due time (a negative one
  * converted to uint32_t), need, maker. jobs_length counts numbers, not jobs: it is 4 * jobs. HBR_MOST_BYTES bytes are always enough

@@ -1,4 +1,5 @@
--- A refusal of an order carries at most 48: the number of one of its jobs or processors.
+-- A refusal of an order carries at most 48, the number of one of its jobs or processors; one of a table of needs a length, or a place
+-- in the list.
 use Prim.Native.Nat.{ℕ, suc, _+_, _/_, _≤_}
 use mathlib.Core.Path.{_≡_, refl, subst}
 use mathlib.Core.Bool.{Bool, true, false, cond, not}
@@ -36,12 +37,15 @@ use Rattle.sentence.specs.Handed.{handed}
 use Rattle.sentence.specs.Line.{composed}
 use Rattle.sentence.specs.Told.{composeRows, readRows as lineRows}
 use Rattle.book.specs.Book.{overBooked}
+use Rattle.needs.specs.NeedTable.{everyLength, tableRows, needRows}
+use Rattle.needs.specs.SmallestLaws.{every-length}
 use Rattle.sums.specs.Lists.{tabulate}
 use Rattle.sums.specs.Places.{length-tabulate}
 use Rattle.wrap.specs.FrameAt.{Times}
 use Rattle.timed.specs.Changes.{timedRowsAsked}
 use Rattle.timed.specs.Times.{minuteInRange, windowGood, readyRow, windowRow}
 use Rattle.timed.specs.Rows.{askedRows, earlierTimed, timedRows, noneTimed, mostTimedRows, timedCheckRows}
+use Rattle.highboyrobin.specs.NeedCalls.{mostLengths}
 use Rattle.planner.specs.Rows.{rowsAsked, isFound, leastRows, earlierRows, planRows, bookedLeastRows, bookedPlanRows}
 
 -- a refusal carries what its verdict carries
@@ -193,3 +197,13 @@ unfolding timedCheckRows
 timed-check-carries o bound t n =
     append-carries (askedRows o bound t) _ (asked-carries o bound t)
     (whole-carries 11 48 (ltb mostTimedRows ((n + 3) / 4)) [] none-carries)
+
+-- 17 and 18 carry a length and 5 a place
+pub needs-carries : (table listed : List ℕ) (lent : ℕ) → length listed ≤ mostLengths →
+    carriedBy (judge (needRows table listed lent)) ≤ mostLengths
+unfolding judge needRows tableRows
+needs-carries table listed lent h =
+    first-carries 17 0 mostLengths _ everyLength _ (omega (arith, every-length))
+    (first-carries 18 0 mostLengths _ everyLength _ (omega (arith, every-length))
+    (first-carries 5 0 mostLengths _ listed _ (omega arith)
+    (whole-carries 9 mostLengths (ltb lent (length listed)) [] (omega arith))))

@@ -15,3 +15,4 @@ mod TimedTold
 mod TimesTold
 mod TimesRead
 mod ClassesTold
+mod NeedsTold

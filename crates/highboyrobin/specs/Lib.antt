@@ -4,9 +4,11 @@ pub mod Calls
 pub mod TimedCalls
 pub mod BookCalls
 pub mod ClassCalls
+pub mod NeedCalls
 pub mod CallLaws
 pub mod BookCallLaws
 pub mod ClassCallLaws
+pub mod NeedCallLaws
 pub mod TimedCallLaws
 pub mod LineCallLaws
 pub mod Inside

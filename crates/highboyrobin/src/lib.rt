@@ -15,6 +15,7 @@ pub mod checking; // hbr_check
 pub mod classing; // hbr_classes
 pub mod judging; // hbr_judge
 pub mod lateness; // hbr_least
+pub mod needing; // hbr_needs
 pub mod parsing; // hbr_parse
 pub mod planning; // hbr_plan
 pub mod reasoning; // hbr_reason
