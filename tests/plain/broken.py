@@ -4,8 +4,8 @@ Document 01, "Errors that a planner of this kind invites", names many of these;
 document 02's sentences of the reason give those of its lines, those of fewer
 hand-overs those of joined rows, those of the due minute those of ends; makers and
 the book stand in broken_makers.py, ready minutes and windows in broken_timed.py,
-classes and their processors in broken_classes.py. Each variant replaces one name of
-one module while one test runs.
+classes and their processors in broken_classes.py, needs from a table in
+broken_needs.py. Each variant replaces one name of one module while one test runs.
 
     broken.py          runs all variants; exits 1 if one of them is not caught
 """
@@ -21,6 +21,7 @@ from collections import namedtuple
 import answers
 import broken_classes
 import broken_makers
+import broken_needs
 import broken_timed
 import flow
 import join
@@ -909,8 +910,9 @@ ENDS = [
 MAKERS = [Variant(*variant) for variant in broken_makers.VARIANTS]
 TIMED = [Variant(*variant) for variant in broken_timed.VARIANTS]
 CLASSES = [Variant(*variant) for variant in broken_classes.VARIANTS]
+NEEDS = [Variant(*variant) for variant in broken_needs.VARIANTS]
 VARIANTS = (LATENESS + REASONS + REFUSALS + PLANS + LAYOUTS + JOININGS + SEARCHES
-            + FILES + SENTENCES + ENDS + MAKERS + TIMED + CLASSES)
+            + FILES + SENTENCES + ENDS + MAKERS + TIMED + CLASSES + NEEDS)
 
 
 def caught(variant):

@@ -17,6 +17,7 @@ import cases_book
 import cases_check
 import cases_classes
 import cases_join
+import cases_needs
 import cases_planner
 import cases_read
 import cases_sentence
@@ -25,13 +26,15 @@ import cases_timed_check
 import cases_write
 import classes
 import flow
+import needs
 import stream_form
 import timed_answers
 
 HERE = pathlib.Path(__file__).resolve().parent
 PROGRAM = HERE.parent.parent / "crates" / "cases"
 PARTS = (cases_read, cases_check, cases_write, cases_planner, cases_sentence,
-         cases_join, cases_book, cases_timed, cases_timed_check, cases_classes)
+         cases_join, cases_book, cases_timed, cases_timed_check, cases_classes,
+         cases_needs)
 # What the program reads, what it has to print, and what each case shows.
 STORED = {"stdin": PROGRAM / "stdin", "stdout": PROGRAM / "stdout",
           "list": HERE / "streams" / "cases.list"}
@@ -39,7 +42,8 @@ ANSWER = {"read": answers.read, "check": answers.check, "write": answers.write,
           "least": answers.least_lateness, "plan": answers.plan,
           "compose": answers.compose, "parse": answers.parse, "book": book.told,
           "asked": timed_answers.asked, "timed": timed_answers.planned,
-          "watch": timed_answers.checked, "classes": classes.told}
+          "watch": timed_answers.checked, "classes": classes.told,
+          "needs": needs.told}
 BYTES_MOST = 2000000
 
 

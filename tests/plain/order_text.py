@@ -5,7 +5,8 @@
 
 Blank lines, and everything from `#` to the end of a line, say nothing. A job
 without MAKER has maker 1, and where the maker is 1 it is left out: document 02,
-§4: "In document 01's cases the maker is 1."
+§4: "In document 01's cases the maker is 1." A NEED of `-` is left to a maker's
+table (needs_text.py).
 Document 01: "Jobs and processors carry numbers from 1 in input order." Numbers
 may be out of the order's ranges, so that refused orders can be written too;
 they have to fit the bytes of the order file. "Base ten is meant".
@@ -26,11 +27,13 @@ FIELDS = {
 # is the one named here.
 COUNTS = {"processor": (1,), "job": (3, 4)}
 MAKER_LEFT_OUT = orders.MAKER_OF_DOCUMENT_01
+# The need of a job that is left to a table, and how it is written.
+LEFT, LEFT_WORD = None, "-"
 COUNT_MOST = 65535
 
 
 class TextError(Exception):
-    """Text that is no order; the message names the line."""
+    """Text that is no order, or no table; the message names the line or the job."""
 
 
 def number(word, name, limits, line):
@@ -44,20 +47,32 @@ def number(word, name, limits, line):
     return value
 
 
-def numbers(words, line):
-    """The numbers of a line that begins with `processor` or `job`."""
+def is_left(kind, name, word):
+    """Is this the need of a job, left to a table?"""
+    return (kind, name, word) == ("job", "need", LEFT_WORD)
+
+
+def numbers(words, line, fields, counts):
+    """The numbers of a line that begins with one of these kinds."""
     kind, given = words[0], words[1:]
-    if kind not in FIELDS:
-        raise TextError(f"line {line}: a line begins with 'processor' or 'job', "
-                        f"not '{kind}'")
-    fields = FIELDS[kind]
-    if len(given) not in COUNTS[kind]:
-        wanted = ", ".join(name for name, _ in fields)
-        told = " or ".join(map(str, COUNTS[kind]))
+    if kind not in fields:
+        known = " or ".join(f"'{one}'" for one in fields)
+        raise TextError(f"line {line}: a line begins with {known}, not '{kind}'")
+    if len(given) not in counts[kind]:
+        wanted = ", ".join(name for name, _ in fields[kind])
+        told = " or ".join(map(str, counts[kind]))
         raise TextError(f"line {line}: after '{kind}' stand {told} "
                         f"({wanted}), not {len(given)}")
-    return [number(word, name, limits, line)
-            for word, (name, limits) in zip(given, fields)]
+    return [LEFT if is_left(kind, name, word) else number(word, name, limits, line)
+            for word, (name, limits) in zip(given, fields[kind])]
+
+
+def said(text, fields, counts):
+    """What each line says: its kind and its numbers."""
+    for line, content in enumerate(text.split("\n"), 1):
+        words = content.split("#")[0].split()
+        if words:
+            yield words[0], numbers(words, line, fields, counts)
 
 
 def job(time, due, need, maker=None):
@@ -66,15 +81,11 @@ def job(time, due, need, maker=None):
     return orders.Job(time, due, need, maker)
 
 
-def parse(text):
-    """The order of a text."""
+def lists(text):
+    """The memories and the jobs of a text, needs left to a table as they are."""
     memories, jobs = [], []
-    for line, content in enumerate(text.split("\n"), 1):
-        words = content.split("#")[0].split()
-        if not words:
-            continue
-        values = numbers(words, line)
-        if words[0] == "processor":
+    for kind, values in said(text, FIELDS, COUNTS):
+        if kind == "processor":
             memories.append(values[0])
         else:
             jobs.append(job(*values))
@@ -82,6 +93,16 @@ def parse(text):
         if len(items) > COUNT_MOST:
             raise TextError(f"{len(items)} {name} do not fit the file: "
                             f"at most {COUNT_MOST}")
+    return memories, jobs
+
+
+def parse(text):
+    """The order of a text that leaves no need to a table."""
+    memories, jobs = lists(text)
+    for place, one in enumerate(jobs, 1):
+        if one.need is LEFT:
+            raise TextError(f"job {place}: its need is left to a table, and none is "
+                            "given (order-file pack --needs TABLE)")
     return orders.order(memories, jobs)
 
 

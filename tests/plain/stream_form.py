@@ -16,6 +16,7 @@ A stream is a sequence of records; every number takes 4 bytes, little-endian
     10 timed    ORDER, bound, TIMES, room (numbers)
     11 watch    ORDER, bound, TIMES, R, then R numbers (the lent rows)
     12 classes  ORDER
+    13 needs    T, then T numbers (the table), L, then L lengths, room (needs)
 
 ORDER is m, n, then min(m, 16) memories, then min(n, 48) jobs as time, due, need,
 maker. A count beyond its array stands for the list of that many: the given ones,
@@ -34,6 +35,10 @@ the last one gave back"; the first is given BOOK.
 TIMES is min(n, 48) ready minutes, then min(m, 16) windows, each its opening and its
 closing. Document 02, §5: "a ready minute [..] for each job and one window, opening
 to closing minute in the same range, for each processor"; they are unsigned.
+
+A table has three numbers to a line. Document 02, §7: "from length, to length (both
+included, in minutes), need". Every number of the buffer that is lent for the needs is
+7 before the call.
 """
 
 import struct
@@ -43,7 +48,8 @@ import orders
 import timed
 
 KINDS = {"read": 1, "check": 2, "least": 3, "plan": 4, "write": 5, "compose": 6,
-         "parse": 7, "book": 8, "asked": 9, "timed": 10, "watch": 11, "classes": 12}
+         "parse": 7, "book": 8, "asked": 9, "timed": 10, "watch": 11, "classes": 12,
+         "needs": 13}
 # The kinds that are given times.
 TIMED = ("asked", "timed", "watch")
 # One for each class that there can be.
@@ -53,7 +59,8 @@ COUNTS = orders.MAKER_MOST
 WORD_COUNT = 4294967296
 
 # `values` are the arguments of the entry point, as answers.py takes them; of
-# `book` they are the book and its calls, as book.told takes them.
+# `book` they are the book and its calls, as book.told takes them, of `needs` the
+# table, the lengths and the room, as needs.told takes them.
 Record = namedtuple("Record", "kind values")
 Call = namedtuple("Call", "which order bound room")
 LEAST, PLAN = 1, 2
@@ -105,6 +112,9 @@ def pack(record):
                 + b"".join(pack_call(call) for call in calls))
     if record.kind in TIMED:
         return head + pack_timed(*record.values)
+    if record.kind == "needs":
+        table, lengths, room = record.values
+        return head + words(len(table), *table, len(lengths), *lengths, room)
     order, *numbers = record.values
     if record.kind == "check":
         bound, rows = numbers
@@ -154,14 +164,14 @@ class Source:
         return timed.times(ready, [(self.word(), self.word())
                                    for _ in order.memories])
 
-    def rows(self):
+    def numbers(self):
         return [self.word() for _ in range(self.word())]
 
     def timed(self, kind):
         order, bound = self.order(), self.signed()
         given = self.times(order)
         rest = {"asked": lambda: (), "timed": lambda: (self.word(),),
-                "watch": lambda: (self.rows(),)}
+                "watch": lambda: (self.numbers(),)}
         return order, bound, given, *rest[kind]()
 
     def data_of_length(self):
@@ -177,11 +187,13 @@ class Source:
             return book, tuple(self.call() for _ in range(self.word()))
         if kind in TIMED:
             return self.timed(kind)
+        if kind == "needs":
+            return self.numbers(), self.numbers(), self.word()
         order = self.order()
         if kind == "classes":
             return (order,)
         if kind == "check":
-            return order, self.signed(), self.rows()
+            return order, self.signed(), self.numbers()
         if kind == "plan":
             return order, self.signed(), self.word()
         if kind == "compose":

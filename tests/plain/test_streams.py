@@ -36,6 +36,22 @@ def stored():
     return told
 
 
+def first_gap(lines):
+    """The first length from 1 on that none of these lines meets."""
+    gap = 1
+    for first, last, _ in sorted(lines):
+        if first <= gap:
+            gap = max(gap, last + 1)
+    return gap
+
+
+def first_met_twice(lines):
+    """The first length that two of these lines meet: one of them begins there."""
+    return min((begin for begin, _, _ in lines
+                if sum(first <= begin <= last for first, last, _ in lines) > 1),
+               default=100001)
+
+
 def small(order):
     return order.m <= 3 and order.n <= 4 and all(
         job.time <= 3 for job in order.jobs)
@@ -118,6 +134,18 @@ class Form(unittest.TestCase):
             "ffffffff 08000000 10000000"))
         self.assertEqual(stream_form.unpack(data + bytes(4)), [record])
 
+    def test_needs_by_hand(self):
+        for values, wanted in (
+                (([1, 10, 4294967295, 11, 100000], [30000, 0, 100001], 80), (
+                    "0d000000 05000000 01000000 0a000000 ffffffff 0b000000 a0860100 "
+                    "03000000 30750000 00000000 a1860100 50000000")),
+                (([], [], 0), "0d000000 00000000 00000000 00000000"),
+                (([], [7], 2), "0d000000 00000000 01000000 07000000 02000000")):
+            record = stream_form.Record("needs", values)
+            data = stream_form.pack(record)
+            self.assertEqual(data.hex(" ", 4), wanted)
+            self.assertEqual(stream_form.unpack(data + bytes(4)), [record])
+
     def test_sizes(self):
         data = cases.STORED["stdin"].read_bytes()
         self.assertLess(len(data), cases.BYTES_MOST)
@@ -140,7 +168,8 @@ class Stored(unittest.TestCase):
             "plan": {*of_order, 8, 9}, "compose": {*of_order, 8, 9},
             "parse": {*of_order, 8}, "book": {*of_order, 8, 9, 14},
             "asked": {*of_order, 8, 15, 16}, "timed": {*of_order, 8, 9, 15, 16},
-            "watch": {*of_order, 8, 11, 15, 16}, "classes": of_order})
+            "watch": {*of_order, 8, 11, 15, 16}, "classes": of_order,
+            "needs": {17, 18, 5, 9}})
 
     def test_a_file_of_over_844_bytes(self):
         lengths = {len(record.values[0]) for record, _ in stored()
@@ -264,6 +293,40 @@ class Stored(unittest.TestCase):
         self.assertGreater(min(counts[k] for k in (1, 2, 3, 4)), 20)
         self.assertEqual(max(counts), 16)
 
+    def test_needs(self):
+        # Each answer by the lines that can meet a length, and what it says of them.
+        told = {"needs": 0, 17: 0, 18: 0, 5: 0, 9: 0}
+        for record, (line, *_) in stored():
+            if record.kind != "needs":
+                continue
+            table, lengths, room = record.values
+            lines = [line for line in list(zip(*[iter(table)] * 3))[:32]
+                     if 1 <= line[0] <= line[1] <= 100000]
+            word, *numbers = line.split()
+            numbers = [int(number) for number in numbers]
+            kind = word if word == "needs" else numbers[0]
+            self.assertEqual(first_gap(lines), numbers[1] if kind == 17 else 100001)
+            if kind != 17:
+                self.assertEqual(first_met_twice(lines),
+                                 numbers[1] if kind == 18 else 100001)
+            if kind not in (17, 18):
+                self.list_is(kind, lines, lengths, room, numbers)
+            told[kind] += 1
+        self.assertGreater(min(told.values()), 25)
+
+    def list_is(self, kind, lines, lengths, room, numbers):
+        bad = [place for place, length in enumerate(lengths, 1)
+               if length < 1 or length > 100000]
+        if bad:
+            self.assertEqual(numbers, [5, bad[0]])
+        elif room < len(lengths):
+            self.assertEqual(numbers, [9, 0])
+        else:
+            self.assertEqual(kind, "needs")
+            self.assertEqual([[number] for number in numbers], [
+                [need for first, last, need in lines if first <= length <= last]
+                for length in lengths])
+
     def test_rooms_and_lengths_in_reach(self):
         for record, _ in stored():
             if record.kind in ("read", "parse"):
@@ -280,6 +343,11 @@ class Stored(unittest.TestCase):
                 self.assertLessEqual(len(record.values[3]), 32264)
             elif record.kind == "timed":
                 self.assertTrue(0 <= record.values[3] <= 32264)
+            elif record.kind == "needs":
+                table, lengths, room = record.values
+                self.assertLessEqual(len(table), 120)
+                self.assertLessEqual(len(lengths), 80)
+                self.assertTrue(0 <= room <= 80)
             elif record.kind in ("asked", "classes"):
                 continue
             else:

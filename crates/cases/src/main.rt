@@ -1,6 +1,7 @@
 // Runs cases through the entry points and prints what they answer. The cases and the expected lines are made by tests/plain,
 // which says the form of the stream (stream_form.py).
 mod books; // booked calls, one after the other
+mod filling; // needs from a table
 mod listing; // the classes of an order
 mod print; // words, numbers and answers on standard output
 mod sentences; // the cases of a reason's line, composed and read back
@@ -167,6 +168,7 @@ fn main() {
             10 => timing::timed_case(),
             11 => timing::watch_case(),
             12 => listing::classes_case(),
+            13 => filling::needs_case(),
             _ => return,
         }
     }

@@ -33,6 +33,14 @@ pub fn refused(refusal: Refusal) {
     text(&out[..length]);
 }
 
+// The line of a refusal that is told by its number.
+pub fn refusal(by: u32, carried: u32) {
+    text(b"refused");
+    number(by);
+    number(carried);
+    text(b"\n");
+}
+
 // The line of an answer at a bound.
 pub fn planned(answer: PlanAnswer) {
     let mut out = [0u8; 205];

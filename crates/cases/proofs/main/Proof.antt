@@ -51,6 +51,9 @@ watch-case-requires c κs = search needs
 classes-case-requires : tie.Need-classes-case-requires Inv-loop μ-loop
 classes-case-requires c κs = search needs
 
+needs-case-requires : tie.Need-needs-case-requires Inv-loop μ-loop
+needs-case-requires c κs = search needs
+
 returns : tie.Need-returns Inv-loop μ-loop
 returns c = search needs
 
@@ -86,6 +89,7 @@ main-spec =
     timed-case-requires
     watch-case-requires
     classes-case-requires
+    needs-case-requires
     returns
     add-k
     loop-less
