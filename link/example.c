@@ -1,20 +1,29 @@
-/* Plans an order from C: two processors, three jobs of two makers. Prints the least lateness, a plan that meets it, why -1 is too
- * tight, in due times and as a sentence, the classes that it speaks of, and the minutes booked for each maker. */
+/* Plans an order from C: two processors, three jobs of two makers, whose needs a table has by their times. Prints the needs, the
+ * least lateness, a plan that meets it, why -1 is too tight, in due times and as a sentence, the classes that it speaks of, and the
+ * minutes booked for each maker. */
 #include "highboyrobin.h"
 #include <stdio.h>
 
 int main(void) {
   const uint32_t memories[] = {8, 4};
-  const uint32_t jobs[] = {/* time, due, need, maker */ 3, 3, 8, 1, 3, 3, 4, 2, 2, 4, 2, 2};
+  const uint32_t table[] = {/* from length, to length, need */ 1, 2, 2, 3, 3, 4, 4, HBR_LONGEST_LENGTH, 8};
+  const uint32_t times[] = {4, 3, 2};
+  uint32_t jobs[] = {/* time, due, need, maker */ 4, 4, 0, 1, 3, 3, 0, 2, 2, 4, 0, 2};
+  uint32_t needs[3];
   static uint8_t file[HBR_MOST_BYTES];
   static uint32_t rows[4 * HBR_MOST_ROWS];
   static uint8_t line[HBR_MOST_LINE];
   static uint32_t classes[2 * HBR_MOST_CLASSES];
   static uint32_t book[HBR_MOST_MAKERS]; /* opened: sixteen zeros */
   int32_t length[HBR_WRITE_ANSWER], least[HBR_BOOK_LEAST_ANSWER], reason[HBR_REASON_ANSWER], written[HBR_SENTENCE_ANSWER];
-  int32_t count[HBR_CLASSES_ANSWER];
+  int32_t count[HBR_CLASSES_ANSWER], filled[HBR_NEEDS_ANSWER];
 
-  uint32_t result = hbr_write(memories, 2, jobs, 12, file, sizeof file, length, HBR_WRITE_ANSWER);
+  uint32_t result = hbr_needs(table, 9, times, 3, needs, 3, filled, HBR_NEEDS_ANSWER);
+  if (result == 0) {
+    for (int j = 0; j < filled[0]; j++)
+      jobs[4 * j + 2] = needs[j];
+    result = hbr_write(memories, 2, jobs, 12, file, sizeof file, length, HBR_WRITE_ANSWER);
+  }
   if (result == 0)
     result = hbr_book_least(file, (size_t)length[0], rows, 4 * HBR_MOST_ROWS, book, HBR_MOST_MAKERS, least, HBR_BOOK_LEAST_ANSWER);
   if (result == 0)
@@ -27,6 +36,8 @@ int main(void) {
     printf("refused %u, job %u\n", hbr_number(result), hbr_job(result));
     return 1;
   }
+  for (int j = 0; j < filled[0]; j++)
+    printf("job %d of time %u needs %u\n", j + 1, (unsigned)times[j], (unsigned)needs[j]);
   printf("least lateness %d\n", least[0]);
   for (int i = 0; i < least[1]; i++) {
     const uint32_t *row = &rows[4 * i];

@@ -1,32 +1,29 @@
-// Plans an order from Rust: two processors, three jobs of two makers. Prints the least lateness, a plan that meets it, why -1 is too
-// tight, in due times and as a sentence, the classes that it speaks of, and the minutes booked for each maker.
+// Plans an order from Rust: two processors, three jobs of two makers, whose needs a table has by their times. Prints the needs, the
+// least lateness, a plan that meets it, why -1 is too tight, in due times and as a sentence, the classes that it speaks of, and the
+// minutes booked for each maker.
 #[allow(dead_code)]
 mod highboyrobin;
-use highboyrobin::{book_least, classes, judge, reason, sentence, write};
-use highboyrobin::{Book, Job, Reason, Refused, Row, MOST_BYTES, MOST_LINE};
+use highboyrobin::{book_least, classes, judge, needs, reason, sentence, write};
+use highboyrobin::{Book, Job, NeedLine, Reason, Refused, Row};
+use highboyrobin::{LONGEST_LENGTH, MOST_BYTES, MOST_LINE};
 
 fn main() -> Result<(), Refused> {
     let memories = [8, 4];
-    let jobs = [
-        Job {
-            time: 3,
-            due: 3,
-            need: 8,
-            maker: 1,
-        },
-        Job {
-            time: 3,
-            due: 3,
-            need: 4,
-            maker: 2,
-        },
-        Job {
-            time: 2,
-            due: 4,
-            need: 2,
-            maker: 2,
-        },
-    ];
+    let table = [(1, 2, 2), (3, 3, 4), (4, LONGEST_LENGTH, 8)];
+    let table = table.map(|(from, to, need)| NeedLine { from, to, need });
+    let jobs = [(4, 4, 1), (3, 3, 2), (2, 4, 2)];
+    let mut jobs = jobs.map(|(time, due, maker)| Job {
+        time,
+        due,
+        need: 0,
+        maker,
+    });
+    let mut filled = [0; 3];
+    needs(&table, &jobs.map(|job| job.time), &mut filled)?;
+    for (number, (job, need)) in (1..).zip(jobs.iter_mut().zip(filled)) {
+        job.need = need;
+        println!("job {number} of time {} needs {need}", job.time);
+    }
     let mut bytes = [0; MOST_BYTES];
     let length = write(&memories, &jobs, &mut bytes)?;
     let file = &bytes[..length];

@@ -21,6 +21,11 @@ pub const MOST_BOOKED: u32 = 4_000_000_000;
 /// The largest ready minute, opening and closing.
 pub const MOST_MINUTE: u32 = 1_000_000;
 
+/// The lines of a table of needs that count, the longest length, the most lengths of a call.
+pub const TABLE_LINES: usize = 32;
+pub const LONGEST_LENGTH: u32 = 100_000;
+pub const MOST_LENGTHS: usize = 16_777_215;
+
 /// The functions of the archive, as `highboyrobin.h` declares them. A slice is a pointer and a length in elements.
 pub mod raw {
     unsafe extern "C" {
@@ -149,6 +154,16 @@ pub mod raw {
             answer: *mut i32,
             answer_length: usize,
         ) -> u32;
+        pub fn hbr_needs(
+            table: *const u32,
+            table_length: usize,
+            lengths: *const u32,
+            lengths_length: usize,
+            needs: *mut u32,
+            needs_length: usize,
+            answer: *mut i32,
+            answer_length: usize,
+        ) -> u32;
         pub fn hbr_write(
             memories: *const u32,
             memories_length: usize,
@@ -190,8 +205,17 @@ pub struct Window {
     pub closes: u32,
 }
 
-/// Why a call was refused: the number of `highboyrobin.h`, and the job that it is about, of 16 the processor, 0 where it is about
-/// none.
+/// A line of a table of needs: the lengths from `from` to `to`, both included, have this need.
+#[repr(C)]
+#[derive(Clone, Copy, Debug, PartialEq, Eq)]
+pub struct NeedLine {
+    pub from: u32,
+    pub to: u32,
+    pub need: u32,
+}
+
+/// Why a call was refused: the number of `highboyrobin.h`, and the job that it is about, of 16 the processor, of 17 and 18 the
+/// length, of 5 from `needs` the place in the list, 0 where it is about none.
 #[derive(Clone, Copy, Debug, PartialEq, Eq)]
 pub struct Refused {
     pub number: u32,
@@ -206,7 +230,7 @@ impl Refused {
             2 => "the order has over 16 processors",
             3 => "the order has no job",
             4 => "the order has over 48 jobs",
-            5 => "a job's time is not 1 to 100,000",
+            5 => "a job's time, or a listed length, is not 1 to 100,000",
             6 => "a due time is not -1,000,000 to 1,000,000",
             7 => "a job fits no processor",
             8 => "the bound is not -10,000,000 to 10,000,000",
@@ -218,7 +242,9 @@ impl Refused {
             14 => "a count of the book would be over 4,000,000,000",
             15 => "a ready minute is not 0 to 1,000,000",
             16 => "a window is not in 0 to 1,000,000, or does not close after it opens",
-            253 => "the reason has under 19 numbers, the book under 16, the classes under 32, or the times are not one to each job and processor",
+            17 => "no line of the table of needs meets a length",
+            18 => "two lines of the table of needs meet a length",
+            253 => "the reason has under 19 numbers, the book under 16, the classes under 32, the times are not one to each job and processor, or over 16,777,215 lengths are listed",
             254 => "the numbers of the jobs are not four to a job",
             255 => "the answer is too short",
             _ => "no refusal has this number",
@@ -226,13 +252,14 @@ impl Refused {
     }
 }
 
-/// Number, job or processor where it is about one, and words: `refusal 7 of job 2: a job fits no processor`.
+/// Number, job, processor or length where it is about one, and words: `refusal 7 of job 2: a job fits no processor`.
 impl core::fmt::Display for Refused {
     fn fmt(&self, out: &mut core::fmt::Formatter<'_>) -> core::fmt::Result {
         let (number, job, words) = (self.number, self.job, self.words());
         match (number, job) {
             (_, 0) => write!(out, "refusal {number}: {words}"),
             (16, _) => write!(out, "refusal {number} of processor {job}: {words}"),
+            (17 | 18, _) => write!(out, "refusal {number} of length {job}: {words}"),
             _ => write!(out, "refusal {number} of job {job}: {words}"),
         }
     }
@@ -641,6 +668,28 @@ pub fn timed_check(
         )
     })?;
     Ok(answer[0] == 1)
+}
+
+/// The needs of listed lengths, from `needs[0]` on, each from the line of the table that meets it; their number. The first
+/// `TABLE_LINES` lines count, in any order, and each length from 1 to `LONGEST_LENGTH` must be met by exactly one of them.
+/// Refusals: 253 over `MOST_LENGTHS` lengths, 17, 18, 5 with the place in the list, 9.
+pub fn needs(table: &[NeedLine], lengths: &[u32], needs: &mut [u32]) -> Result<usize, Refused> {
+    let mut answer = [0; 1];
+    let (line, numbers) = (table.as_ptr().cast(), table.len() * 3);
+    let (at, length) = (needs.as_mut_ptr(), needs.len());
+    told(unsafe {
+        raw::hbr_needs(
+            line,
+            numbers,
+            lengths.as_ptr(),
+            lengths.len(),
+            at,
+            length,
+            answer.as_mut_ptr(),
+            answer.len(),
+        )
+    })?;
+    Ok(answer[0] as usize)
 }
 
 /// Writes the order file of an order; its length. Refusals: 1 to 6, 13, 7, 9.

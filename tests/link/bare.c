@@ -1,5 +1,6 @@
-/* The archive without a C library: this program brings its own memcpy and memset. Order C has the least lateness -8; its job, ready
- * at 5 on a processor that is open up to 100, runs from 5 to 8 at -3; it has one class, one processor of memory 4. Linux on x86-64. */
+/* The archive without a C library: this program brings its own memcpy and memset. Order C, its need from a table, has the least
+ * lateness -8; its job, ready at 5 on a processor that is open up to 100, runs from 5 to 8 at -3; it has one class, one processor
+ * of memory 4. Linux on x86-64. */
 #include "../../link/highboyrobin.h"
 
 void *memcpy(void *to, const void *from, size_t count) {
@@ -16,12 +17,14 @@ void *memset(void *to, int value, size_t count) {
 
 /* 0 where all is as it should be */
 int begin(void) {
-  const uint32_t memories[] = {4};
-  const uint32_t jobs[] = {3, 10, 4, 1};
+  const uint32_t memories[] = {4}, table[] = {3, HBR_LONGEST_LENGTH, 4, 1, 2, 9};
+  uint32_t jobs[] = {3, 10, 0, 1};
   const uint32_t ready[] = {5}, windows[] = {0, 100};
   static uint8_t file[HBR_MOST_BYTES];
   static uint32_t rows[16], book[HBR_MOST_MAKERS], classes[2 * HBR_MOST_CLASSES];
   int32_t length[HBR_WRITE_ANSWER], least[HBR_LEAST_ANSWER], asked[HBR_TIMED_ROWS_ANSWER];
+  if (hbr_needs(table, 6, &jobs[0], 1, &jobs[2], 1, asked, HBR_NEEDS_ANSWER) != 0 || asked[0] != 1 || jobs[2] != 4)
+    return 12;
   if (hbr_write(memories, 1, jobs, 4, file, sizeof file, length, HBR_WRITE_ANSWER) != 0)
     return 1;
   if (hbr_least(file, (size_t)length[0], rows, 4, least, HBR_LEAST_ANSWER) != 0)

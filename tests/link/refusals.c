@@ -14,6 +14,8 @@ static uint32_t memories[HBR_MOST_PROCESSORS + 1];
 static uint32_t jobs[4 * (HBR_MOST_JOBS + 1)];
 static uint32_t book[HBR_MOST_MAKERS + 1];
 static uint32_t kept_book[HBR_MOST_MAKERS + 1];
+static uint32_t lengths[HBR_MOST_LENGTHS + 1];
+static uint32_t needs[3];
 static int wrong;
 
 static void fill(void) {
@@ -21,6 +23,7 @@ static void fill(void) {
   memset(rows, KEPT, sizeof rows);
   memset(classes, KEPT, sizeof classes);
   memset(line, KEPT, sizeof line);
+  memset(needs, KEPT, sizeof needs);
 }
 
 /* every count of the book is this one, but for that of one maker; the number after the sixteenth is not a count */
@@ -39,10 +42,10 @@ static int as_filled(const void *buffer, size_t size) {
   return 1;
 }
 
-/* the result is this refusal of this job, and answer, rows, classes, line and book are as they were filled */
+/* the result is this refusal of this job, and answer, rows, classes, line, needs and book are as they were filled */
 static void refused(uint32_t result, uint32_t number, uint32_t job) {
   int kept = as_filled(answer, sizeof answer) && as_filled(rows, sizeof rows) && as_filled(classes, sizeof classes) &&
-             as_filled(line, sizeof line) && memcmp(book, kept_book, sizeof book) == 0;
+             as_filled(line, sizeof line) && as_filled(needs, sizeof needs) && memcmp(book, kept_book, sizeof book) == 0;
   if (hbr_number(result) != number || hbr_job(result) != job || !kept) {
     printf("refusal %u of job %u: got %u of job %u, %s\n", number, job, hbr_number(result), hbr_job(result),
            kept ? "nothing written" : "something written");
@@ -179,6 +182,33 @@ static void of_times(size_t length) {
           0);
 }
 
+/* the refusals of the needs from a table, in the order in which they are told: each where all that follow hold too; and the needs
+ * of two lengths, after which nothing is written */
+static void of_needs(void) {
+  const uint32_t last = HBR_LONGEST_LENGTH;
+  const uint32_t gap[] = {1, 10, 4, 10, 50, 6, 52, last, 8}, twice[] = {1, 10, 4, 10, last, 8};
+  const uint32_t outside[] = {0, last, 4}, backwards[] = {last, 1, 4}, good[] = {30001, last, 8, 1, 30000, 4};
+  const size_t most = HBR_MOST_LENGTHS;
+  fill();
+  refused(hbr_needs(gap, 9, lengths, most + 1, needs, 1, answer, HBR_NEEDS_ANSWER - 1), HBR_SHORT_ANSWER, 0);
+  refused(hbr_needs(gap, 9, lengths, most + 1, needs, 1, answer, HBR_NEEDS_ANSWER), HBR_LONG_LIST, 0);
+  refused(hbr_needs(gap, 9, lengths, most, needs, 1, answer, HBR_NEEDS_ANSWER), HBR_LENGTH_UNMET, 51);
+  refused(hbr_needs(outside, 3, lengths, 2, needs, 1, answer, HBR_NEEDS_ANSWER), HBR_LENGTH_UNMET, 1);
+  refused(hbr_needs(backwards, 3, lengths, 2, needs, 1, answer, HBR_NEEDS_ANSWER), HBR_LENGTH_UNMET, 1);
+  refused(hbr_needs(good, 5, lengths, 2, needs, 1, answer, HBR_NEEDS_ANSWER), HBR_LENGTH_UNMET, 1);
+  refused(hbr_needs(twice, 6, lengths, 2, needs, 1, answer, HBR_NEEDS_ANSWER), HBR_LENGTH_MET_TWICE, 10);
+  for (size_t k = 0; k < most; k++)
+    lengths[k] = k + 1 < most ? 30000 : last + 1;
+  refused(hbr_needs(good, 6, lengths, most, needs, 1, answer, HBR_NEEDS_ANSWER), HBR_TIME_OUT_OF_RANGE, HBR_MOST_LENGTHS);
+  refused(hbr_needs(good, 6, lengths, 2, needs, 1, answer, HBR_NEEDS_ANSWER), HBR_BUFFER_TOO_SHORT, 0);
+  lengths[1]++;
+  if (hbr_needs(good, 6, lengths, 2, needs, 3, answer, HBR_NEEDS_ANSWER) != 0 || answer[0] != 2 || needs[0] != 4 || needs[1] != 8 ||
+      !as_filled(&needs[2], sizeof needs[2])) {
+    printf("the needs of lengths 30000 and 30001 are wrong\n");
+    wrong++;
+  }
+}
+
 /* the refusals of a call on an accepted order: memory 4, job (3, 10, 4) */
 static void of_calls(void) {
   if (write(1, 4, 1, 3, 10, 4) != 0)
@@ -204,6 +234,7 @@ int main(void) {
   memset(file, KEPT, sizeof file);
   of_orders();
   of_calls();
+  of_needs();
   printf("refusals: %d wrong\n", wrong);
   return wrong != 0;
 }

@@ -6,8 +6,9 @@ mod highboyrobin;
 use highboyrobin::{
     book_least, book_plan, check, classes, judge, least, parse, plan, reason, sentence, write,
 };
-use highboyrobin::{timed_check, timed_plan, timed_rows};
-use highboyrobin::{Book, Class, Job, Least, Reason, Refused, Row, Sizes, Window};
+use highboyrobin::{needs, timed_check, timed_plan, timed_rows};
+use highboyrobin::{Book, Class, Job, Least, NeedLine, Reason, Refused, Row, Sizes, Window};
+use highboyrobin::{LONGEST_LENGTH, MOST_LENGTHS, TABLE_LINES};
 use highboyrobin::{MOST_BOOKED, MOST_BYTES, MOST_LINE, MOST_MAKERS, MOST_MINUTE, MOST_TIMED_ROWS};
 
 const KEPT: Row = Row {
@@ -297,6 +298,52 @@ fn times_refused(c: &[u8], d: &[u8]) {
     }
 }
 
+// the line of these three numbers
+fn line([from, to, need]: [u32; 3]) -> NeedLine {
+    NeedLine { from, to, need }
+}
+
+// document 02's needs of two lengths, with lines in either order; 32 lines count; an empty list
+fn needs_of_lengths() {
+    let mut table = [[1, 30_000, 4], [30_001, LONGEST_LENGTH, 8]].map(line);
+    for _ in 0..2 {
+        let mut filled = [7; 3];
+        assert_eq!(needs(&table, &[30_000, 30_001], &mut filled), Ok(2));
+        assert_eq!(filled, [4, 8, 7]);
+        assert_eq!(needs(&table, &[], &mut []), Ok(0));
+        table.reverse();
+    }
+    let even = |place: u32| line([1 + 3_125 * place, 3_125 * (place + 1), u32::MAX - place]);
+    let mut lines: Vec<NeedLine> = (0..TABLE_LINES as u32).map(even).collect();
+    lines.push(line([1, 1, 7]));
+    let mut filled = [7; 2];
+    assert_eq!(needs(&lines, &[LONGEST_LENGTH, 1], &mut filled), Ok(2));
+    assert_eq!(filled, [u32::MAX - 31, u32::MAX]);
+    needs_refused();
+}
+
+// 253, 17, 18, 5 and 9, each where all that follow hold too
+fn needs_refused() {
+    let gap = [[1, 10, 0], [10, 50, 0], [52, LONGEST_LENGTH, 0]].map(line);
+    let twice = [[1, 10, 0], [10, LONGEST_LENGTH, 0]].map(line);
+    let whole = [line([1, LONGEST_LENGTH, 0])];
+    let long = vec![0; MOST_LENGTHS + 1];
+    let listed = [1, LONGEST_LENGTH + 1, 0];
+    let cases: [(&[NeedLine], &[u32], Refused); 6] = [
+        (&gap, &long, refused(253, 0)),
+        (&gap, &listed, refused(17, 51)),
+        (&[], &listed, refused(17, 1)),
+        (&twice, &listed, refused(18, 10)),
+        (&whole, &listed, refused(5, 2)),
+        (&whole, &[1, LONGEST_LENGTH], refused(9, 0)),
+    ];
+    for (table, lengths, told) in cases {
+        let mut filled = [7; 1];
+        assert_eq!(needs(table, lengths, &mut filled), Err(told));
+        assert_eq!(filled, [7]);
+    }
+}
+
 // number and words of each row of the table of refusals
 fn table() -> Vec<(u32, &'static str)> {
     let page = include_str!("../../docs/LINKING.md");
@@ -317,24 +364,28 @@ fn words() {
     let table = table();
     let mut numbers: Vec<u32> = table.iter().map(|row| row.0).collect();
     numbers.sort();
-    let all = (1..=16).chain([253, 254, 255]).collect::<Vec<u32>>();
+    let all = (1..=18).chain([253, 254, 255]).collect::<Vec<u32>>();
     assert_eq!(numbers, all);
     for (number, words) in table {
         let plain: Box<dyn std::error::Error> = refused(number, 0).into();
         assert_eq!(plain.to_string(), format!("refusal {number}: {words}"));
         let of_one = refused(number, 12).to_string();
-        let one = if number == 16 { "processor" } else { "job" };
+        let one = match number {
+            16 => "processor",
+            17 | 18 => "length",
+            _ => "job",
+        };
         assert_eq!(of_one, format!("refusal {number} of {one} 12: {words}"));
     }
     let empty = job((0, 5, 1));
     let told = write(&[4], &[empty], &mut [0; MOST_BYTES]).unwrap_err();
     assert_eq!(
         told.to_string(),
-        "refusal 5 of job 1: a job's time is not 1 to 100,000"
+        "refusal 5 of job 1: a job's time, or a listed length, is not 1 to 100,000"
     );
     assert_eq!(
-        refused(17, 0).to_string(),
-        "refusal 17: no refusal has this number"
+        refused(19, 0).to_string(),
+        "refusal 19: no refusal has this number"
     );
 }
 
@@ -347,6 +398,7 @@ fn main() {
     line_of_b();
     books();
     times();
+    needs_of_lengths();
     words();
     println!("wrapper: every function answers as it should");
 }

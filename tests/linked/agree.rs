@@ -3,11 +3,12 @@
 //! search minute by minute, its plans against the four rules, its joined rows against its rows as
 //! laid out, its files against their reader, its two readers of lines against each other, its books
 //! against the orders, its two ways to list classes against each other, its plans with ready minutes
-//! and windows against a search with them.
+//! and windows against a search with them, its tables of needs against their ends.
 
 mod books;
 mod classes;
 mod joins;
+pub mod needs;
 mod times;
 
 use crate::draw::lines::changed;

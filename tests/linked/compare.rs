@@ -24,6 +24,10 @@ pub fn wrong(
     if result != told {
         return Some(format!("result {result}, not {told} (refusal + 256 × job)"));
     }
+    // a refused call writes nothing
+    if told != 0 {
+        return unequal(before, after);
+    }
     let mut should = before.clone();
     match expected {
         Expected::Refused(_) => {}
@@ -39,6 +43,10 @@ pub fn wrong(
         Expected::Line(line) => {
             should.line.put(line.as_bytes());
             should.answer.put(&[line.len() as i32]);
+        }
+        Expected::Needs(needs) => {
+            should.needs.put(needs);
+            should.answer.put(&[needs.len() as i32]);
         }
         Expected::Plan {
             bound,
@@ -147,6 +155,9 @@ fn unequal(should: &Call, is: &Call) -> Option<String> {
         ("book", is.book.unequal_at(&should.book)),
         ("reason", is.reason.unequal_at(&should.reason)),
         ("line", is.line.unequal_at(&should.line)),
+        ("table", is.table.unequal_at(&should.table)),
+        ("lengths", is.lengths.unequal_at(&should.lengths)),
+        ("needs", is.needs.unequal_at(&should.needs)),
         ("answer", is.answer.unequal_at(&should.answer)),
     ];
     let (name, place) = buffers.iter().find(|(_, place)| place.is_some())?;

@@ -1,5 +1,5 @@
 //! Seeded draws: the same seed gives the same memories, orders, files, row lists, reasons, lines,
-//! books, times and buffers on every machine.
+//! books, times, tables of needs and buffers on every machine.
 
 pub mod books;
 pub mod bounds;
@@ -11,6 +11,7 @@ pub mod lines;
 pub mod lists;
 pub mod makers;
 pub mod memories;
+pub mod needs;
 pub mod orders;
 mod packed;
 pub mod reasons;

@@ -1,12 +1,13 @@
 //! What a call must answer, wholly by the independent implementation. "Of several refusals that
 //! apply the first is told": 255, 254 or 253, 12, then 1 to 11 upwards with 13 right after 6, 15 and 16
-//! right before 8, and 14 last of all; but 253 of ready minutes and windows comes after 12.
+//! right before 8, and 14 last of all; but 253 of ready minutes and windows comes after 12, and 17 and 18
+//! of a table of needs before 5.
 
 use crate::independent::{
     self, Job, Order, Reason, Refusal, Times, MAKERS, MOST_ROWS, MOST_TIMED_ROWS,
 };
 use crate::lent::Call;
-use crate::library::{Function, CLASS_NUMBERS, REASON_NUMBERS};
+use crate::library::{Function, CLASS_NUMBERS, MOST_LENGTHS, REASON_NUMBERS};
 use std::ops::RangeInclusive;
 
 const BOUNDS: RangeInclusive<i32> = -10_000_000..=10_000_000;
@@ -30,6 +31,8 @@ pub enum Expected {
     File(Vec<u8>),
     /// These bytes in the line, and their count in the answer.
     Line(String),
+    /// These needs, and their count in the answer.
+    Needs(Vec<u32>),
 }
 
 /// The order of the file that was read last, and its least lateness once that was asked for.
@@ -77,6 +80,9 @@ pub fn expected(function: Function, call: &Call, known: &mut Known) -> Expected 
     if function == Function::Write {
         return written(call);
     }
+    if function == Function::Needs {
+        return needs(call);
+    }
     if function == Function::Classes && call.classes.len() < CLASS_NUMBERS {
         return refused(253, 0);
     }
@@ -113,6 +119,18 @@ fn written(call: &Call) -> Expected {
         return refused(9, 0);
     }
     Expected::File(file)
+}
+
+/// The needs of the lengths lent to hbr_needs.
+fn needs(call: &Call) -> Expected {
+    let (table, lengths) = (call.table.content(), call.lengths.content());
+    if lengths.len() > MOST_LENGTHS {
+        return refused(253, 0);
+    }
+    match independent::needs_of(table, lengths, call.needs.len()) {
+        Err(refusal) => Expected::Refused(refusal),
+        Ok(needs) => Expected::Needs(needs),
+    }
 }
 
 /// The order of the lists lent to hbr_write.
@@ -188,6 +206,7 @@ fn answer(function: Function, call: &Call, known: &mut Known) -> Expected {
             let right = independent::right(known.order(), bound.into(), call.rows.content());
             Expected::Answer(vec![right.into()])
         }
+        Function::Needs => needs(call),
         Function::Write => written(call),
         Function::TimedRows | Function::TimedPlan | Function::TimedCheck => {
             timed(function, call, known)

@@ -1,7 +1,7 @@
 //! Document 01's "Orders to try", the small examples of its refusal table and its order file of C,
 //! with the values that stand there, the leasts and the bounds one lower as document 02's §3 has
 //! them, each job of maker 1 as its §4 has it; the lines, the joined rows, the ends, the makers, the
-//! books, the classes, and the ready minutes and windows of document 02 in `fixed/`.
+//! books, the classes, the ready minutes and windows, and the needs of document 02 in `fixed/`.
 
 mod books;
 mod classes;
@@ -10,6 +10,7 @@ mod joins;
 mod kept;
 mod lines;
 mod makers;
+mod needs;
 mod others;
 mod times;
 mod untimed;
@@ -64,7 +65,8 @@ fn d() -> Order {
     order(&[8, 8], &[(1, 4, 1); 3])
 }
 
-/// Puts all fixed cases before the library, but those with ready minutes and windows.
+/// Puts all fixed cases before the library, but those with ready minutes and windows and those with a
+/// table of needs.
 pub fn run(trial: &mut Trial) {
     trial.begin("document 01", 0);
     lateness(trial);
@@ -87,6 +89,18 @@ pub fn run(trial: &mut Trial) {
 pub fn run_timed(trial: &mut Trial) {
     trial.begin("document 02, times", 0);
     times::run(trial);
+}
+
+/// Puts the cases with a table of needs before the library.
+pub fn run_needs(trial: &mut Trial) {
+    trial.begin("document 02, needs", 0);
+    needs::run(trial);
+}
+
+/// Puts the longest lists of lengths before the library, and longer ones.
+pub fn run_long_lists(trial: &mut Trial) {
+    trial.begin("document 02, long lists", 0);
+    needs::long_lists(trial);
 }
 
 /// A call on the order's file, all of whose buffers are long enough, with a book just opened; jobs are

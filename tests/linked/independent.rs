@@ -1,7 +1,7 @@
 //! Documents 01 and 02 in plain Rust, made apart from the proved code and from their text alone:
 //! orders, order files, classes, right plans and their joining, the least lateness, reasons and their
-//! lines, books, plans with ready minutes and windows. Whether a bound is met is decided by a maximum flow,
-//! never by the staircase sums, so that each of the two can be held against the other.
+//! lines, books, plans with ready minutes and windows, needs from a table. Whether a bound is met is decided
+//! by a maximum flow, never by the staircase sums, so that each of the two can be held against the other.
 
 // a program that takes this module in may use only a part of it
 #![allow(dead_code, unused_imports)]
@@ -20,6 +20,8 @@ mod clip;
 mod flow;
 #[path = "independent/join.rs"]
 mod join;
+#[path = "independent/needs.rs"]
+mod needs;
 #[path = "independent/order_file.rs"]
 mod order_file;
 #[path = "independent/pairs.rs"]
@@ -45,6 +47,10 @@ pub use book::{booked, minutes_of, MAKERS, MOST_BOOKED};
 pub use classes::{class_list, Classes};
 pub use clip::{clipped, clipped_to, joins, joins_over};
 pub use join::{join, joined};
+pub use needs::{
+    counted_lines, good_line, is_length, judge_lengths, judge_lines, meets_length, need_of,
+    needs_of, times_met, Line, LONGEST_LENGTH, TABLE_LINES,
+};
 pub use order_file::{lists, read, write};
 pub use pairs::{join_pairs, left_to_join};
 pub use reading::{read_back, read_by_form, read_by_trying, taken_apart, true_of, Said, Sentence};
@@ -95,7 +101,7 @@ pub struct Order {
 pub type Row = [u32; 4];
 
 /// A refusal: its number in document 01's table or in document 02, and the job that it is about, of 16
-/// the processor, or 0.
+/// the processor, of 17 and 18 the length, in a list of lengths the place, or 0.
 #[derive(Clone, Copy, Debug, PartialEq)]
 pub struct Refusal {
     pub number: u32,

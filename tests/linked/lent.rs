@@ -33,6 +33,15 @@ impl<T: Copy + PartialEq> Lent<T> {
         }
     }
 
+    /// No buffer: the function does not take it.
+    pub fn none() -> Lent<T> {
+        Lent {
+            whole: Vec::new(),
+            begin: 0,
+            length: 0,
+        }
+    }
+
     pub fn content(&self) -> &[T] {
         &self.whole[self.begin..self.begin + self.length]
     }
@@ -77,7 +86,7 @@ impl<T: Copy + PartialEq> Lent<T> {
 }
 
 /// The arguments of a call. A function takes only those that the header names; the others are
-/// short.
+/// short, or none.
 #[derive(Clone)]
 pub struct Call {
     pub file: Lent<u8>,
@@ -91,6 +100,9 @@ pub struct Call {
     pub book: Lent<u32>,
     pub reason: Lent<i32>,
     pub line: Lent<u8>,
+    pub table: Lent<u32>,
+    pub lengths: Lent<u32>,
+    pub needs: Lent<u32>,
     pub answer: Lent<i32>,
 }
 
@@ -109,6 +121,9 @@ impl Call {
             book: Lent::filled(0, random, number),
             reason: Lent::filled(0, random, signed),
             line: Lent::filled(0, random, byte),
+            table: Lent::none(),
+            lengths: Lent::none(),
+            needs: Lent::none(),
             answer: Lent::filled(answer, random, signed),
         }
     }
@@ -125,6 +140,22 @@ impl Call {
             file: Lent::filled(file, random, byte),
             memories: Lent::holding(memories, random, number),
             jobs: Lent::holding(jobs, random, number),
+            ..Call::with_file(random, &[], answer)
+        }
+    }
+
+    /// A call of hbr_needs with this table and these lengths, and with room for so many needs.
+    pub fn with_table(
+        random: &mut Random,
+        table: &[u32],
+        lengths: &[u32],
+        room: usize,
+        answer: usize,
+    ) -> Call {
+        Call {
+            table: Lent::holding(table, random, number),
+            lengths: Lent::holding(lengths, random, number),
+            needs: Lent::filled(room, random, number),
             ..Call::with_file(random, &[], answer)
         }
     }

@@ -1,5 +1,5 @@
-//! The fourteen functions of the header: what they are called, how long their answers are, which
-//! refusals each can give, and a library as fourteen entries of one form.
+//! The fifteen functions of the header: what they are called, how long their answers are, which
+//! refusals each can give, and a library as fifteen entries of one form.
 
 use crate::lent::Call;
 
@@ -18,10 +18,11 @@ pub enum Function {
     TimedRows,
     TimedPlan,
     TimedCheck,
+    Needs,
     Write,
 }
 
-pub const FUNCTIONS: [Function; 14] = [
+pub const FUNCTIONS: [Function; 15] = [
     Function::Judge,
     Function::Classes,
     Function::Least,
@@ -35,6 +36,7 @@ pub const FUNCTIONS: [Function; 14] = [
     Function::TimedRows,
     Function::TimedPlan,
     Function::TimedCheck,
+    Function::Needs,
     Function::Write,
 ];
 
@@ -68,6 +70,9 @@ pub const REASON_NUMBERS: usize = 19;
 /// The numbers that a list of classes must have: two to each of 16.
 pub const CLASS_NUMBERS: usize = 32;
 
+/// The most lengths of a list: a result has no room for a later place.
+pub const MOST_LENGTHS: usize = 16_777_215;
+
 impl Function {
     pub fn name(self) -> &'static str {
         match self {
@@ -84,6 +89,7 @@ impl Function {
             Function::TimedRows => "hbr_timed_rows",
             Function::TimedPlan => "hbr_timed_plan",
             Function::TimedCheck => "hbr_timed_check",
+            Function::Needs => "hbr_needs",
             Function::Write => "hbr_write",
         }
     }
@@ -113,6 +119,7 @@ impl Function {
             Function::TimedRows => &[1, 2, 3, 4, 5, 6, 13, 7, 15, 16, 8, 12, 253, 255],
             Function::TimedPlan => &[1, 2, 3, 4, 5, 6, 13, 7, 15, 16, 8, 9, 10, 12, 253, 255],
             Function::TimedCheck => &[1, 2, 3, 4, 5, 6, 13, 7, 15, 16, 8, 11, 12, 253, 255],
+            Function::Needs => &[17, 18, 5, 9, 253, 255],
             Function::Write => &[1, 2, 3, 4, 5, 6, 13, 7, 9, 254, 255],
         }
     }
@@ -143,7 +150,12 @@ impl Function {
     }
 
     pub fn takes_bound(self) -> bool {
-        let without = [Function::Judge, Function::Classes, Function::Write];
+        let without = [
+            Function::Judge,
+            Function::Classes,
+            Function::Needs,
+            Function::Write,
+        ];
         !self.finds_least() && !without.contains(&self)
     }
 }
@@ -166,6 +178,7 @@ pub struct Library {
     pub timed_rows: Entry,
     pub timed_plan: Entry,
     pub timed_check: Entry,
+    pub needs: Entry,
     pub write: Entry,
 }
 
@@ -185,6 +198,7 @@ impl Library {
             Function::TimedRows => self.timed_rows,
             Function::TimedPlan => self.timed_plan,
             Function::TimedCheck => self.timed_check,
+            Function::Needs => self.needs,
             Function::Write => self.write,
         }
     }
@@ -205,6 +219,7 @@ impl Library {
             Function::TimedRows => &mut self.timed_rows,
             Function::TimedPlan => &mut self.timed_plan,
             Function::TimedCheck => &mut self.timed_check,
+            Function::Needs => &mut self.needs,
             Function::Write => &mut self.write,
         };
         *place = entry;

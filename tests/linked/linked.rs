@@ -19,6 +19,7 @@ pub const LINKED: Library = Library {
     timed_rows,
     timed_plan,
     timed_check,
+    needs,
     write,
 };
 
@@ -235,6 +236,25 @@ fn timed_check(call: &mut Call) -> u32 {
             windows_length,
             rows,
             rows_length,
+            answer,
+            answer_length,
+        )
+    }
+}
+
+fn needs(call: &mut Call) -> u32 {
+    let (table, table_length) = (call.table.pointer(), call.table.len());
+    let (lengths, lengths_length) = (call.lengths.pointer(), call.lengths.len());
+    let (needs, needs_length) = (call.needs.pointer_mut(), call.needs.len());
+    let (answer, answer_length) = (call.answer.pointer_mut(), call.answer.len());
+    unsafe {
+        raw::hbr_needs(
+            table,
+            table_length,
+            lengths,
+            lengths_length,
+            needs,
+            needs_length,
             answer,
             answer_length,
         )

@@ -56,9 +56,13 @@ fn main() -> ExitCode {
 fn compare_linked(times: u64) -> Result<String, String> {
     let agreed = agree::run(1_800 * times, 220 * times)?;
     println!("independent implementation: {agreed} orders agree");
+    let agreed = agree::needs::run(2_000 * times)?;
+    println!("independent implementation: {agreed} tables of needs agree");
     let mut trial = Trial::of(linked::LINKED);
     fixed::run(&mut trial);
     fixed::run_timed(&mut trial);
+    fixed::run_needs(&mut trial);
+    fixed::run_long_lists(&mut trial);
     let rounds = Rounds {
         small: 2_340 * times,
         large: 660 * times,
@@ -69,6 +73,7 @@ fn compare_linked(times: u64) -> Result<String, String> {
         books: 400 * times,
         times: 1_000 * times,
         large_times: 60 * times,
+        needs: 3_000 * times,
     };
     rounds::run(&mut trial, &rounds);
     if let Some(difference) = trial.difference {

@@ -1,4 +1,4 @@
-//! The independent implementation as a library of fourteen functions: what a linked library would do
+//! The independent implementation as a library of fifteen functions: what a linked library would do
 //! that does just what is expected. The wrong libraries are made from it.
 
 use crate::expect::{expected, Expected, Known};
@@ -20,6 +20,7 @@ pub const MODEL: Library = Library {
     timed_rows: |call| run(Function::TimedRows, call),
     timed_plan: |call| run(Function::TimedPlan, call),
     timed_check: |call| run(Function::TimedCheck, call),
+    needs: |call| run(Function::Needs, call),
     write: |call| run(Function::Write, call),
 };
 
@@ -57,6 +58,10 @@ fn run(function: Function, call: &mut Call) -> u32 {
         Expected::Line(line) => {
             call.line.put(line.as_bytes());
             call.answer.put(&[line.len() as i32]);
+        }
+        Expected::Needs(needs) => {
+            call.needs.put(&needs);
+            call.answer.put(&[needs.len() as i32]);
         }
     }
     0

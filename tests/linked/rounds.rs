@@ -1,9 +1,11 @@
 //! The drawn calls: accepted orders with bounds, row lists, reasons, lines and books around their
 //! least lateness, orders that are refused, doubtful files, lists for the writer, processors of few
-//! and of many memories, books that go through many calls, and orders with ready minutes and windows.
+//! and of many memories, books that go through many calls, orders with ready minutes and windows, and
+//! tables of needs.
 
 mod books;
 mod classes;
+mod needs;
 mod times;
 
 use crate::draw::bounds::Around;
@@ -32,11 +34,12 @@ pub struct Rounds {
     pub books: u64,
     pub times: u64,
     pub large_times: u64,
+    pub needs: u64,
 }
 
 /// Runs all parts, up to the first difference.
 pub fn run(trial: &mut Trial, rounds: &Rounds) {
-    let parts: [(&str, u64, fn(&mut Trial, u64)); 9] = [
+    let parts: [(&str, u64, fn(&mut Trial, u64)); 10] = [
         ("small orders", rounds.small, small_order),
         ("large orders", rounds.large, large_order),
         ("refused orders", rounds.refused, refused_order),
@@ -46,6 +49,7 @@ pub fn run(trial: &mut Trial, rounds: &Rounds) {
         ("books", rounds.books, books::sequence),
         ("times", rounds.times, times::small),
         ("times of large orders", rounds.large_times, times::large),
+        ("needs", rounds.needs, needs::any_table),
     ];
     for (part, times, round) in parts {
         for seed in 0..times {

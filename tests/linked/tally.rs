@@ -13,6 +13,7 @@ fn kinds(function: Function) -> &'static [&'static str] {
         Function::Reason | Function::Parse => &["none", "job", "level stairs", "falling stairs"],
         Function::Sentence => &["empty", "job", "stairs"],
         Function::Check | Function::TimedCheck => &["yes", "no"],
+        Function::Needs => &["of no length", "of up to 48", "of more"],
         _ => &["answered"],
     }
 }
@@ -49,6 +50,7 @@ impl Tally {
             Expected::Answer(numbers) => kind(function, numbers).to_string(),
             Expected::Classes(classes) => kind_of_classes(classes.len()).to_string(),
             Expected::Line(line) => kind_of_line(line).to_string(),
+            Expected::Needs(needs) => kind_of_needs(needs.len()).to_string(),
             _ => "answered".to_string(),
         };
         *self.counts.entry((function.name(), outcome)).or_insert(0) += 1;
@@ -180,6 +182,15 @@ fn kind_of_classes(count: usize) -> &'static str {
         1 => "one class",
         16 => "16 classes",
         _ => "several",
+    }
+}
+
+/// A list may be longer than any order's.
+fn kind_of_needs(count: usize) -> &'static str {
+    match count {
+        0 => "of no length",
+        1..=48 => "of up to 48",
+        _ => "of more",
     }
 }
 

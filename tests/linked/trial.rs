@@ -127,6 +127,17 @@ fn told(what: &str, call: &Call) -> String {
         ("book", call.book.len(), shown(&call.book.content())),
         ("reason", call.reason.len(), shown(&call.reason.content())),
         ("line", call.line.len(), shown(&text(call.line.content()))),
+        ("table", call.table.len(), shown(&call.table.content())),
+        (
+            "lengths",
+            call.lengths.len(),
+            shown(&beginning(call.lengths.content())),
+        ),
+        (
+            "needs",
+            call.needs.len(),
+            shown(&beginning(call.needs.content())),
+        ),
         ("answer", call.answer.len(), shown(&call.answer.content())),
     ];
     let line = |(name, length, content)| format!("\n  {name}, length {length}: {content}");
@@ -135,6 +146,11 @@ fn told(what: &str, call: &Call) -> String {
 
 fn text(line: &[u8]) -> String {
     String::from_utf8_lossy(line).into_owned()
+}
+
+/// As many numbers of a list as can be shown, and no millions.
+fn beginning(list: &[u32]) -> &[u32] {
+    &list[..list.len().min(LONG)]
 }
 
 /// A value as text, cut where it is very long.

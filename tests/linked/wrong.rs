@@ -37,7 +37,7 @@ macro_rules! of_one {
     };
 }
 
-/// A wrong thing of each of the fourteen functions, made likewise.
+/// A wrong thing of each of the fourteen functions that take an order, made likewise.
 macro_rules! of_all {
     ($with:ident, $type:ident: $($what:literal => $how:expr,)*) => {{
         const ALL: &[[Wrong; 14]] = &[$({
@@ -76,9 +76,13 @@ mod full;
 mod joins;
 mod kept;
 mod lines;
+mod long_lists;
 mod makers;
 mod marks;
 mod meeting;
+mod met;
+mod need_lists;
+mod needs;
 mod open;
 mod plans;
 mod ranges;
@@ -120,6 +124,12 @@ const TIMED_ROUNDS: Rounds = Rounds {
     ..NO_ROUNDS
 };
 
+/// The rounds with tables of needs.
+const NEED_ROUNDS: Rounds = Rounds {
+    needs: 200,
+    ..NO_ROUNDS
+};
+
 const NO_ROUNDS: Rounds = Rounds {
     small: 0,
     large: 0,
@@ -130,12 +140,26 @@ const NO_ROUNDS: Rounds = Rounds {
     books: 0,
     times: 0,
     large_times: 0,
+    needs: 0,
 };
+
+/// What a library is put before.
+#[derive(Clone, Copy)]
+enum Cases {
+    /// with ready minutes and windows
+    Timed,
+    /// with tables of needs
+    Needs,
+    /// with lists of millions of lengths
+    LongLists,
+    Others,
+}
 
 /// Puts the unbroken library and all wrong ones before the comparison; answers the last line.
 pub fn run() -> Result<String, String> {
-    for timed in [false, true] {
-        let (unbroken, calls) = tried(MODEL, timed);
+    let parts = [Cases::Others, Cases::Timed, Cases::Needs, Cases::LongLists];
+    for cases in parts {
+        let (unbroken, calls) = tried(MODEL, cases);
         if let Some(difference) = unbroken {
             return Err(format!(
                 "the unbroken library is called wrong: {difference}"
@@ -145,8 +169,8 @@ pub fn run() -> Result<String, String> {
     }
     let all = libraries();
     let mut missed = Vec::new();
-    for (name, library, timed) in &all {
-        let (difference, calls) = tried(*library, *timed);
+    for (name, library, cases) in &all {
+        let (difference, calls) = tried(*library, *cases);
         match difference {
             Some(_) => println!("caught at call {calls}: {name}"),
             None => missed.push(name.as_str()),
@@ -158,8 +182,8 @@ pub fn run() -> Result<String, String> {
     Err(format!("broken: NOT caught: {}", missed.join("; ")))
 }
 
-/// All wrong libraries, each with what is wrong with it, and whether that is about times.
-fn libraries() -> Vec<(String, Library, bool)> {
+/// All wrong libraries, each with what is wrong with it, and what it is put before.
+fn libraries() -> Vec<(String, Library, Cases)> {
     let parts = [
         buffers::WRONG,
         refusals::WRONG,
@@ -175,7 +199,7 @@ fn libraries() -> Vec<(String, Library, bool)> {
         checks::WRONG,
         ends::WRONG,
     ];
-    let parts = [
+    let others = [
         &parts,
         makers::PARTS,
         forms::PARTS,
@@ -196,31 +220,46 @@ fn libraries() -> Vec<(String, Library, bool)> {
         kept::PARTS,
     ]
     .concat();
-    let of_times = of_times.concat().into_iter().map(|wrong| (wrong, true));
-    let in_one = parts.concat().into_iter().map(|wrong| (wrong, false));
-    let in_one = in_one.chain(of_times);
-    let in_one = in_one.map(|((function, what, entry), timed)| {
-        let name = format!("{} {what}", function.name());
-        (name, MODEL.with(function, entry), timed)
-    });
+    let of_needs = [needs::PARTS, met::PARTS, need_lists::PARTS].concat();
+    let in_one = in_one_function(&others, Cases::Others);
+    let of_times = in_one_function(&of_times, Cases::Timed);
+    let of_needs = in_one_function(&of_needs, Cases::Needs);
+    let of_long_lists = in_one_function(long_lists::PARTS, Cases::LongLists);
     let in_several = [ends::LIBRARIES, books::LIBRARIES].concat();
     let in_several = in_several.into_iter().map(|(what, library)| {
         let name = format!("the library {what}");
-        (name, library, false)
+        (name, library, Cases::Others)
     });
-    in_one.chain(in_several).collect()
+    let in_several = in_several.collect();
+    [in_one, of_times, of_needs, of_long_lists, in_several].concat()
 }
 
-/// The difference that is found in a library, if any, and the number of calls made: by the cases with
-/// ready minutes and windows, or by all others.
-fn tried(library: Library, timed: bool) -> (Option<String>, u64) {
+/// The libraries that are wrong in one function, which are put before these cases.
+fn in_one_function(parts: &[&[Wrong]], cases: Cases) -> Vec<(String, Library, Cases)> {
+    let library = |&(function, what, entry): &Wrong| {
+        let name = format!("{} {what}", function.name());
+        (name, MODEL.with(function, entry), cases)
+    };
+    parts.concat().iter().map(library).collect()
+}
+
+/// The difference that is found in a library, if any, and the number of calls made, by these cases.
+fn tried(library: Library, cases: Cases) -> (Option<String>, u64) {
     let mut trial = Trial::of(library);
-    if timed {
-        fixed::run_timed(&mut trial);
-        rounds::run(&mut trial, &TIMED_ROUNDS);
-    } else {
-        fixed::run(&mut trial);
-        rounds::run(&mut trial, &ROUNDS);
+    match cases {
+        Cases::Timed => {
+            fixed::run_timed(&mut trial);
+            rounds::run(&mut trial, &TIMED_ROUNDS);
+        }
+        Cases::Needs => {
+            fixed::run_needs(&mut trial);
+            rounds::run(&mut trial, &NEED_ROUNDS);
+        }
+        Cases::LongLists => fixed::run_long_lists(&mut trial),
+        Cases::Others => {
+            fixed::run(&mut trial);
+            rounds::run(&mut trial, &ROUNDS);
+        }
     }
     (trial.difference, trial.tally.calls)
 }

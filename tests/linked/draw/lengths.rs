@@ -99,6 +99,19 @@ pub fn reason_length(random: &mut Random) -> usize {
     }
 }
 
+/// Mostly enough room for so many needs: exactly, or more; sometimes none, or one or more too few.
+pub fn need_room(random: &mut Random, exact: usize) -> usize {
+    match random.below(16) {
+        0 => 0,
+        1 => exact.saturating_sub(1),
+        2 => random.below(exact + 1),
+        3..=5 => exact + 1,
+        6..=7 => exact + random.below(50),
+        8 => random.pick(&[256, 256, 256, 65_536]),
+        _ => exact,
+    }
+}
+
 /// Mostly so many ready minutes, or numbers of windows, as there must be; sometimes none, or some too
 /// few, or too many, or as many as an order may need at most.
 pub fn times_length(random: &mut Random, exact: usize) -> usize {

@@ -11,7 +11,7 @@ use crate::draw::{books, reasons, times, Random};
 use crate::expect::reason_numbers;
 use crate::independent::{plan, read, rows_asked, timed_rows_asked, Order, MAKERS};
 use crate::lent::{job_numbers, Call};
-use crate::library::{Function, CLASS_NUMBERS, FUNCTIONS};
+use crate::library::{Function, CLASS_NUMBERS, READERS};
 use crate::trial::Trial;
 use std::collections::BTreeMap;
 
@@ -82,12 +82,13 @@ fn subject(trial: &mut Trial) -> Subject {
     }
 }
 
-/// Mostly one that books.
+/// Mostly one that books, else any that takes an order.
 fn any_function(random: &mut Random) -> Function {
+    let any = [&READERS[..], &[Function::Write]].concat();
     match random.below(5) {
         0..=1 => Function::BookLeast,
         2..=3 => Function::BookPlan,
-        _ => random.pick(&FUNCTIONS),
+        _ => random.pick(&any),
     }
 }
 
