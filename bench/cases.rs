@@ -1,10 +1,11 @@
-//! The cases: a file of each drawn order, its least lateness, a looser bound, plans to check, and a
-//! reason with its line.
+//! The cases: a file of each drawn order, its least lateness, a looser bound, plans to check, a reason
+//! with its line, and a table of needs.
 
 use crate::families::{FAMILIES, ORDERS_EACH};
 use crate::orders::Order;
 use crate::plain;
 use crate::random::Random;
+use crate::tables::{self, Table};
 use crate::timed::Timed;
 
 pub struct Case {
@@ -20,6 +21,7 @@ pub struct Case {
     /// the reason one minute below the least lateness, and its line
     pub reason: [i32; 19],
     pub line: Vec<u8>,
+    pub table: Table,
     /// ready minutes and windows, where the case is about these
     pub times: Option<Timed>,
 }
@@ -71,6 +73,7 @@ pub fn case_of(order: &Order, family: &'static str) -> Case {
     let [least, count] = answer;
     rows.truncate(4 * count as usize);
     let (reason, line) = told(&file, least - 1);
+    let table = tables::draw(&file);
     Case {
         family,
         file,
@@ -80,6 +83,7 @@ pub fn case_of(order: &Order, family: &'static str) -> Case {
         long_plan: Vec::new(),
         reason,
         line,
+        table,
         times: None,
     }
 }

@@ -6,6 +6,7 @@ use crate::cases::{Case, LINE_MOST};
 use crate::independent::{self, MAKERS, MOST_BOOKED};
 use crate::numbers::{numbers_of, reason_of};
 use crate::subjects::{run, Buffers, Task, LIBRARY, PLAIN, TASKS};
+use crate::tables::{Table, LENGTHS, LONGEST};
 
 const BOUND_TOO_TIGHT: u32 = 10;
 const BOOK_FULL: u32 = 14;
@@ -29,6 +30,7 @@ pub fn compare(place: usize, case: &Case) {
     }
     check_judge(case, &order);
     check_classes(case, &order);
+    check_needs(case);
     check_least(case, &order);
     check_books(case, &order);
     check_tight(case, &order);
@@ -36,7 +38,7 @@ pub fn compare(place: usize, case: &Case) {
     check_plans(case, &order);
 }
 
-/// The library and its plain build give the same result, classes, rows, book, line and answer.
+/// The library and its plain build give the same result, classes, needs, rows, book, line and answer.
 pub fn same_answers(case: &Case, task: Task) {
     let mut ours = Buffers::new();
     let mut plain = Buffers::new();
@@ -49,6 +51,7 @@ pub fn same_answers(case: &Case, task: Task) {
     assert_eq!(result, 0, "an accepted order is refused");
     assert_eq!(ours.answer, plain.answer, "answers differ");
     assert_eq!(ours.classes, plain.classes, "classes differ");
+    assert_eq!(ours.needs, plain.needs, "needs differ");
     assert!(ours.rows == plain.rows, "rows differ");
     assert_eq!(ours.book, plain.book, "books differ");
     assert!(ours.line == plain.line, "lines differ");
@@ -70,6 +73,45 @@ fn check_classes(case: &Case, order: &independent::Order) {
     assert_eq!(buffers.answer[0] as usize, listed.len(), "classes differ");
     let numbers = &buffers.classes[..2 * listed.len()];
     assert_eq!(numbers, listed.concat(), "classes differ");
+}
+
+/// All three fill the same needs in, and tell the same refusal where a line is dropped, turned round or
+/// widened by one length at either end, a length is out of range or the room is one short.
+fn check_needs(case: &Case) {
+    let Table { numbers, lengths } = &case.table;
+    same_needs(numbers, lengths, LENGTHS);
+    same_needs(numbers, lengths, LENGTHS - 1);
+    same_needs(&numbers[3..], lengths, LENGTHS);
+    for place in (0..numbers.len()).step_by(3) {
+        let mut other = numbers.clone();
+        other.swap(place, place + 1);
+        same_needs(&other, lengths, LENGTHS);
+        other.swap(place, place + 1);
+        other[place] -= 1;
+        same_needs(&other, lengths, LENGTHS);
+        other[place] += 1;
+        other[place + 1] += 1;
+        same_needs(&other, lengths, LENGTHS);
+    }
+    for length in [0, LONGEST as u32 + 1] {
+        let mut other = lengths.clone();
+        other[LENGTHS / 2] = length;
+        same_needs(numbers, &other, LENGTHS - 1);
+    }
+}
+
+/// All three do the same with a table, lengths and room for so many needs.
+fn same_needs(table: &[u32], lengths: &[u32], room: usize) {
+    let expected = independent::needs_of(table, lengths, room);
+    let expected = expected.map_err(|refusal| refusal.number + 256 * refusal.job);
+    for functions in [LIBRARY, PLAIN] {
+        let (mut needs, mut answer) = (vec![0; room], [0]);
+        let told = match (functions.needs)(table, lengths, &mut needs, &mut answer) {
+            0 => Ok(needs[..answer[0] as usize].to_vec()),
+            result => Err(result),
+        };
+        assert_eq!(told, expected, "needs differ");
+    }
 }
 
 fn check_least(case: &Case, order: &independent::Order) {

@@ -21,6 +21,22 @@ pub fn classes(file: &[u8], classes: &mut [u32], answer: &mut [i32]) -> u32 {
     }
 }
 
+pub fn needs(table: &[u32], lengths: &[u32], needs: &mut [u32], answer: &mut [i32]) -> u32 {
+    // SAFETY: as above.
+    unsafe {
+        raw::hbr_needs(
+            table.as_ptr(),
+            table.len(),
+            lengths.as_ptr(),
+            lengths.len(),
+            needs.as_mut_ptr(),
+            needs.len(),
+            answer.as_mut_ptr(),
+            answer.len(),
+        )
+    }
+}
+
 pub fn least(file: &[u8], rows: &mut [u32], answer: &mut [i32]) -> u32 {
     // SAFETY: as above.
     unsafe {

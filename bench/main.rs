@@ -20,6 +20,7 @@ mod random;
 mod report;
 mod slow;
 mod subjects;
+mod tables;
 mod timed;
 mod worst;
 

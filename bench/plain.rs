@@ -1,11 +1,12 @@
 //! The library's method in plain Rust, for the benchmark to compare with: the same algorithms,
-//! tables and passes, each value computed once and handed on by reference. Thirteen functions of the
+//! tables and passes, each value computed once and handed on by reference. Fourteen functions of the
 //! C interface, with the same results.
 
 mod amounts;
 mod book;
 mod check;
 mod line;
+mod needs;
 mod order;
 mod read;
 mod recover;
@@ -28,6 +29,7 @@ const BOUND_MOST: i32 = 10_000_000;
 const ROWS_MOST: usize = 3024;
 const TIMED_ROWS_MOST: usize = 8064;
 const CLASS_NUMBERS: usize = 2 * order::MOST_PROCESSORS;
+const LENGTHS_MOST: usize = 16_777_215;
 
 const BOUND_OUT_OF_RANGE: Refusal = Refusal::plain(8);
 const BUFFER_TOO_SHORT: Refusal = Refusal::plain(9);
@@ -37,6 +39,7 @@ const BOOK_FULL: Refusal = Refusal::plain(14);
 const SHORT_BOOK: Refusal = Refusal::plain(253);
 const SHORT_CLASSES: Refusal = Refusal::plain(253);
 const SHORT_REASON: Refusal = Refusal::plain(253);
+const LONG_LIST: Refusal = Refusal::plain(253);
 const WRONG_TIMES: Refusal = Refusal::plain(253);
 const SHORT_ANSWER: Refusal = Refusal::plain(255);
 
@@ -48,6 +51,11 @@ pub fn judge(file: &[u8], answer: &mut [i32]) -> u32 {
 /// The classes of an order file in `classes`, memory and processors of each: the number of classes.
 pub fn classes(file: &[u8], classes: &mut [u32], answer: &mut [i32]) -> u32 {
     code(try_classes(file, classes, answer))
+}
+
+/// The needs of lengths in `needs`, from a table: their number.
+pub fn needs(table: &[u32], lengths: &[u32], needs: &mut [u32], answer: &mut [i32]) -> u32 {
+    code(try_needs(table, lengths, needs, answer))
 }
 
 /// The least lateness, with a plan that meets it in `rows`: the lateness, the number of rows.
@@ -198,6 +206,26 @@ fn try_classes(file: &[u8], classes: &mut [u32], answer: &mut [i32]) -> Result<(
         class[1] = found.processors[i];
     }
     answer[0] = found.count as i32;
+    Ok(())
+}
+
+fn try_needs(
+    table: &[u32],
+    lengths: &[u32],
+    needs: &mut [u32],
+    answer: &mut [i32],
+) -> Result<(), Refusal> {
+    ask_answer(answer, 1)?;
+    if LENGTHS_MOST < lengths.len() {
+        return Err(LONG_LIST);
+    }
+    let table = needs::Table::accept(table)?;
+    needs::accept_lengths(lengths)?;
+    let room = needs.get_mut(..lengths.len()).ok_or(BUFFER_TOO_SHORT)?;
+    for (need, length) in room.iter_mut().zip(lengths) {
+        *need = table.need_of(*length);
+    }
+    answer[0] = lengths.len() as i32;
     Ok(())
 }
 

@@ -1,6 +1,6 @@
 //! The stack that each call takes, in bytes: every call runs on a stack of its own, and the lowest byte that it changed is looked
-//! up. All drawn orders of the benchmark, those with ready minutes and windows too; calls that succeed and calls that are refused,
-//! at several bounds.
+//! up. All drawn orders of the benchmark with their tables of needs, those with ready minutes and windows too; calls that succeed and
+//! calls that are refused, at several bounds.
 
 #[allow(dead_code)]
 mod cases;
@@ -13,6 +13,7 @@ mod orders;
 #[allow(dead_code)]
 mod plain;
 mod random;
+mod tables;
 #[allow(dead_code)]
 mod timed;
 mod worst;
@@ -20,6 +21,7 @@ mod worst;
 use cases::{Case, CLASS_NUMBERS, LINE_MOST, ROWS_MOST, TIMED_ROWS_MOST};
 use highboyrobin::{raw, MOST_BYTES, MOST_MAKERS};
 use std::arch::asm;
+use tables::{Table, LENGTHS};
 use timed::Timed;
 
 const SEED: u64 = 2;
@@ -32,6 +34,7 @@ struct Function {
 const WRITE: Function = function("hbr_write", raw::hbr_write as *const ());
 const JUDGE: Function = function("hbr_judge", raw::hbr_judge as *const ());
 const CLASSES: Function = function("hbr_classes", raw::hbr_classes as *const ());
+const NEEDS: Function = function("hbr_needs", raw::hbr_needs as *const ());
 const CHECK: Function = function("hbr_check", raw::hbr_check as *const ());
 const PARSE: Function = function("hbr_parse", raw::hbr_parse as *const ());
 const SENTENCE: Function = function("hbr_sentence", raw::hbr_sentence as *const ());
@@ -43,10 +46,11 @@ const BOOK_LEAST: Function = function("hbr_book_least", raw::hbr_book_least as *
 const TIMED_ROWS: Function = function("hbr_timed_rows", raw::hbr_timed_rows as *const ());
 const TIMED_CHECK: Function = function("hbr_timed_check", raw::hbr_timed_check as *const ());
 const TIMED_PLAN: Function = function("hbr_timed_plan", raw::hbr_timed_plan as *const ());
-const FUNCTIONS: [Function; 14] = [
+const FUNCTIONS: [Function; 15] = [
     WRITE,
     JUDGE,
     CLASSES,
+    NEEDS,
     CHECK,
     PARSE,
     SENTENCE,
@@ -143,6 +147,7 @@ impl Call {
 struct Lent {
     file: Vec<u8>,
     classes: Vec<u32>,
+    needs: Vec<u32>,
     rows: Vec<u32>,
     line: Vec<u8>,
     /// opened
@@ -210,10 +215,36 @@ fn calls(case: &Case, lists: &[u32], lent: &mut Lent) -> Vec<Call> {
         let rows = lend(&mut lent.rows[..room]);
         add(LEAST, &[file.clone(), rows, answer.clone()], result);
     }
+    calls.extend(need_calls(case, lent));
     calls.extend(book_calls(case, lent));
     calls.extend(sentence_calls(case, lent));
     calls.extend(parse_calls(case, lent));
     calls
+}
+
+/// A length out of range, and a table that has one line twice.
+static NO_LENGTH: [u32; 1] = [0];
+static WHOLE_TWICE: [u32; 6] = [1, 100_000, 0, 1, 100_000, 0];
+
+/// The needs from a case's table, and those of no length; then refusals, also of a table that lacks a line.
+fn need_calls(case: &Case, lent: &mut Lent) -> Vec<Call> {
+    let Table { numbers, lengths } = &case.table;
+    let answer = lend(&mut lent.answer);
+    let unmet = 17 + 256 * numbers[0];
+    let given: [(&[u32], &[u32], usize, u32); 6] = [
+        (numbers, lengths, LENGTHS, 0),
+        (numbers, &[], 0, 0),
+        (numbers, lengths, LENGTHS - 1, 9),
+        (numbers, &NO_LENGTH, LENGTHS, 5 + 256),
+        (&numbers[3..], lengths, LENGTHS, unmet),
+        (&WHOLE_TWICE, lengths, LENGTHS, 18 + 256),
+    ];
+    let call = |(table, lengths, room, result)| {
+        let needs = lend(&mut lent.needs[..room]);
+        let arguments = [read(table), read(lengths), needs, answer.clone()];
+        Call::of(NEEDS, &arguments, result)
+    };
+    given.map(call).into()
 }
 
 /// Booked plans, each from the same book, which the calls add to; then refusals, with a full book too.
@@ -357,6 +388,7 @@ fn main() {
     let mut lent = Lent {
         file: vec![0; MOST_BYTES],
         classes: vec![0; CLASS_NUMBERS],
+        needs: vec![0; LENGTHS],
         rows: vec![0; 4 * TIMED_ROWS_MOST],
         line: vec![0; LINE_MOST],
         book: vec![0; MOST_MAKERS],

@@ -3,6 +3,7 @@
 
 use crate::cases::{Case, CLASS_NUMBERS, LINE_MOST, TIMED_ROWS_MOST};
 use crate::independent::{Order, Times, MAKERS};
+use crate::tables::{Table, LENGTHS};
 use crate::timed::Timed;
 use crate::{independent, library, numbers, plain};
 use std::hint::black_box;
@@ -11,6 +12,7 @@ use std::hint::black_box;
 pub struct Functions {
     pub judge: fn(&[u8], &mut [i32]) -> u32,
     pub classes: fn(&[u8], &mut [u32], &mut [i32]) -> u32,
+    pub needs: fn(&[u32], &[u32], &mut [u32], &mut [i32]) -> u32,
     pub least: fn(&[u8], &mut [u32], &mut [i32]) -> u32,
     pub plan: fn(&[u8], i32, &mut [u32], &mut [i32]) -> u32,
     pub book_least: fn(&[u8], &mut [u32], &mut [u32], &mut [i32]) -> u32,
@@ -27,6 +29,7 @@ pub struct Functions {
 pub const LIBRARY: Functions = Functions {
     judge: library::judge,
     classes: library::classes,
+    needs: library::needs,
     least: library::least,
     plan: library::plan,
     book_least: library::book_least,
@@ -43,6 +46,7 @@ pub const LIBRARY: Functions = Functions {
 pub const PLAIN: Functions = Functions {
     judge: plain::judge,
     classes: plain::classes,
+    needs: plain::needs,
     least: plain::least,
     plan: plain::plan,
     book_least: plain::book_least,
@@ -60,6 +64,7 @@ pub const PLAIN: Functions = Functions {
 pub enum Task {
     Judge,
     Classes,
+    Needs,
     Least,
     PlanAtLeast,
     PlanLooser,
@@ -76,9 +81,10 @@ pub enum Task {
     TimedCheckLong,
 }
 
-pub const TASKS: [(Task, &str); 12] = [
+pub const TASKS: [(Task, &str); 13] = [
     (Task::Judge, "judge a file"),
     (Task::Classes, "classes of a file"),
+    (Task::Needs, "needs of 48 lengths from a table of 32 lines"),
     (Task::Least, "least lateness with a plan"),
     (Task::PlanAtLeast, "plan at the least lateness"),
     (Task::PlanLooser, "plan at a looser bound"),
@@ -106,6 +112,7 @@ pub const TIMED_TASKS: [(Task, &str); 4] = [
 /// opened.
 pub struct Buffers {
     pub classes: [u32; CLASS_NUMBERS],
+    pub needs: [u32; LENGTHS],
     pub rows: Vec<u32>,
     pub book: [u32; MAKERS],
     pub line: Vec<u8>,
@@ -116,6 +123,7 @@ impl Buffers {
     pub fn new() -> Buffers {
         Buffers {
             classes: [0; CLASS_NUMBERS],
+            needs: [0; LENGTHS],
             rows: vec![0; 4 * TIMED_ROWS_MOST],
             book: [0; MAKERS],
             line: vec![0; LINE_MOST],
@@ -127,6 +135,7 @@ impl Buffers {
 pub fn run(functions: &Functions, task: Task, case: &Case, buffers: &mut Buffers) -> u32 {
     let Buffers {
         classes,
+        needs,
         rows,
         book,
         line,
@@ -138,6 +147,10 @@ pub fn run(functions: &Functions, task: Task, case: &Case, buffers: &mut Buffers
     match task {
         Task::Judge => (functions.judge)(file, answer),
         Task::Classes => (functions.classes)(file, classes, answer),
+        Task::Needs => {
+            let Table { numbers, lengths } = black_box(&case.table);
+            (functions.needs)(numbers, lengths, needs, answer)
+        }
         Task::Least => (functions.least)(file, rows, answer),
         Task::PlanAtLeast => (functions.plan)(file, case.least, rows, answer),
         Task::PlanLooser => (functions.plan)(file, case.looser, rows, answer),
@@ -177,8 +190,14 @@ fn run_timed(
     }
 }
 
-/// The independent implementation reads the file and does the task; it makes its own buffers.
+/// The independent implementation reads the file, or the table, and does the task; it makes its own
+/// buffers.
 pub fn run_independent(task: Task, case: &Case) {
+    if let Task::Needs = task {
+        let Table { numbers, lengths } = black_box(&case.table);
+        let needs = independent::needs_of(numbers, lengths, LENGTHS);
+        return drop(black_box(needs));
+    }
     let Ok(order) = independent::read(black_box(&case.file)) else {
         return;
     };

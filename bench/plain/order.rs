@@ -20,7 +20,7 @@ pub struct Order {
     pub jobs: [Job; MOST_JOBS],
 }
 
-/// A refusal's number, and the job that it is about or 0.
+/// A refusal's number, and the job, the length or the place in a list that it is about, or 0.
 pub struct Refusal {
     pub number: u32,
     pub job: u32,
@@ -31,7 +31,7 @@ impl Refusal {
         Refusal { number, job: 0 }
     }
 
-    /// A refusal about the job, or the processor, at a place, counted from 0.
+    /// A refusal about the job, the processor or the length at a place, counted from 0.
     pub fn about(number: u32, place: usize) -> Refusal {
         let job = place as u32 + 1;
         Refusal { number, job }
