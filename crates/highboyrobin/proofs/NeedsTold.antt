@@ -6,13 +6,12 @@ use native.Mathlib.Omega.{arith}
 use borrow.Author.Tests.{lt-ltb, le-ltb}
 use lib.IntN.{ℤ, pos}
 use lib.ListN.{length, drop}
-use Rattle.order.specs.Refusals.{TableRow, Verdict, accepted, refused, judge, answer, refusal, answerBy, leftBy}
+use Rattle.order.specs.Refusals.{TableRow, Verdict, refused, judge, answer, refusal, answerBy, leftBy}
 use Rattle.order.specs.Table.{carriedBy}
 use Rattle.order.specs.TableLaws.{refused-by, verdict-accepted}
 use Rattle.needs.specs.NeedTable.{needRows, needsOf}
 use Rattle.needs.specs.Told.{filledTold}
 use Rattle.needs.specs.declared.Filled.{Filled}
-use Rattle.needs.specs.declared.Filled.the-variants.{Needs}
 use Rattle.highboyrobin.proofs.Carried.{needs-carries}
 use Rattle.highboyrobin.specs.NeedCalls.{mostLengths, needsCall}
 use Rattle.highboyrobin.specs.Results.{resultOf}

@@ -2,7 +2,7 @@
 use Prim.Native.Nat.{ℕ, suc, _+_, _≤_, _<_}
 use mathlib.Core.Path.{_≡_, refl, sym, ap, _∙_}
 use mathlib.Core.Bool.{Bool, true, false, not}
-use mathlib.Core.List.{List, [], _∷_, _++_, map, append-assoc}
+use mathlib.Core.List.{List, [], _∷_, _++_, map, append-assoc, map-append}
 use native.Mathlib.Omega.{arith}
 use native.Mathlib.Numerals.{add-one}
 use borrow.Author.Tests.{lt-ltb, le-ltb}
@@ -107,10 +107,6 @@ module _ (f : ℕ → ℕ) (listed entry : List ℕ) where
   filled-length k out e l h =
       ap length e ∙ length-append (map f (take k listed)) (drop k entry) ∙ omega (arith, size k l, length-drop k entry)
 
-  map-append : (xs ys : List ℕ) → map f (xs ++ ys) ≡ map f xs ++ map f ys
-  map-append [] ys = refl
-  map-append (x ∷ xs) ys = ap (λ (l : List ℕ). f x ∷ l) (map-append xs ys)
-
   pub next-filled : (k v : ℕ) (out : List ℕ) → out ≡ filledTo k → k < length listed → length listed ≤ length entry →
       v ≡ f (getD listed k 0) → set out k v ≡ filledTo (k + 1)
   next-filled k v out e l h is =
@@ -120,7 +116,7 @@ module _ (f : ℕ → ℕ) (listed entry : List ℕ) where
       ∙ ap (λ (x : ℕ). front ++ (x ∷ drop (suc k) entry)) is
       ∙ sym (append-assoc front (f (getD listed k 0) ∷ []) (drop (suc k) entry))
       ∙ ap (λ (xs : List ℕ). xs ++ drop (suc k) entry)
-      (sym (map-append (take k listed) (getD listed k 0 ∷ [])) ∙ ap (map f) (sym (take-suc listed k 0 l)))
+      (sym (map-append f (take k listed) (getD listed k 0 ∷ [])) ∙ ap (map f) (sym (take-suc listed k 0 l)))
       ∙ ap filledTo (sym (add-one k))
 
   -- all of them

@@ -1,8 +1,8 @@
 -- Lines and the lengths that they meet: the test as facts, how many lines meet a length, one line more, and whose need is taken.
 use Prim.Native.Nat.{ℕ, zero, suc, _+_, _*_, _/_, _≤_, _<_}
 use mathlib.Core.Path.{_≡_, refl, sym, ap, _∙_}
-use mathlib.Core.Bool.{Bool, true, false, cond, _&&_}
-use mathlib.Core.List.{List, [], _∷_}
+use mathlib.Core.Bool.{Bool, true, false, _&&_}
+use mathlib.Core.List.{List, _∷_}
 use mathlib.Core.Logic.{inl, inr}
 use native.Mathlib.Decide.{decLe}
 use native.Mathlib.Nat.{le-of-suc-le-suc}
@@ -11,9 +11,9 @@ use borrow.Author.Tests.{leb-true, le-leb, lt-leb}
 use lib.Dec.{leb}
 use lib.ListN.{length, getD, take}
 use lib.Seq.{take-all}
-use Rattle.sums.specs.Lists.{total, only, tabulate}
+use Rattle.sums.specs.Lists.{only, tabulate}
 use Rattle.sums.specs.Places.{length-tabulate, tabulate-cong}
-use Rattle.sums.specs.Sum.{sum, sum-more, sum-ge, sum-cong, sum-const}
+use Rattle.sums.specs.Sum.{sum-more, sum-ge, sum-cong, sum-const}
 use Rattle.sums.specs.Totals.{total-tabulate}
 use Rattle.order.specs.Refusals.{timeInRange}
 use Rattle.order.specs.RefusalLaws.{both-true, true-both, true-or-false}

@@ -7,8 +7,8 @@ use mathlib.Core.List.{List, [], _∷_, _++_, map}
 use mathlib.Core.Logic.{_↔_}
 use native.Mathlib.Nat.{le-of-suc-le-suc}
 use native.Mathlib.Omega.{arith}
-use borrow.Author.Tests.{leb-true, leb-false, le-leb, lt-leb, eqb-true, eqb-false, eq-eqb, ne-eqb, ltb-false, le-ltb, not-false}
-use lib.Dec.{leb, ltb, eqb}
+use borrow.Author.Tests.{leb-true, leb-false, lt-leb, eqb-false, ne-eqb, not-false}
+use lib.Dec.{leb, eqb}
 use lib.ListN.{length, getD, drop, length-map, List·getD-append}
 use lib.Seq.{getD-append-add, getD-drop}
 use Rattle.sums.specs.Lists.{All, total, only, tabulate}
@@ -21,7 +21,6 @@ use Rattle.order.specs.Refusals.{
   clear,
   holds,
   TableRow,
-  Verdict,
   accepted,
   refused,
   verdictOf,
@@ -33,7 +32,7 @@ use Rattle.order.specs.Refusals.{
   timeInRange,
   roomRow,
 }
-use Rattle.order.specs.RefusalLaws.{judge-accepted, accepted-first, first-clear, both-true, later-numbered, accepted≢refused}
+use Rattle.order.specs.RefusalLaws.{judge-accepted, accepted-first, first-clear, both-true, later-numbered, accepted≢refused, clear≢holds}
 use Rattle.needs.specs.NeedTable.{
   Line,
   meets,
@@ -89,9 +88,6 @@ searched n test = go (outcome test 0 0 (tabulate n suc))
 through : (test : ℕ → Bool) → Searched longest test (first test everyLength)
 unfolding everyLength
 through test = searched longest test
-
-clear≢holds : {x : ℕ} → clear ≡ holds x → ⊥
-clear≢holds e = let z : _≡_ {A = ℕ} 0 1 = cc in omega arith
 
 module _ (test : ℕ → Bool) where
   clear-means : first test everyLength ≡ clear → (x : ℕ) → Length x → test x ≡ false

@@ -1,13 +1,13 @@
 -- The smallest length that passes a test is what a row of the table carries; climbing from line to line finds it for 17, and pair
 -- after pair of lines for 18.
 use Prim.Native.Nat.{ℕ, zero, suc, _+_, _≤_, _<_, min, max}
-use mathlib.Core.Path.{_≡_, refl, sym, ap, _∙_, subst}
-use mathlib.Core.Bool.{Bool, true, false, true≢false, _&&_, _||_}
+use mathlib.Core.Path.{_≡_, refl, sym, ap, _∙_}
+use mathlib.Core.Bool.{Bool, true, false, true≢false, _&&_, _||_, or-false}
 use mathlib.Core.List.{List}
 use native.Mathlib.Decide.{decLe, decLt}
 use native.Mathlib.Omega.{arith}
 use borrow.Author.Tests.{le-leb, lt-leb, eq-eqb, ne-eqb}
-use lib.Dec.{leb, eqb}
+use lib.Dec.{leb}
 use lib.ListN.{length}
 use Rattle.sums.specs.Lists.{only}
 use Rattle.sums.specs.Places.{length-tabulate}
@@ -15,7 +15,7 @@ use Rattle.order.specs.Refusals.{clear, holds, first}
 use Rattle.order.specs.RefusalLaws.{first-tabulate, none-tabulate, both-true, true-both}
 use Rattle.needs.specs.NeedTable.{Line, lineAt, meets, metBy, longest, everyLength, unmet, metTwice}
 use Rattle.needs.specs.Inside.{firstLines, FirstMeets, Smallest}
-use Rattle.needs.specs.MeetLaws.{Meets, meets-facts, facts-meet, not-meets, met-none, met-more, met-at, none-meets}
+use Rattle.needs.specs.MeetLaws.{Meets, meets-facts, facts-meet, met-none, met-more, met-at, none-meets}
 
 -- what a row of the table finds
 module _ (test : ℕ → Bool) where
@@ -51,10 +51,6 @@ left-true a b e = rw e
 right-true : (a b : Bool) → b ≡ true → (a || b) ≡ true
 right-true true b e = refl
 right-true false b e = e
-
-or-none : (a : Bool) → (a || false) ≡ a
-or-none true = refl
-or-none false = refl
 
 pub smallest-either : (f g : ℕ → Bool) (a b r : ℕ) → Smallest f a → Smallest g b → r ≡ min a b → Smallest (λ x. f x || g x) r
 smallest-either f g a b r s t e = record {
@@ -177,7 +173,7 @@ module _ (table : List ℕ) (i : ℕ) where
   one-more true b c m m′ e = refl
   one-more false false c m m′ e = refl
   one-more false true true m m′ e = right-true (leb 1 m) true refl ∙ sym (le-leb 1 m′ (omega arith))
-  one-more false true false m m′ e = let is : m ≡ m′ = omega arith in or-none (leb 1 m) ∙ ap (λ (n : ℕ). leb 1 n) is
+  one-more false true false m m′ e = let is : m ≡ m′ = omega arith in or-false (leb 1 m) ∙ ap (λ (n : ℕ). leb 1 n) is
 
   pub with-more : (k x : ℕ) →
       (twiceWith k x || (meets (lineAt table i) x && meets (lineAt table k) x)) ≡ twiceWith (k + 1) x
@@ -186,7 +182,7 @@ module _ (table : List ℕ) (i : ℕ) where
       (metBy (firstLines table k) x) (metBy (firstLines table (k + 1)) x) (met-more table k x)
 
   all-before : (b : Bool) (m m′ : ℕ) → m′ ≡ m + only b 1 → (leb 2 m || (b && leb 1 m)) ≡ leb 2 m′
-  all-before false m m′ e = let is : m ≡ m′ = omega arith in or-none (leb 2 m) ∙ ap (λ (n : ℕ). leb 2 n) is
+  all-before false m m′ e = let is : m ≡ m′ = omega arith in or-false (leb 2 m) ∙ ap (λ (n : ℕ). leb 2 n) is
   all-before true m m′ e =
       elim (decLe 1 m) [
         | yes w ↦ right-true (leb 2 m) (leb 1 m) (le-leb 1 m w) ∙ sym (le-leb 2 m′ (omega arith))

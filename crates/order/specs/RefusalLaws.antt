@@ -49,7 +49,7 @@ pub record Returned (rows : List TableRow) (number carried : ℕ) : Type 0 where
   pub its-number : returned .number ≡ number
   pub its-condition : returned .finding ≡ holds carried
 
-clear≢holds : {c : ℕ} → clear ≡ holds c → ⊥
+pub clear≢holds : {c : ℕ} → clear ≡ holds c → ⊥
 clear≢holds e = let z : _≡_ {A = ℕ} 0 1 = cc in omega arith
 
 -- a verdict tells its finding

@@ -3,14 +3,6 @@ use borrow.Author.Needs.{needs}
 use native.Mathlib.Omega.{arith}
 use Rattle.cases.proofs.filling.needs_case.Statement.{statement}
 use Rattle.cases.proofs.filling.needs_case.Tie as tie
-use Rattle.cases.proofs.filling.needs_case.Reads as reads
-use Rattle.cases.proofs.filling.needs_case.Lts as lts
-use Rattle.cases.proofs.filling.print_changes.Reads as print-changes-reads
-use Rattle.cases.proofs.filling.print_needs.Reads as print-needs-reads
-use Rattle.cases.proofs.print.refusal.Reads as refusal-reads
-use Rattle.cases.proofs.stream.number.Reads as number-reads
-use Rattle.cases.proofs.stream.numbers.Reads as numbers-reads
-use Rattle.needs.proofs.filling.fill_needs.Reads as fill-needs-reads
 
 slice-aggregate-numbers : tie.Need-slice-aggregate-numbers
 slice-aggregate-numbers c = search needs

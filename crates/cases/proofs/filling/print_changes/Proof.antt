@@ -1,11 +1,7 @@
 use Prim.Native.Nat.{_≤_, _-_}
 use borrow.Author.Needs.{needs}
-use native.Mathlib.Omega.{arith}
 use Rattle.cases.proofs.filling.print_changes.Statement.{statement}
 use Rattle.cases.proofs.filling.print_changes.Tie as tie
-use Rattle.cases.proofs.filling.print_changes.Reads as reads
-use Rattle.cases.proofs.filling.print_changes.Lts as lts
-use Rattle.cases.proofs.print.text.Reads as text-reads
 
 abbrev Inv-loop : tie.InvT-loop
 Inv-loop filled out k₀ t5 k = k ≤ 80

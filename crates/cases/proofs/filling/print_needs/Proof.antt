@@ -1,12 +1,7 @@
 use Prim.Native.Nat.{_≤_, _-_}
 use borrow.Author.Needs.{needs}
-use native.Mathlib.Omega.{arith}
 use Rattle.cases.proofs.filling.print_needs.Statement.{statement}
 use Rattle.cases.proofs.filling.print_needs.Tie as tie
-use Rattle.cases.proofs.filling.print_needs.Reads as reads
-use Rattle.cases.proofs.filling.print_needs.Lts as lts
-use Rattle.cases.proofs.print.number.Reads as number-reads
-use Rattle.cases.proofs.print.text.Reads as text-reads
 
 abbrev Inv-loop : tie.InvT-loop
 Inv-loop n out k₀ t6 k = k ≤ 80

@@ -15,11 +15,6 @@ use borrow.Author.Needs.{needs}
 use native.Mathlib.Omega.{arith}
 use Rattle.highboyrobin.proofs.needing.hbr_needs.Statement.{statement}
 use Rattle.highboyrobin.proofs.needing.hbr_needs.Tie as tie
-use Rattle.highboyrobin.proofs.needing.hbr_needs.Reads as reads
-use Rattle.highboyrobin.proofs.needing.hbr_needs.Lts as lts
-use Rattle.highboyrobin.proofs.answers.put_count.Reads as put-count-reads
-use Rattle.highboyrobin.proofs.results.result_from.Reads as result-from-reads
-use Rattle.needs.proofs.filling.fill_needs.Reads as fill-needs-reads
 
 returns : tie.Need-returns
 returns c =

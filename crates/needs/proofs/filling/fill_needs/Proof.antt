@@ -12,17 +12,8 @@ use Rattle.needs.proofs.Ended.{
   filled-ends,
 }
 use borrow.Author.Needs.{needs}
-use native.Mathlib.Omega.{arith}
 use Rattle.needs.proofs.filling.fill_needs.Statement.{statement}
 use Rattle.needs.proofs.filling.fill_needs.Tie as tie
-use Rattle.needs.proofs.filling.fill_needs.Reads as reads
-use Rattle.needs.proofs.filling.fill_needs.Lts as lts
-use Rattle.needs.proofs.filling.first_out.Reads as first-out-reads
-use Rattle.needs.proofs.filling.put_needs.Reads as put-needs-reads
-use Rattle.needs.proofs.gaps.first_unmet.Reads as first-unmet-reads
-use Rattle.needs.proofs.meeting.line_count.Reads as line-count-reads
-use Rattle.needs.proofs.meeting.lines_of.Reads as lines-of-reads
-use Rattle.needs.proofs.overlaps.first_twice.Reads as first-twice-reads
 
 -- the lines that count are those copied
 copied-lines : (c : tie.After-lines-of) →

@@ -10,8 +10,6 @@ use borrow.Author.Needs.{needs}
 use native.Mathlib.Omega.{arith}
 use Rattle.needs.proofs.filling.first_out.Statement.{statement}
 use Rattle.needs.proofs.filling.first_out.Tie as tie
-use Rattle.needs.proofs.filling.first_out.Reads as reads
-use Rattle.needs.proofs.filling.first_out.Lts as lts
 
 abbrev Inv-loop : tie.InvT-loop
 Inv-loop lengths n k₀ k = (k ≤ n) × ((e : ℕ) → e < k → not (timeInRange (getD lengths e 0)) ≡ false)

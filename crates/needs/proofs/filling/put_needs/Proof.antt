@@ -7,9 +7,6 @@ use borrow.Author.Needs.{needs}
 use native.Mathlib.Omega.{arith}
 use Rattle.needs.proofs.filling.put_needs.Statement.{statement}
 use Rattle.needs.proofs.filling.put_needs.Tie as tie
-use Rattle.needs.proofs.filling.put_needs.Reads as reads
-use Rattle.needs.proofs.filling.put_needs.Lts as lts
-use Rattle.needs.proofs.meeting.need_for.Reads as need-for-reads
 
 abbrev Inv-loop : tie.InvT-loop
 Inv-loop table lines lengths needs₀ n k₀ needs k = (k ≤ n) × (needs ≡ filledTo (needFor (firstLines table lines)) lengths needs₀ k)

@@ -1,12 +1,9 @@
-use Prim.Native.Nat.{ℕ, _-_}
+use Prim.Native.Nat.{_-_}
 use Rattle.needs.specs.SmallestLaws.{Climbed, start, facts, at-gap, climb, at-top}
 use borrow.Author.Needs.{needs}
 use native.Mathlib.Omega.{arith}
 use Rattle.needs.proofs.gaps.first_unmet.Statement.{statement}
 use Rattle.needs.proofs.gaps.first_unmet.Tie as tie
-use Rattle.needs.proofs.gaps.first_unmet.Reads as reads
-use Rattle.needs.proofs.gaps.first_unmet.Lts as lts
-use Rattle.needs.proofs.meeting.line_for.Reads as line-for-reads
 
 abbrev Inv-loop : tie.InvT-loop
 Inv-loop table n x₀ x = Climbed table n x

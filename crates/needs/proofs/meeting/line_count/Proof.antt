@@ -1,10 +1,7 @@
 use Rattle.needs.specs.MeetLaws.{counted-most, counted-all}
-use borrow.Author.Needs.{needs}
 use native.Mathlib.Omega.{arith}
 use Rattle.needs.proofs.meeting.line_count.Statement.{statement}
 use Rattle.needs.proofs.meeting.line_count.Tie as tie
-use Rattle.needs.proofs.meeting.line_count.Reads as reads
-use Rattle.needs.proofs.meeting.line_count.Lts as lts
 
 returns : tie.Need-returns
 returns c = (counted-most (c .before .args .table .now) (omega (arith, c .if1 .taken)), omega (arith, c .if1 .taken), omega arith)

@@ -7,9 +7,6 @@ use borrow.Author.Needs.{needs}
 use native.Mathlib.Omega.{arith}
 use Rattle.needs.proofs.meeting.line_for.Statement.{statement}
 use Rattle.needs.proofs.meeting.line_for.Tie as tie
-use Rattle.needs.proofs.meeting.line_for.Reads as reads
-use Rattle.needs.proofs.meeting.line_for.Lts as lts
-use Rattle.needs.proofs.meeting.meets_at.Reads as meets-at-reads
 
 abbrev Inv-loop : tie.InvT-loop
 Inv-loop table n x i₀ i = (i ≤ n) × ((k : ℕ) → k < i → meets (lineAt table k) x ≡ false)

@@ -8,8 +8,6 @@ use borrow.Author.Needs.{needs}
 use native.Mathlib.Omega.{arith}
 use Rattle.needs.proofs.meeting.lines_of.Statement.{statement}
 use Rattle.needs.proofs.meeting.lines_of.Tie as tie
-use Rattle.needs.proofs.meeting.lines_of.Reads as reads
-use Rattle.needs.proofs.meeting.lines_of.Lts as lts
 
 abbrev Inv-loop : tie.InvT-loop
 Inv-loop table n lines₀ i₀ lines i =

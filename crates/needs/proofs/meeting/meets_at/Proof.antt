@@ -5,8 +5,6 @@ use borrow.Author.Needs.{needs}
 use native.Mathlib.Omega.{arith}
 use Rattle.needs.proofs.meeting.meets_at.Statement.{statement}
 use Rattle.needs.proofs.meeting.meets_at.Tie as tie
-use Rattle.needs.proofs.meeting.meets_at.Reads as reads
-use Rattle.needs.proofs.meeting.meets_at.Lts as lts
 
 mul-from : tie.Need-mul-from
 mul-from c = search needs

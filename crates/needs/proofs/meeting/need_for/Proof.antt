@@ -3,9 +3,6 @@ use borrow.Author.Needs.{needs}
 use native.Mathlib.Omega.{arith}
 use Rattle.needs.proofs.meeting.need_for.Statement.{statement}
 use Rattle.needs.proofs.meeting.need_for.Tie as tie
-use Rattle.needs.proofs.meeting.need_for.Reads as reads
-use Rattle.needs.proofs.meeting.need_for.Lts as lts
-use Rattle.needs.proofs.meeting.line_for.Reads as line-for-reads
 
 line-for-requires : tie.Need-line-for-requires
 line-for-requires c κs = search needs

@@ -2,13 +2,8 @@ use mathlib.Core.Path.{sym, _∙_}
 use borrow.Author.Tests.{not-true, not-false}
 use Rattle.needs.specs.SmallestLaws.{both-begun, first-apart, second-apart}
 use borrow.Author.Needs.{needs}
-use native.Mathlib.Omega.{arith}
 use Rattle.needs.proofs.overlaps.first_both.Statement.{statement}
 use Rattle.needs.proofs.overlaps.first_both.Tie as tie
-use Rattle.needs.proofs.overlaps.first_both.Reads as reads
-use Rattle.needs.proofs.overlaps.first_both.Lts as lts
-use Rattle.needs.proofs.meeting.meets_at.Reads as meets-at-reads
-use Rattle.needs.proofs.overlaps.larger.Reads as larger-reads
 
 mul-larger : tie.Need-mul-larger
 mul-larger c = search needs

@@ -7,9 +7,6 @@ use borrow.Author.Needs.{needs}
 use native.Mathlib.Omega.{arith}
 use Rattle.needs.proofs.overlaps.first_twice.Statement.{statement}
 use Rattle.needs.proofs.overlaps.first_twice.Tie as tie
-use Rattle.needs.proofs.overlaps.first_twice.Reads as reads
-use Rattle.needs.proofs.overlaps.first_twice.Lts as lts
-use Rattle.needs.proofs.overlaps.with_line.Reads as with-line-reads
 
 abbrev Inv-loop : tie.InvT-loop
 Inv-loop table n x₀ i₀ x i = (i ≤ n) × Smallest (metTwice (firstLines table i)) x

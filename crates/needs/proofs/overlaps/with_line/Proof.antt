@@ -6,10 +6,6 @@ use borrow.Author.Needs.{needs}
 use native.Mathlib.Omega.{arith}
 use Rattle.needs.proofs.overlaps.with_line.Statement.{statement}
 use Rattle.needs.proofs.overlaps.with_line.Tie as tie
-use Rattle.needs.proofs.overlaps.with_line.Reads as reads
-use Rattle.needs.proofs.overlaps.with_line.Lts as lts
-use Rattle.needs.proofs.overlaps.first_both.Reads as first-both-reads
-use Rattle.needs.proofs.overlaps.smaller.Reads as smaller-reads
 
 abbrev Inv-loop : tie.InvT-loop
 Inv-loop table i before x₀ k₀ x k = (k ≤ i) × Smallest (twiceWith table i k) x
