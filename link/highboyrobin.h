@@ -25,9 +25,9 @@
  * Needs. Where you know how long sessions are and not what they need, hbr_needs fills the needs in from a table that you edit.
  *
  * Results. Each function returns 0 where it succeeds, else a refusal: its number is hbr_number(result), and the job that it is
- * about, of 16 the processor, of 17 and 18 the length, 0 where it is about none, hbr_job(result). Of several refusals that apply the
- * first is told: HBR_SHORT_ANSWER, HBR_PART_JOB, HBR_SHORT_CLASSES, HBR_SHORT_REASON, HBR_SHORT_BOOK or HBR_LONG_LIST, 12,
- * HBR_WRONG_TIMES, then 17, 18, 1 to 6, 13, 7, 15, 16, 8 to 11, 14.
+ * about, of 16 the processor, of 17 and 18 the length, of 5 from hbr_needs the place in the list, 0 where it is about none,
+ * hbr_job(result). Of several refusals that apply the first is told: HBR_SHORT_ANSWER, HBR_PART_JOB, HBR_SHORT_CLASSES,
+ * HBR_SHORT_REASON, HBR_SHORT_BOOK or HBR_LONG_LIST, 12, HBR_WRONG_TIMES, then 17, 18, 1 to 6, 13, 7, 15, 16, 8 to 11, 14.
  *
  * Memory. You own every buffer; nothing is kept after a call, and nothing is allocated. Two buffers of one call must not overlap
  * unless both are const. Lengths count elements, not bytes. Pointers must be valid and aligned, not NULL, also where the length is
@@ -213,12 +213,12 @@ uint32_t hbr_timed_check(const uint8_t *file, size_t file_length, int32_t bound,
                          size_t answer_length);
 
 /* The needs of listed lengths, from a table that you edit: three numbers to a line, from length, to length, need. A line meets each
- * length from the one to the other, both included; one whose from or to is not 1 to HBR_LONGEST_LENGTH, or whose from is above its to,
- * meets none. The first HBR_TABLE_LINES lines count, in any order; further ones are passed over, and one or two numbers left over are
- * no line. Each length from 1 to HBR_LONGEST_LENGTH must be met by exactly one line. From needs[0] on each listed length has the need of its
- * line; lengths are of any number up to HBR_MOST_LENGTHS, none too. Refusals, in the order in which they are told: 255, 253, 17 (no
- * line meets a length) and 18 (two or more meet one), each carrying the smallest such length, 5 (a listed length is not 1 to
- * HBR_LONGEST_LENGTH: its place in the list, counted from 1, the first such), 9 (needs has fewer numbers than lengths).
+ * length from the one to the other, both included; one whose from or to is not 1 to HBR_LONGEST_LENGTH, or whose from is above its
+ * to, meets none. The first HBR_TABLE_LINES lines count, in any order; further ones are passed over, and one or two numbers left over
+ * are no line. Each length from 1 to HBR_LONGEST_LENGTH must be met by exactly one line. From needs[0] on each listed length has the
+ * need of its line; there may be up to HBR_MOST_LENGTHS lengths, or none. Refusals, in the order in which they are told: 255, 253, 17
+ * (no line meets a length) and 18 (two or more meet one), each carrying the smallest such length, 5 (a listed length is not 1 to
+ * HBR_LONGEST_LENGTH: the first such place in the list, counted from 1), 9 (needs has fewer numbers than lengths).
  * answer[0] the number of needs filled in. */
 #define HBR_NEEDS_ANSWER 1
 uint32_t hbr_needs(const uint32_t *table, size_t table_length, const uint32_t *lengths, size_t lengths_length, uint32_t *needs,
