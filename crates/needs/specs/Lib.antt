@@ -4,3 +4,4 @@ pub mod Inside
 pub mod MeetLaws
 pub mod SmallestLaws
 pub mod NeedLaws
+pub mod Deciding

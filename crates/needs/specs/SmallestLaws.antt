@@ -155,40 +155,41 @@ module _ (a b : Line) where
   pub second-apart : (x : ℕ) → x ≡ max (a .from) (b .from) → meets b x ≡ false → Smallest both (longest + 1)
   second-apart x e f = both-apart x e (λ m. true≢false (sym (facts-meet b x (m .1)) ∙ f))
 
+-- what one more line adds: with none before it, beside one of them, and beside all
+pub none-yet : (a b : Bool) (m : ℕ) → m ≡ 0 → a ≡ (a || (b && leb 1 m))
+none-yet true b m e = refl
+none-yet false true m e = rw e refl
+none-yet false false m e = refl
+
+pub one-more : (a b c : Bool) (m m′ : ℕ) → m′ ≡ m + only c 1 → ((a || (b && leb 1 m)) || (b && c)) ≡ (a || (b && leb 1 m′))
+one-more true b c m m′ e = refl
+one-more false false c m m′ e = refl
+one-more false true true m m′ e = right-true (leb 1 m) true refl ∙ sym (le-leb 1 m′ (omega arith))
+one-more false true false m m′ e = let is : m ≡ m′ = omega arith in or-false (leb 1 m) ∙ ap (λ (n : ℕ). leb 1 n) is
+
+pub all-before : (b : Bool) (m m′ : ℕ) → m′ ≡ m + only b 1 → (leb 2 m || (b && leb 1 m)) ≡ leb 2 m′
+all-before false m m′ e = let is : m ≡ m′ = omega arith in or-false (leb 2 m) ∙ ap (λ (n : ℕ). leb 2 n) is
+all-before true m m′ e =
+    elim (decLe 1 m) [
+      | yes w ↦ right-true (leb 2 m) (leb 1 m) (le-leb 1 m w) ∙ sym (le-leb 2 m′ (omega arith))
+      | no w ↦ either-false (leb 2 m) (leb 1 m) (lt-leb 2 m (omega arith)) (lt-leb 1 m (omega arith))
+          ∙ sym (lt-leb 2 m′ (omega arith))
+    ]
+
 -- line i + 1 beside the first k lines: a length that the lines before it meet twice, or that it and one of those k meet
 module _ (table : List ℕ) (i : ℕ) where
   abbrev pub twiceWith : ℕ → ℕ → Bool
   twiceWith k x = metTwice (firstLines table i) x || (meets (lineAt table i) x && leb 1 (metBy (firstLines table k) x))
 
-  none-yet : (a b : Bool) (m : ℕ) → m ≡ 0 → a ≡ (a || (b && leb 1 m))
-  none-yet true b m e = refl
-  none-yet false true m e = rw e refl
-  none-yet false false m e = refl
-
   pub with-none : (x : ℕ) → metTwice (firstLines table i) x ≡ twiceWith 0 x
   with-none x =
       none-yet (metTwice (firstLines table i) x) (meets (lineAt table i) x) (metBy (firstLines table 0) x) (met-none table x)
-
-  one-more : (a b c : Bool) (m m′ : ℕ) → m′ ≡ m + only c 1 → ((a || (b && leb 1 m)) || (b && c)) ≡ (a || (b && leb 1 m′))
-  one-more true b c m m′ e = refl
-  one-more false false c m m′ e = refl
-  one-more false true true m m′ e = right-true (leb 1 m) true refl ∙ sym (le-leb 1 m′ (omega arith))
-  one-more false true false m m′ e = let is : m ≡ m′ = omega arith in or-false (leb 1 m) ∙ ap (λ (n : ℕ). leb 1 n) is
 
   pub with-more : (k x : ℕ) →
       (twiceWith k x || (meets (lineAt table i) x && meets (lineAt table k) x)) ≡ twiceWith (k + 1) x
   with-more k x =
       one-more (metTwice (firstLines table i) x) (meets (lineAt table i) x) (meets (lineAt table k) x)
       (metBy (firstLines table k) x) (metBy (firstLines table (k + 1)) x) (met-more table k x)
-
-  all-before : (b : Bool) (m m′ : ℕ) → m′ ≡ m + only b 1 → (leb 2 m || (b && leb 1 m)) ≡ leb 2 m′
-  all-before false m m′ e = let is : m ≡ m′ = omega arith in or-false (leb 2 m) ∙ ap (λ (n : ℕ). leb 2 n) is
-  all-before true m m′ e =
-      elim (decLe 1 m) [
-        | yes w ↦ right-true (leb 2 m) (leb 1 m) (le-leb 1 m w) ∙ sym (le-leb 2 m′ (omega arith))
-        | no w ↦ either-false (leb 2 m) (leb 1 m) (lt-leb 2 m (omega arith)) (lt-leb 1 m (omega arith))
-            ∙ sym (lt-leb 2 m′ (omega arith))
-      ]
 
   pub with-all : (x : ℕ) → twiceWith i x ≡ metTwice (firstLines table (i + 1)) x
   with-all x =

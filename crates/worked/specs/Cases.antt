@@ -1,6 +1,6 @@
 -- Document 01's cases with a ●, the lines of document 02, §1, joined rows of §2, ends of §3, makers and books of §4, ready minutes and
--- windows of §5, classes passed of §6, and more: one table, and one theorem that every case holds of the definitions.
-use Prim.Native.Nat.{ℕ, suc, _-_, _≤_}
+-- windows of §5, classes passed of §6, needs of §7, and more: one table, and one theorem that every case holds of the definitions.
+use Prim.Native.Nat.{ℕ, zero, suc, _+_, _*_, _-_, _≤_}
 use Prim.Native.String.{String}
 use mathlib.Core.Path.{_≡_, refl, sym, ap, _∙_, subst}
 use mathlib.Core.Bool.{Bool, true, false, true≢false}
@@ -18,11 +18,13 @@ use Rattle.sums.specs.Same.{sameList}
 use Rattle.order.specs.Order.{Order, processorCount, endAt, endOf}
 use Rattle.order.specs.Sorted.{insert, distinct, dueTimes, placeByKey, byFalling, processorOrder, jobOrder}
 use Rattle.order.specs.Class.{classes, lastThatSuffices, classFor, classOf, processorsIn, processorsTo}
-use Rattle.order.specs.Refusals.{limits, Verdict, accepted, refused, judge, firstAfter, fitsSome, orderRows, Accepted}
+use Rattle.order.specs.Refusals.{limits, Verdict, accepted, refused, judge, leftBy, firstAfter, fitsSome, orderRows, Accepted}
 use Rattle.order.specs.Table.{padded}
 use Rattle.order_file.specs.File.{orderIn, processorBytes, jobBytes, fileOf}
 use Rattle.book.specs.Book.{minutesBy, added, someOver}
 use Rattle.book.specs.Calls.{judgedWith, givenBack, bookAfter}
+use Rattle.needs.specs.NeedTable.{meets, linesIn, mostLines, counted, metBy, needRows, needFor, needsOf}
+use Rattle.needs.specs.Deciding.{behind, climbed, stopped, firstTwice, decide, decided}
 use Rattle.planner.specs.Rows.{leastRows, earlierRows, planRows}
 use Rattle.planner.specs.Booked.{Booking, least as atLeast, bound as atBound, callOf, bookOf}
 use Rattle.plan.specs.Plan.{Row, Right}
@@ -75,13 +77,18 @@ listingsOf o =
     tabulate (processorCount o)
     (λ k. (classes (passed o (suc k)), tabulate (length (classes (passed o (suc k)))) (λ i. processorsIn (passed o (suc k)) (suc i))))
 
+-- a lent buffer that holds 7 in every place before
+abbrev pub sevens : ℕ → List ℕ
+sevens lent = tabulate lent (λ _. 7)
+
 -- a case: a least lateness; a reason at a bound with its minutes owed and on hand; a plan and whether it is right; the line of a reason,
 -- and a reason that does not stand; amounts with their layout and its joined rows; rows and the joined ones; amounts, a stretch and the
 -- job that each processor ends it with; what an order is refused with; its file; a booked call with the counts handed in, what its table
 -- answers, and the counts given back; the counts after booked calls from opening on; of an order with times the number of its changes and
 -- of the rows asked for, what is refused before 10 with a buffer of so many numbers, a plan that keeps the times and one that does not,
 -- amounts with their joined rows, and that there is no plan, by what each stretch's classes have at most; the classes and the processors
--- of each after each processor passed
+-- of each after each processor passed; a table of needs with a list and room for so many needs, what it is judged as, and what the room
+-- holds then
 pub data Case : Type 0 where
   leastIs : Order → ℤ → Case
   reasonIs : Order → ℤ → Reason → ℕ → ℤ → Case
@@ -103,6 +110,7 @@ pub data Case : Type 0 where
   timedLaidIs : Order → ℤ → Times → List (List ℕ) → List Row → Case
   timedTightIs : Order → ℤ → Times → List ℕ → Case
   passesAs : Order → List (List ℕ × List ℕ) → Case
+  needsAre : (table listed : List ℕ) → (lent : ℕ) → Verdict → List ℕ → Case
 
 -- what a case says, in the words of the definitions
 abbrev pub Holds : Case → Type 0
@@ -130,6 +138,9 @@ Holds (timedLaidIs o bound t amounts plan) =
     (joined (layoutIn o (timedFrame o bound t) (amountsOf amounts)) ≡ plan) × RightTimed 1 o bound t plan
 Holds (timedTightIs o bound t cut) = (p : ℕ) → 1 ≤ p → (rows : List Row) → ¬ RightTimed p o bound t rows
 Holds (passesAs o listings) = listingsOf o ≡ listings
+Holds (needsAre table listed lent verdict needs) =
+    (judge (needRows table listed lent) ≡ verdict)
+    × (leftBy (judge (needRows table listed lent)) (needsOf table listed) (sevens lent) ≡ needs)
 
 -- a row: job, processor, from, to; and a row of job 1 on processor 1
 abbrev row : ℕ → ℕ → ℕ → ℕ → Row
@@ -150,6 +161,18 @@ times ready windows =
       opens = λ i. nth windows i (0, 0) .0;
       closes = λ i. nth windows i (0, 0) .1;
     }
+
+-- a line of a table of needs: from length, to length, need
+abbrev line : ℕ → ℕ → ℕ → List ℕ
+line from to need = from ∷ to ∷ need ∷ []
+
+-- n lines of so many lengths each, after the first k of them; the need of each is its place
+abbrev partsAfter : ℕ → ℕ → ℕ → List ℕ
+partsAfter k zero size = []
+partsAfter k (suc n) size = line (k * size + 1) (suc k * size) (suc k) ++ partsAfter (suc k) n size
+
+abbrev parts : ℕ → ℕ → List ℕ
+parts n size = partsAfter 0 n size
 
 -- minus 8 is -8
 abbrev minus : ℕ → ℤ
@@ -269,6 +292,28 @@ cases =
     ∷ ((8 ∷ 4 ∷ 2 ∷ []), (1 ∷ 2 ∷ 1 ∷ []))
     ∷ [])
     ∷ passesAs D (((8 ∷ []), (1 ∷ [])) ∷ ((8 ∷ []), (2 ∷ [])) ∷ [])
+    -- document 02, §7: a table of two lines, in either order
+    ∷ needsAre (line 1 30000 4 ++ line 30001 100000 8) (30000 ∷ 30001 ∷ []) 3 accepted (4 ∷ 8 ∷ 7 ∷ [])
+    ∷ needsAre (line 30001 100000 8 ++ line 1 30000 4) (30000 ∷ 30001 ∷ []) 3 accepted (4 ∷ 8 ∷ 7 ∷ [])
+    -- 17 before 18, 18 before 5 and 9
+    ∷ needsAre (line 1 10 1 ++ line 10 50 2 ++ line 52 100000 3) (60 ∷ []) 2 (refused 17 51) (7 ∷ 7 ∷ [])
+    ∷ needsAre (line 1 10 1 ++ line 10 100000 2) (60 ∷ []) 1 (refused 18 10) (7 ∷ [])
+    ∷ needsAre (line 1 10 1 ++ line 10 100000 2) (0 ∷ []) 0 (refused 18 10) []
+    -- a line out of range, one that runs backwards, no line, two numbers of one; two equal lines
+    ∷ needsAre (line 0 100000 4) (1 ∷ []) 1 (refused 17 1) (7 ∷ [])
+    ∷ needsAre (line 1 100001 4) (1 ∷ []) 1 (refused 17 1) (7 ∷ [])
+    ∷ needsAre (line 100000 1 4) (1 ∷ []) 1 (refused 17 1) (7 ∷ [])
+    ∷ needsAre [] (1 ∷ []) 1 (refused 17 1) (7 ∷ [])
+    ∷ needsAre (1 ∷ 100000 ∷ []) (1 ∷ []) 1 (refused 17 1) (7 ∷ [])
+    ∷ needsAre (line 1 100000 4 ++ line 1 100000 4) (1 ∷ []) 1 (refused 18 1) (7 ∷ [])
+    -- line 33 is passed over, where it is wanted and where it is one too many
+    ∷ needsAre (parts 32 3031 ++ line 96993 100000 33) (1 ∷ []) 1 (refused 17 96993) (7 ∷ [])
+    ∷ needsAre (parts 32 3125) (3125 ∷ 3126 ∷ []) 2 accepted (1 ∷ 2 ∷ [])
+    ∷ needsAre (parts 32 3125 ++ line 1 1 9) (1 ∷ []) 1 accepted (1 ∷ [])
+    -- the first listed length out of range, before the room; too little room; nothing listed
+    ∷ needsAre (line 1 100000 4) (1 ∷ 100000 ∷ 0 ∷ 100001 ∷ []) 1 (refused 5 3) (7 ∷ [])
+    ∷ needsAre (line 1 100000 4) (1 ∷ 2 ∷ []) 1 (refused 9 0) (7 ∷ [])
+    ∷ needsAre (line 1 100000 4) [] 0 accepted []
     -- beyond document 01's: of two overfull staircases, the one that ranks first
     ∷ reasonIs twoOverfull (minus 1) (stairs (pos 4 ∷ pos 2 ∷ [])) 8 (pos 6)
     -- an empty row, and one that goes backwards, beside a right plan
@@ -306,6 +351,7 @@ data Value : Type 0 where
   changed : ℕ → ℕ → Value
   timedLaid : List Row → Bool → Value
   listings : List (List ℕ × List ℕ) → Value
+  needsLeft : Bool → Verdict → List ℕ → Value
 
 -- whether the jobs must have more inside a cut of classes, one for each stretch, than there is room: each its time less what it can have
 -- outside, in the stretches whose class is below its own
@@ -344,6 +390,9 @@ computed (timedLaidIs o bound t amounts plan) =
     timedLaid (joined (layoutIn o (timedFrame o bound t) (amountsOf amounts))) (isRightTimed o bound t (numbersOf plan))
 computed (timedTightIs o bound t cut) = checked (overfullBy o bound t cut)
 computed (passesAs o told) = listings (listingsOf o)
+computed (needsAre table listed lent verdict needs) =
+    needsLeft (stopped mostLines (counted table)) (decide mostLines table listed lent)
+    (leftBy (decide mostLines table listed lent) (needsOf table listed) (sevens lent))
 
 abbrev stated : Case → Value
 stated (leastIs o least) = leastOf accepted least
@@ -366,6 +415,7 @@ stated (timedWrongIs o bound t rows) = checked false
 stated (timedLaidIs o bound t amounts plan) = timedLaid plan true
 stated (timedTightIs o bound t cut) = checked true
 stated (passesAs o told) = listings told
+stated (needsAre table listed lent verdict needs) = needsLeft true verdict needs
 
 right-rows : (o : Order) (bound : ℤ) (rows : List Row) → isRight o bound (numbersOf rows) ≡ true → Right o bound rows
 right-rows o bound rows e =
@@ -446,6 +496,9 @@ case-holds (timedWrongIs o bound t rows) e =
 case-holds (timedLaidIs o bound t amounts plan) e = (cc, timed-rows o bound t plan cc)
 case-holds (timedTightIs o bound t cut) e = cut-tight o bound t cut cc
 case-holds (passesAs o told) e = cc
+case-holds (needsAre table listed lent verdict needs) e =
+    let stops : stopped mostLines (counted table) ≡ true = cc in
+    rw (decided mostLines table listed lent stops) (cc, cc)
 
 all-hold : (cs : List Case) → map computed cs ≡ map stated cs → All Holds cs
 all-hold [] e = tt
@@ -461,7 +514,7 @@ unfolding sum endAt endOf insert distinct dueTimes classes lastThatSuffices clas
     classesFrom lineOf composed readBack digitsWithin decimal signedDecimal placeByKey byFalling processorOrder jobOrder ends mark
     fill sharesOf stretchRows rowsUpTo layout jobWhere joinRow joinRows processorBytes jobBytes fileOf orderIn minutesBy added someOver
     bookAfter leastRows earlierRows planRows changes changeTimes markAt askedRows earlierTimed isRightTimed lies openOrder openTo
-    stretchRowsIn inTurn layoutIn deadlineOf right
+    stretchRowsIn inTurn layoutIn deadlineOf right meets linesIn counted metBy needFor behind climbed firstTwice
 all-computed = refl
 
 -- every case holds
