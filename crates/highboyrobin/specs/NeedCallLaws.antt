@@ -10,7 +10,9 @@ use Rattle.order.specs.Refusals.{TableRow, Verdict, accepted, refused, judge, l
 use Rattle.order.specs.RefusalLaws.{judge-accepted, later-numbered}
 use Rattle.needs.specs.NeedTable.{counted, unmet, metTwice, metBy, longest, needRows, needsOf}
 use Rattle.needs.specs.Inside.{Smallest}
-use Rattle.needs.specs.NeedLaws.{Length, OwnLine, accepted-table, need-own, seventeen, eighteen}
+use Rattle.needs.specs.LengthLaws.{Length}
+use Rattle.needs.specs.NeedLaws.{accepted-table, need-own, seventeen, eighteen}
+use Rattle.needs.specs.OwnLine.{OwnLine}
 use Rattle.highboyrobin.specs.NeedCalls.{longListRow, needsCall}
 use Rattle.highboyrobin.specs.Results.{answerRow}
 

@@ -3,5 +3,7 @@ pub mod Told
 pub mod Inside
 pub mod MeetLaws
 pub mod SmallestLaws
+pub mod LengthLaws
+pub mod OwnLine
 pub mod NeedLaws
 pub mod Deciding
