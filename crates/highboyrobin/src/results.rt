@@ -8,8 +8,8 @@ ghost use Rattle.order.specs.Table.{refusalTold, carriedBy};
 ghost use Rattle.highboyrobin.specs.Results.{resultOf};
 
 // The result where an answer is too short; where the jobs' numbers are not four to a job; where a reason has under 19 numbers, a
-// book under 16, a list of classes under 32, a list of lengths too many for a place to be carried, or the times are not as long as
-// the file's counts. No refusal has these numbers.
+// book under 16 or a list of classes under 32; where so many lengths are listed that a place could not be carried; where the times are
+// not as long as the file's counts. No refusal has these numbers.
 pub const SHORT_ANSWER: u32 = 255;
 
 pub const PART_JOB: u32 = 254;

@@ -3,17 +3,17 @@
 use Prim.Native.Nat.{ℕ, suc, _+_, _≤_, _<_}
 use mathlib.Core.Path.{_≡_, refl, sym, ap, _∙_, subst}
 use mathlib.Core.Bool.{Bool, false, not}
-use mathlib.Core.List.{List, [], _∷_, _++_, map}
+use mathlib.Core.List.{List, [], _∷_, map}
 use mathlib.Core.Logic.{_↔_}
 use native.Mathlib.Omega.{arith}
 use borrow.Author.Tests.{leb-true, leb-false, lt-leb, eqb-false, ne-eqb, not-false}
 use lib.Dec.{leb, eqb}
-use lib.ListN.{length, getD, drop, length-map, List·getD-append}
-use lib.Seq.{getD-append-add, getD-drop}
+use lib.ListN.{length, getD, length-map}
 use Rattle.sums.specs.Lists.{only}
 use Rattle.sums.specs.Members.{All-at}
 use Rattle.sums.specs.Places.{getD-map}
 use Rattle.sums.specs.Rearranged.{Rearranged}
+use Rattle.order.specs.LeftLaws.{left-written, left-beyond}
 use Rattle.order.specs.Refusals.{
   Finding,
   clear,
@@ -152,21 +152,16 @@ module _ (table listed entry : List ℕ) (e : judge (needRows table listed (leng
   need-own k l =
       let f = needFor (counted table) in
       let is : getD filled k 0 ≡ f (getD listed k 0)
-      = rw e (List·getD-append (map f listed) _ 0 k (omega (arith, length-map listed f)) ∙ getD-map f listed 0 0 k l) in
+      = rw e (left-written (map f listed) entry 0 k (omega (arith, length-map listed f)) ∙ getD-map f listed 0 0 k l) in
       subst (OwnLine (counted table) (getD listed k 0)) (sym is)
       (own-line (counted table) (getD listed k 0) (accepted-table (getD listed k 0) (listed-lengths k l)))
 
   -- beyond them the buffer is as it was
   pub beyond-kept : (k : ℕ) → getD filled (length listed + k) 0 ≡ getD entry (length listed + k) 0
   beyond-kept k =
-      let f = needFor (counted table) in
-      let size = length-map listed f in
-      rw e (
-      ap (λ (n : ℕ). getD (map f listed ++ drop (length (map f listed)) entry) (n + k) 0) (sym size)
-      ∙ getD-append-add (map f listed) _ k 0
-      ∙ getD-drop (length (map f listed)) entry k 0
-      ∙ ap (λ (n : ℕ). getD entry (n + k) 0) size
-      )
+      let needs = needsOf table listed in
+      subst (λ (n : ℕ). getD filled (n + k) 0 ≡ getD entry (n + k) 0) (length-map listed (needFor (counted table)))
+      (rw e (left-beyond needs entry 0 k))
 
 -- where something is refused, nothing is filled in
 pub refused-kept : (table listed entry : List ℕ) (number carried : ℕ) →

@@ -37,15 +37,15 @@ fn first_out(lengths: &[u32]) -> usize
 }
 
 // The need of each length, in the first places.
-fn put_needs(table: &[u32], lines: usize, lengths: &[u32], needs: &mut [u32])
-    requires { ⌜ (3 * lines ≤ length (now table)) × (length (now lengths) ≤ length (now needs)) ⌝ }
-    ensures { λ r. ⌜ now (needs .exit) ≡ map (needFor (firstLines (now (table .entry)) lines)) (now (lengths .entry))
+fn put_needs(table: &[u32], n: usize, lengths: &[u32], needs: &mut [u32])
+    requires { ⌜ (3 * n ≤ length (now table)) × (length (now lengths) ≤ length (now needs)) ⌝ }
+    ensures { λ r. ⌜ now (needs .exit) ≡ map (needFor (firstLines (now (table .entry)) n)) (now (lengths .entry))
         ++ drop (length (now (lengths .entry))) (now (needs .entry)) ⌝ }
 {
-    let n = lengths.len();
+    let listed = lengths.len();
     let mut k: usize = 0;
-    while k < n {
-        needs[k] = need_for(table, lines, lengths[k]);
+    while k < listed {
+        needs[k] = need_for(table, n, lengths[k]);
         k += 1;
     }
 }

@@ -19,7 +19,7 @@ pub fn line_count(table: &[u32]) -> usize
     lines
 }
 
-// The first n lines, copied.
+// The first n lines, copied: there is room for 32, three numbers each.
 pub fn lines_of(table: &[u32], n: usize) -> [u32; 96]
     requires { ⌜ (3 * n ≤ length (now table)) × (n ≤ 32) ⌝ }
     ensures { λ r. ⌜ firstLines r n ≡ firstLines (now (table .entry)) n ⌝ }

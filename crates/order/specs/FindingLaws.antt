@@ -1,5 +1,4 @@
--- Findings: what a search through a list comes to, numbers that stand for a finding, a time in and out of range, and how long a lent
--- buffer is at exit.
+-- Findings: what a search through a list comes to, numbers that stand for a finding, a time in and out of range.
 use Prim.Native.Nat.{ℕ, zero, suc, _+_, _≤_, _<_}
 use mathlib.Core.Path.{_≡_, refl, sym, ap, _∙_}
 use mathlib.Core.Bool.{Bool, true, false, not, and-false}
@@ -7,9 +6,9 @@ use mathlib.Core.List.{List, [], _∷_}
 use native.Mathlib.Omega.{arith}
 use native.Mathlib.Nat.{le-of-suc-le-suc}
 use borrow.Author.Tests.{le-leb, lt-leb}
-use lib.ListN.{length, getD, length-append, length-drop}
+use lib.ListN.{length, getD}
 use Rattle.sums.specs.Lists.{All}
-use Rattle.order.specs.Refusals.{clear, holds, Verdict, accepted, refused, leftBy, firstAfter, timeInRange}
+use Rattle.order.specs.Refusals.{clear, holds, firstAfter, timeInRange}
 use Rattle.order.specs.Table.{findingOf}
 
 -- no member passes a test, or the one at the place i does, and none before it
@@ -59,9 +58,3 @@ not-of b t e f = rw (sym e) f
 
 pub not-of-false : (b t : Bool) → t ≡ b → not t ≡ true → not b ≡ true
 not-of-false b t e f = rw (sym e) f
-
--- a lent buffer stays as long as it was, where what is written fits
-pub left-length : {A : Type 0} (v : Verdict) (written entry : List A) → length written ≤ length entry →
-    length (leftBy v written entry) ≡ length entry
-left-length accepted written entry h = length-append written _ ∙ omega (arith, length-drop (length written) entry)
-left-length (refused number carried) written entry h = refl

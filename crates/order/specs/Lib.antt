@@ -10,6 +10,7 @@ pub mod Table
 pub mod Machine
 pub mod RefusalLaws
 pub mod FindingLaws
+pub mod LeftLaws
 pub mod EndLaws
 pub mod LeadLaws
 pub mod TableLaws

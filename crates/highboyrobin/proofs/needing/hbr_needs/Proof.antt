@@ -30,7 +30,6 @@ fill-needs-requires : tie.Need-fill-needs-requires
 fill-needs-requires c κs = search needs
 
 -- what a refusal of filling in carries has room in a result, and so has the count of needs
-
 carried : (q : tie.After-slice-known2) (number x : ℕ) → filledTold (q .before .before .fill-needs .result) ≡ refusal number x →
     x ≤ mostLengths
 carried q number x is =

@@ -9,10 +9,10 @@ use Rattle.needs.proofs.filling.put_needs.Statement.{statement}
 use Rattle.needs.proofs.filling.put_needs.Tie as tie
 
 abbrev Inv-loop : tie.InvT-loop
-Inv-loop table lines lengths needs₀ n k₀ needs k = (k ≤ n) × (needs ≡ filledTo (needFor (firstLines table lines)) lengths needs₀ k)
+Inv-loop table n lengths needs₀ listed k₀ needs k = (k ≤ listed) × (needs ≡ filledTo (needFor (firstLines table n)) lengths needs₀ k)
 
 abbrev μ-loop : tie.MeasureT-loop
-μ-loop table lines lengths needs₀ n k₀ needs k = n - k
+μ-loop table n lengths needs₀ listed k₀ needs k = listed - k
 
 loop-holds : tie.Need-loop-holds Inv-loop μ-loop
 loop-holds c = (omega arith, refl)
