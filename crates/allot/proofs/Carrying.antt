@@ -1,6 +1,6 @@
 -- The flat lists made of a table in a frame are what the engine asks for, and its answer about them is one about the table.
 use Prim.Native.Nat.{ℕ, zero, suc, pred, _+_, _-_, _*_, _≤_, _<_, min}
-use mathlib.Core.Path.{_≡_, refl, ap, _∙_}
+use mathlib.Core.Path.{_≡_, refl, sym, ap, _∙_}
 use mathlib.Core.Bool.{Bool, true, false}
 use mathlib.Core.List.{List}
 use native.Mathlib.Nat.{mul-le-mul-right}
@@ -8,6 +8,7 @@ use native.Mathlib.Omega.{arith}
 use borrow.Author.Tests.{lt-leb}
 use lib.Dec.{leb}
 use lib.ListN.{length, getD, take, length-take}
+use Rattle.sums.specs.Arrays.{RowOf}
 use Rattle.sums.specs.Sum.{sum, sum-le, sum-mul}
 use Rattle.sums.specs.Kept.{keep-all, keep-few}
 use Rattle.sums.specs.Lists.{total, only, nth, keep}
@@ -22,6 +23,8 @@ use Rattle.engine.specs.RunLaws.{run-carried}
 use Rattle.wrap.specs.Frame.{Frame, lengthIn, lies, capIn, openIn}
 use Rattle.wrap.specs.FrameFlow.{only-more}
 use Rattle.layout.specs.Planned.{frameLent}
+use Rattle.table.specs.Held.{valueOf, byNumber}
+use Rattle.table.specs.HeldLaws.{value-at}
 use Rattle.table.specs.declared.Table.{Table}
 use Rattle.allot.specs.Flows.{openOn, flowOn, capOn, roomOn, Sized}
 use Rattle.allot.specs.Tables.{Rows, Times, Classes}
@@ -84,8 +87,24 @@ module _ (t : Table) (q : ℕ) (marks ready until opens closes : List ℕ)
           last-small q (omega arith),
         )
 
-    module _ (time class : List ℕ) (T : Times (t .n) (t .times) (lasts room (suc (t .s)) q) time)
-        (C : Classes (t .n) (t .classes) (t .s) class) where
+    -- the times and the classes in input order, and behind them those of the idle job
+    module _ (times classes time class : List ℕ) (rt : RowOf (byNumber t .time) (t .n) times) (rc : RowOf (byNumber t .class) (t .n) classes)
+        (T : Times (t .n) times (lasts room (suc (t .s)) q) time) (C : Classes (t .n) classes (t .s) class) where
+      time-is : (j : ℕ) → j < t .n → getD time j 0 ≡ byNumber t .time j
+      time-is j b = T .each j b ∙ rt .at j b
+
+      class-is : (j : ℕ) → j < t .n → getD class j 0 ≡ byNumber t .class j
+      class-is j b = C .each j b ∙ rc .at j b
+
+      -- each job has a class
+      classed : (j : ℕ) → j < t .n → (1 ≤ getD class j 0) × (getD class j 0 ≤ t .s)
+      classed j b =
+          let r = S .job-numbers .place (suc j) (omega arith, b) in
+          let e : getD class j 0 ≡ getD (t .classes) (r .0) 0
+          = class-is j b ∙ ap (valueOf (t .«by_need») (t .n) (t .classes)) (sym (r .2))
+          ∙ value-at (t .«by_need») (t .n) (S .job-numbers) (t .classes) (r .0) (r .1) in
+          rw e (S .classed (r .0) (r .1))
+
       -- as the engine sees them
       abbrev seen : Flow
       seen = flowOf (t .n) q (suc (t .s)) time class cap room
@@ -107,8 +126,8 @@ module _ (t : Table) (q : ℕ) (marks ready until opens closes : List ℕ)
       asked =
           record {
             classes = omega arith;
-            low = λ j b. omega (arith, C .each j b, S .classed j b);
-            high = λ j b. omega (arith, C .each j b, S .classed j b);
+            low = λ j b. omega (arith, classed j b);
+            high = λ j b. omega (arith, classed j b);
             idle-class = C .idle;
             idle-time = T .idle-is;
             no-room = no-room;
@@ -138,15 +157,15 @@ module _ (t : Table) (q : ℕ) (marks ready until opens closes : List ℕ)
 
       told : (w : List ℕ) (r : Bool) → Answer seen (suc (t .s)) (grid q w) r → Answer (flowOn t f) (suc (t .s)) (grid q w) r
       told w true h =
-          same-feasible (t .n) q (row time) (row (t .times)) (row class) (row (t .classes))
-          (grid q cap) (flowOn t f .cap) (seen .room) (flowOn t f .room) (T .each) (C .each) cap-is room-no-more 1 (grid q w) h
+          same-feasible (t .n) q (row time) (byNumber t .time) (row class) (byNumber t .class)
+          (grid q cap) (flowOn t f .cap) (seen .room) (flowOn t f .room) time-is class-is cap-is room-no-more 1 (grid q w) h
       told w false h =
           record {
             κ = h .κ;
             below = h .below;
             violating =
-                same-violating (t .n) q (row time) (row (t .times)) (row class) (row (t .classes))
-                (grid q cap) (flowOn t f .cap) (seen .room) (flowOn t f .room) (T .each) (C .each) cap-is (suc (t .s))
+                same-violating (t .n) q (row time) (byNumber t .time) (row class) (byNumber t .class)
+                (grid q cap) (flowOn t f .cap) (seen .room) (flowOn t f .room) time-is class-is cap-is (suc (t .s))
                 room-below (h .κ) (λ s _. h .below s) (h .violating);
           }
 
@@ -167,8 +186,8 @@ module _ (t : Table) (q : ℕ) (marks ready until opens closes : List ℕ)
             (record {
               n-same = refl;
               q-same = refl;
-              time-same = T .each;
-              class-same = C .each;
+              time-same = time-is;
+              class-same = class-is;
               cap-same = cap-is;
               room-same = room-below;
             }) (rw e at h)

@@ -30,6 +30,8 @@ use Rattle.wrap.specs.FrameBase.{baseFrame, feasible-out}
 use Rattle.feasible.specs.Overfull.{profile-overfull}
 use Rattle.feasible.specs.Matches.{jobs-match}
 use Rattle.feasible.specs.PlanAmounts.{base-cut}
+use Rattle.table.specs.Held.{byNumber}
+use Rattle.table.specs.HeldLaws.{held-read}
 use Rattle.table.specs.Tabled.{Tabled}
 use Rattle.table.specs.declared.Table.{Table}
 use Rattle.allot.specs.Chosen.{Chosen}
@@ -63,18 +65,18 @@ module _ {top : ℤ} (o : Order) (work : Workable top o) (bound : ℤ) (none : N
   no-cut c =
       let p : Profile (jobsFor o bound) (length (classes o)) =
       cut-profile (jobsFor o bound) (jobs-on-marks o bound work (none .0)) (length (classes o))
-      (jobs-in-time o bound work (none .0)) (jobs-met o bound) (base-cut o bound (cut-in-frame o t m (baseFrame o bound) g A c)) in
+      (jobs-in-time o bound work (none .0)) (jobs-met o bound) (base-cut o bound (cut-in-frame o t m (baseFrame o bound) g A (byNumber t) (held-read o t m) c)) in
       let stairs = profile-overfull o bound (none .0) (jobsFor o bound) (jobs-match o bound) (omega arith) p in
       none .1 (stairs .0) (stairs .1)
 
   -- the engine's answer about the table of an order with no reason against the bound: amounts for the order
   pub tabled-feasible : (w : List ℕ) (r : Bool) → Answer (flowOn t g) (suc (t .s)) (grid (g .stretches) w) r →
       FeasibleFor o bound (amountIn (g .stretches) w)
-  tabled-feasible w true h = feasible-out o bound _ (feasible-in-frame o t m (baseFrame o bound) g A w h)
+  tabled-feasible w true h = feasible-out o bound _ (feasible-in-frame o t m (baseFrame o bound) g A (byNumber t) (held-read o t m) w h)
   tabled-feasible w false c = absurd (no-cut c)
 
   -- and they are the order's
   pub tabled-chosen : (w : List ℕ) (r : Bool) → Answer (flowOn t g) (suc (t .s)) (grid (g .stretches) w) r →
       RunOf (flowOn t g) (suc (t .s)) (grid (g .stretches) w) r → Chosen o bound (amountIn (g .stretches) w)
-  tabled-chosen w true h run = run-in-frame o t m (baseFrame o bound) g A (grid (g .stretches) w) true run
+  tabled-chosen w true h run = run-in-frame o t m (baseFrame o bound) g A (byNumber t) (held-read o t m) (grid (g .stretches) w) true run
   tabled-chosen w false c run = absurd (no-cut c)

@@ -9,6 +9,7 @@ use Rattle.amounts.specs.Flow.{Flow}
 use Rattle.wrap.specs.Frame.{Frame, lengthIn, capIn, openIn, Rising}
 use Rattle.layout.specs.Laid.{Numbered}
 use Rattle.layout.specs.Planned.{openAt}
+use Rattle.table.specs.Held.{EachOnce, beside, Reading, byNumber}
 use Rattle.table.specs.declared.Table.{Table}
 use Rattle.allot.specs.Tables.{Kinds}
 
@@ -16,15 +17,20 @@ use Rattle.allot.specs.Tables.{Kinds}
 abbrev pub openOn : Table → Frame → ℕ → ℕ → ℕ
 openOn t f s k = total (keep (openIn f s) (take (t .m) (t .«by_memory»))) (λ i. only (leb (getD (t .kinds) (pred i) 0) k) 1)
 
-abbrev pub flowOn : Table → Frame → Flow
-flowOn t f = record {
+-- the flow takes the jobs in input order, however the table's jobs are read
+abbrev pub flowFrom : Reading → Table → Frame → Flow
+flowFrom r t f = record {
   q = f .stretches;
   n = t .n;
-  time = λ j. getD (t .times) j 0;
-  class = λ j. getD (t .classes) j 0;
+  time = r .time;
+  class = r .class;
   cap = λ j s. capIn f (suc j) s;
   room = λ s k. openOn t f s k * lengthIn f s;
 }
+
+-- of §8's table: by the numbers beside its places
+abbrev pub flowOn : Table → Frame → Flow
+flowOn t f = flowFrom (byNumber t) t f
 
 -- its caps and rooms by lent numbers: stretch s ends at marks[s], the first begins at minute 0
 abbrev pub capAt : List ℕ → (ready until s : ℕ) → ℕ
@@ -45,7 +51,8 @@ pub record Sized (t : Table) (f : Frame) : Type 0 where
   pub few-processors : t .m ≤ 16
   pub few-classes : t .s ≤ 16
   pub few-stretches : f .stretches ≤ 128
-  pub classed : (j : ℕ) → j < t .n → (1 ≤ getD (t .classes) j 0) × (getD (t .classes) j 0 ≤ t .s)
+  pub job-numbers : EachOnce (t .n) (beside (t .«by_need»))
+  pub classed : (k : ℕ) → k < t .n → (1 ≤ getD (t .classes) k 0) × (getD (t .classes) k 0 ≤ t .s)
   pub numbered : Numbered (t .m) (t .«by_memory»)
   pub kinds : Kinds (t .s) (t .kinds) (take (t .m) (t .«by_memory»))
   pub rising : Rising f

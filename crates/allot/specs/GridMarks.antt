@@ -21,7 +21,8 @@ use Rattle.wrap.specs.Frame.{Frame, openIn}
 use Rattle.wrap.specs.FrameLaws.{lies-is}
 use Rattle.wrap.specs.FrameBase.{baseFrame}
 use Rattle.layout.specs.Planned.{frameLent}
-use Rattle.table.specs.Tabled.{GridOf, Tabled}
+use Rattle.table.specs.Held.{Reading, ReadingOf}
+use Rattle.table.specs.Tabled.{GridOf, TabledBy}
 use Rattle.table.specs.declared.Members.{Members}
 use Rattle.table.specs.declared.Table.{Table}
 use Rattle.allot.specs.InFrame.{Agrees}
@@ -29,23 +30,23 @@ use Rattle.allot.specs.InFrame.{Agrees}
 pub grid-counted : (top : ℤ) (o : Order) (m : Members) → GridOf top o m → m .count ≡ stretchCount o
 grid-counted top o m g = sym (ap length (g .dues) ∙ length-down (λ i. dueAt top (getD (m .at) i 0)) (m .count))
 
--- the deadlines of an order, from its table
-pub deadlines-are : {top : ℤ} (o : Order) → Workable top o → (bound : ℤ) (t : Table) → Tabled top o t → (reach : ℕ) →
-    reach ≡ reachAt top bound → (ds : List ℕ) → RowOf (λ i. reach - getD (t .leads) i 0) 48 ds →
+-- the deadlines of an order, from the leads of its jobs in input order
+pub deadlines-are : {top : ℤ} (o : Order) → Workable top o → (bound : ℤ) (r : Reading) → ReadingOf top o r → (reach : ℕ) →
+    reach ≡ reachAt top bound → (ds : List ℕ) → RowOf (λ j. reach - r .lead j) (jobCount o) ds →
     (j : ℕ) → j < jobCount o → getD ds j 0 ≡ deadlineOf bound (jobOf o (suc j))
 unfolding deadlineOf endOf
-deadlines-are {top} o work bound t m reach e ds hd j l =
-    hd .at j (omega (arith, m .jobs, m .few-jobs))
+deadlines-are {top} o work bound r R reach e ds hd j l =
+    hd .at j l
     ∙ omega (
       arith,
       e,
-      m .leads j l,
+      R .leads j l,
       deadline-lead top bound (jobOf o (suc j) .due) (All-at _ (o .jobs) noJob (work .dues) j l),
     )
 
-module _ {top : ℤ} (o : Order) (work : Workable top o) (bound : ℤ) (t : Table) (m : Tabled top o t) (reach : ℕ)
-    (e : reach ≡ reachAt top bound) (ds ms : List ℕ) (hd : RowOf (λ i. reach - getD (t .leads) i 0) 48 ds)
-    (hm : RowOf (λ i. reach - getD (t .grid) i 0) 48 ms) where
+module _ {top : ℤ} {number : ℕ → ℕ} (o : Order) (work : Workable top o) (bound : ℤ) (t : Table) (m : TabledBy number top o t)
+    (r : Reading) (R : ReadingOf top o r) (reach : ℕ) (e : reach ≡ reachAt top bound) (ds ms : List ℕ)
+    (hd : RowOf (λ j. reach - r .lead j) (t .n) ds) (hm : RowOf (λ i. reach - getD (t .grid) i 0) 48 ms) where
   stretches-are : t .q ≡ stretchCount o
   stretches-are = grid-counted top o _ (m .grid)
 
@@ -85,7 +86,7 @@ module _ {top : ℤ} (o : Order) (work : Workable top o) (bound : ℤ) (t : Tabl
 
     until : (j : ℕ) → Numbers (jobCount o) j → lent .until j ≡ deadlineOf bound (jobOf o j)
     until zero b = absurd (omega arith)
-    until (suc j) b = deadlines-are o work bound t m reach e ds hd j (b .1)
+    until (suc j) b = deadlines-are o work bound r R reach e ds (rw (m .jobs) at hd) j (b .1)
 
     pub lent-agrees : Agrees o (baseFrame o bound) lent
     lent-agrees =

@@ -15,8 +15,8 @@ use Rattle.sums.specs.Members.{All-map, nth-in}
 use Rattle.sums.specs.Totals.{total-cong}
 use Rattle.amounts.specs.Flow.{Feasible, Cut}
 use Rattle.engine.specs.View.{grid}
-use Rattle.engine.specs.Run.{RunOf}
-use Rattle.engine.specs.RunLaws.{run-carried}
+use Rattle.engine.specs.Run.{SameFlow, RunOf}
+use Rattle.engine.specs.RunLaws.{flow-turned, run-carried}
 use Rattle.order.specs.Order.{Order, processorCount, jobCount, Numbers, jobOf, memoryOf}
 use Rattle.order.specs.Class.{classes}
 use Rattle.order.specs.ClassLaws.{class-at-most, class-of-processor}
@@ -30,9 +30,11 @@ use Rattle.wrap.specs.Frame.{Frame, lengthIn, lies, capIn, openIn, openOrder, o
 use Rattle.wrap.specs.FrameLaws.{processorClass, open-are}
 use Rattle.wrap.specs.FrameFlow.{flowIn, Classed}
 use Rattle.layout.specs.PlannedLaws.{first-processors, processors-numbered}
-use Rattle.table.specs.Tabled.{Tabled}
+use Rattle.table.specs.Held.{Reading, ReadingOf}
+use Rattle.table.specs.HeldLaws.{beside-once}
+use Rattle.table.specs.Tabled.{TabledBy}
 use Rattle.table.specs.declared.Table.{Table}
-use Rattle.allot.specs.Flows.{openOn, flowOn, Sized}
+use Rattle.allot.specs.Flows.{openOn, flowFrom, Sized}
 use Rattle.allot.specs.Holds.{Holds, holds-feasible, holds-cut}
 
 -- every job of a workable order has a class
@@ -48,7 +50,7 @@ pub record Agrees (o : Order) (f g : Frame) : Type 0 where
   pub until-same : (j : ℕ) → Numbers (jobCount o) j → g .until j ≡ f .until j
   pub open-same : (s i : ℕ) → s < f .stretches → Numbers (processorCount o) i → openIn g s i ≡ openIn f s i
 
-module _ {top : ℤ} (o : Order) (t : Table) (m : Tabled top o t) (f g : Frame) (A : Agrees o f g) where
+module _ {top : ℤ} {number : ℕ → ℕ} (o : Order) (t : Table) (m : TabledBy number top o t) (f g : Frame) (A : Agrees o f g) where
   caps-are : (j s : ℕ) → j < jobCount o → s < f .stretches → capIn g (suc j) s ≡ capIn f (suc j) s
   unfolding lies
   caps-are j s l b =
@@ -77,18 +79,6 @@ module _ {top : ℤ} (o : Order) (t : Table) (m : Tabled top o t) (f g : Frame) 
   rooms-are : (s k : ℕ) → s < f .stretches → openOn t g s k * lengthIn g s ≡ openTo o f s k * lengthIn f s
   rooms-are s k b = rw (opened s k b, A .marks-same s (omega arith), A .marks-same (suc s) b) refl
 
-  pub holds : Holds o f (flowOn t g) (t .s)
-  holds =
-      record {
-        jobs-are = m .jobs;
-        stretches-are = A .stretches-same;
-        classes-are = m .classed;
-        times-are = m .times;
-        job-classes-are = m .classes-of;
-        caps-are = caps-are;
-        rooms-are = λ s k b l. rooms-are s k b;
-      }
-
   -- flat amounts by job number: the number 0 names no job
   by-number : (q : ℕ) (w : List ℕ) → FeasibleIn o f (byNumber (grid q w)) → FeasibleIn o f (amountIn q w)
   unfolding heldUpTo
@@ -102,26 +92,51 @@ module _ {top : ℤ} (o : Order) (t : Table) (m : Tabled top o t) (f g : Frame) 
       whole zero b = absurd (omega arith)
       whole (suc j) b = h .whole (suc j) b
 
-  pub feasible-in-frame : (w : List ℕ) → Feasible (flowOn t g) 1 (grid (g .stretches) w) →
-      FeasibleIn o f (amountIn (g .stretches) w)
-  feasible-in-frame w F =
-      by-number (g .stretches) w (holds-feasible o f (flowOn t g) (t .s) holds (grid (g .stretches) w) F)
+  -- with the jobs read in input order
+  module _ (r : Reading) (R : ReadingOf top o r) where
+    holds : Holds o f (flowFrom r t g) (t .s)
+    holds =
+        record {
+          jobs-are = m .jobs;
+          stretches-are = A .stretches-same;
+          classes-are = m .classed;
+          times-are = R .times;
+          job-classes-are = R .classes;
+          caps-are = caps-are;
+          rooms-are = λ s k b l. rooms-are s k b;
+        }
 
-  pub cut-in-frame : Cut (flowOn t g) (suc (t .s)) → Cut (flowIn o f) (suc (length (classes o)))
-  cut-in-frame c = holds-cut o f (flowOn t g) (t .s) holds c
+    pub feasible-in-frame : (w : List ℕ) → Feasible (flowFrom r t g) 1 (grid (g .stretches) w) →
+        FeasibleIn o f (amountIn (g .stretches) w)
+    feasible-in-frame w F =
+        by-number (g .stretches) w (holds-feasible o f (flowFrom r t g) (t .s) holds (grid (g .stretches) w) F)
 
-  pub run-in-frame : (a : ℕ → ℕ → ℕ) (r : Bool) → RunOf (flowOn t g) (suc (t .s)) a r →
-      RunOf (flowIn o f) (suc (length (classes o))) a r
-  run-in-frame a r h =
-      run-carried (suc (length (classes o))) (flowOn t g) (flowIn o f) a r
-      (record {
-        n-same = m .jobs;
-        q-same = A .stretches-same;
-        time-same = m .times;
-        class-same = m .classes-of;
-        cap-same = caps-are;
-        room-same = λ s k b l. rooms-are s k b;
-      }) (rw (m .classed) at h)
+    pub cut-in-frame : Cut (flowFrom r t g) (suc (t .s)) → Cut (flowIn o f) (suc (length (classes o)))
+    cut-in-frame c = holds-cut o f (flowFrom r t g) (t .s) holds c
+
+    flow-same : SameFlow (suc (length (classes o))) (flowFrom r t g) (flowIn o f)
+    flow-same =
+        record {
+          n-same = m .jobs;
+          q-same = A .stretches-same;
+          time-same = R .times;
+          class-same = R .classes;
+          cap-same = caps-are;
+          room-same = λ s k b l. rooms-are s k b;
+        }
+
+    -- its run is the order's, both ways
+    pub run-in-frame : (a : ℕ → ℕ → ℕ) (b : Bool) → RunOf (flowFrom r t g) (suc (t .s)) a b →
+        RunOf (flowIn o f) (suc (length (classes o))) a b
+    run-in-frame a b h =
+        run-carried (suc (length (classes o))) (flowFrom r t g) (flowIn o f) a b flow-same (rw (m .classed) at h)
+
+    pub run-of-frame : (a : ℕ → ℕ → ℕ) (b : Bool) → RunOf (flowIn o f) (suc (length (classes o))) a b →
+        RunOf (flowFrom r t g) (suc (t .s)) a b
+    run-of-frame a b h =
+        rw (m .classed)
+        (run-carried (suc (length (classes o))) (flowIn o f) (flowFrom r t g) a b
+        (flow-turned (suc (length (classes o))) (flowFrom r t g) (flowIn o f) flow-same) h)
 
   -- its numbers are small where those of the frame are
   pub sized-in-frame : Classed o → Rising f → f .stretches ≤ 128 →
@@ -132,10 +147,11 @@ module _ {top : ℤ} (o : Order) (t : Table) (m : Tabled top o t) (f g : Frame) 
         few-processors = m .few-processors;
         few-classes = m .few-classes;
         few-stretches = omega (arith, A .stretches-same);
-        classed = λ j b.
-            let l : j < jobCount o = omega (arith, m .jobs) in (
-              omega (arith, m .classes-of j l, classed (suc j) (omega arith, l)),
-              omega (arith, m .classes-of j l, class-by-at-most o (suc j), m .classed),
+        job-numbers = beside-once o t m;
+        classed = λ k b.
+            let l : k < jobCount o = omega (arith, m .jobs) in (
+              omega (arith, m .classes-of k l, classed (number k) (m .each-once .are k l)),
+              omega (arith, m .classes-of k l, class-by-at-most o (number k), m .classed),
             );
         numbered = processors-numbered o t m;
         kinds = rw (first-processors o t m)

@@ -16,12 +16,12 @@ use Rattle.wrap.specs.Joined.{layout-rises, layout-forward}
 use Rattle.layout.specs.Laid.{Numbered}
 use Rattle.layout.specs.Planned.{frameLent, lentFrame, planned, Joinable}
 use Rattle.layout.specs.PlannedLaws.{first-processors, first-jobs, processors-numbered, jobs-numbered, laid-out-is}
-use Rattle.table.specs.Tabled.{Tabled}
+use Rattle.table.specs.Tabled.{TabledBy}
 use Rattle.table.specs.declared.Table.{Table}
 use Rattle.allot.specs.InFrame.{Agrees}
 
-module _ {top : ℤ} (o : Order) (t : Table) (m : Tabled top o t) (q : ℕ) (marks ready until opens closes w : List ℕ) (f : Frame)
-    (A : Agrees o f (frameLent q marks ready until opens closes)) (up : Rising f) where
+module _ {top : ℤ} {number : ℕ → ℕ} (o : Order) (t : Table) (m : TabledBy number top o t) (q : ℕ)
+    (marks ready until opens closes w : List ℕ) (f : Frame) (A : Agrees o f (frameLent q marks ready until opens closes)) (up : Rising f) where
   pub planned-is : planned t q marks opens closes w ≡ layoutIn o f (amountIn q w)
   unfolding lies
   planned-is =

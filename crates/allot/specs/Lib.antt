@@ -8,3 +8,4 @@ pub mod LaidInFrame
 pub mod GridMarks
 pub mod Feasible
 pub mod Chosen
+pub mod SameRows

@@ -1,10 +1,12 @@
-// The engine on a table in a frame. `fill_amounts` serves the crates above and has a `requires`.
+// The engine on a table in a frame: it takes the jobs in input order, not as they lie in the table. `fill_amounts` serves the crates above
+// and has a `requires`.
 use super::tables::idle_minutes;
 use super::tables::put_caps;
 use super::tables::put_classes;
 use super::tables::put_rooms;
 use super::tables::put_times;
 use table::Table;
+use table::places::by_number;
 ghost use Prim.Native.Nat.{suc};
 ghost use Rattle.layout.specs.Planned.{frameLent};
 ghost use Rattle.engine.specs.View.{grid, Answer};
@@ -40,8 +42,9 @@ pub fn fill_amounts(
     let mut height = [0usize; 49];
     let processors = t.by_memory;
     let kinds = t.kinds;
-    let times = t.times;
-    let classes = t.classes;
+    let numbers = t.by_need;
+    let times = by_number(t.times, numbers, t.n);
+    let classes = by_number(t.classes, numbers, t.n);
     put_caps(cap, marks, q, ready, until, t.n);
     put_rooms(room, processors, t.m, kinds, t.s, marks, q, opens, closes);
     put_times(&mut time, &times, t.n, idle_minutes(room, q, t.s + 1));

@@ -388,6 +388,18 @@ module _ (o : Flow) (m : ℕ) (a b : ℕ → ℕ → ℕ) (r t : Bool) (P : RunO
         ∙ sym (R .amounts j s l c),
   )
 
+-- flows agree both ways
+pub flow-turned : (m : ℕ) (o p : Flow) → SameFlow m o p → SameFlow m p o
+flow-turned m o p S =
+    record {
+      n-same = sym (S .n-same);
+      q-same = sym (S .q-same);
+      time-same = λ j l. sym (S .time-same j (omega (arith, S .n-same)));
+      class-same = λ j l. sym (S .class-same j (omega (arith, S .n-same)));
+      cap-same = λ j s l b. sym (S .cap-same j s (omega (arith, S .n-same)) (omega (arith, S .q-same)));
+      room-same = λ s k b l. sym (S .room-same s k (omega (arith, S .q-same)) l);
+    }
+
 -- a flow that agrees has the same run
 pub run-carried : (m : ℕ) (o p : Flow) (a : ℕ → ℕ → ℕ) (r : Bool) → SameFlow m o p → RunOf o m a r → RunOf p m a r
 run-carried m o p a r S R =

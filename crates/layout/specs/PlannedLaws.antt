@@ -15,7 +15,7 @@ use Rattle.order.specs.OrderingLaws.{processors-ordered, jobs-ordered}
 use Rattle.order.specs.Table.{padded}
 use Rattle.plan.specs.Plan.{Row}
 use Rattle.wrap.specs.Frame.{Frame, openIn, openOrder, stretchRowsIn, inTurn, layoutIn}
-use Rattle.table.specs.Tabled.{Tabled}
+use Rattle.table.specs.Tabled.{TabledBy}
 use Rattle.table.specs.declared.Table.{Table}
 use Rattle.layout.specs.Laid.{Numbered}
 use Rattle.layout.specs.Planned.{rowsIn, laidOut}
@@ -24,7 +24,7 @@ use Rattle.layout.specs.Planned.{rowsIn, laidOut}
 take-padded : (size : ℕ) (xs : List ℕ) (n : ℕ) (ys : List ℕ) → length xs ≡ n → n ≤ size → ys ≡ padded size xs → take n ys ≡ xs
 take-padded size xs n ys e h f = rw (f, sym e) (take-tabulate xs size 0 (omega arith))
 
-module _ {top : ℤ} (o : Order) (t : Table) (m : Tabled top o t) where
+module _ {top : ℤ} {number : ℕ → ℕ} (o : Order) (t : Table) (m : TabledBy number top o t) where
   pub first-processors : take (t .m) (t .«by_memory») ≡ processorOrder o
   first-processors =
       take-padded 16 (processorOrder o) (t .m) (t .«by_memory») (processors-ordered o .count ∙ sym (m .processors))

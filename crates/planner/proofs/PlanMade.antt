@@ -26,6 +26,8 @@ use Rattle.wrap.specs.Frame.{Frame, Rising}
 use Rattle.wrap.specs.FrameBase.{baseFrame, layout-is, feasible-in}
 use Rattle.engine.specs.View.{grid, Answer}
 use Rattle.engine.specs.Run.{RunOf}
+use Rattle.table.specs.Held.{byNumber}
+use Rattle.table.specs.HeldLaws.{held-read}
 use Rattle.table.specs.declared.Table.{Table}
 use Rattle.allot.specs.Flows.{flowOn, Long, Sized}
 use Rattle.allot.specs.InFrame.{Agrees}
@@ -39,7 +41,7 @@ use Rattle.planner.specs.Written.{Written}
 use Rattle.planner.specs.Making.{MadeOf}
 
 module _ {o : Order} {t : Table} {bound : ℤ} {lent : ℕ} (m : MadeOf o t bound lent) {reach : ℕ} {ds ms : List ℕ}
-    (e : reach ≡ reachAt lastDue bound) (hd : RowOf (λ i. reach - getD (t .leads) i 0) 48 ds)
+    (e : reach ≡ reachAt lastDue bound) (hd : RowOf (λ j. reach - byNumber t .lead j) (t .n) ds)
     (hm : RowOf (λ i. reach - getD (t .grid) i 0) 48 ms) where
   abbrev a : Acceptable o
   a = accepted-iff o .0 (m .accepted)
@@ -51,7 +53,9 @@ module _ {o : Order} {t : Table} {bound : ℤ} {lent : ℕ} (m : MadeOf o t boun
     lentBy = frameLent (t .q) ms zs ds opens closes
 
     agrees : Agrees o (baseFrame o bound) lentBy
-    agrees = lent-agrees o (workable o a) bound t (m .tabled) reach e ds ms hd hm zs opens closes hz ho hc
+    agrees =
+        lent-agrees o (workable o a) bound t (m .tabled) (byNumber t) (held-read o t (m .tabled)) reach e ds ms hd hm zs opens closes
+        hz ho hc
 
     pub amounts-sized : Sized t lentBy
     amounts-sized = tabled-sized o a bound (m .bound-good) t (m .tabled) lentBy agrees

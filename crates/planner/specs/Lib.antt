@@ -13,3 +13,4 @@ pub mod AnswerLaws
 pub mod TenLaws
 pub mod NoPlan
 pub mod Making
+pub mod SamePlan

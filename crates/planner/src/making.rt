@@ -5,6 +5,7 @@ use layout::stretches::lay_plan;
 use table::Table;
 use table::lead::minutes_at;
 use table::lead::reach_of;
+use table::places::ends_at;
 ghost use Prim.Native.Nat.{_≤_};
 ghost use lib.ListN.{length};
 ghost use Rattle.planner.specs.Making.{Makeable, MadeBy};
@@ -15,8 +16,9 @@ pub fn make_plan(t: Table, bound: i32, rows: &mut [u32]) -> usize
 {
     let reach = reach_of(bound);
     let leads = t.leads;
+    let numbers = t.by_need;
     let grid = t.grid;
-    let deadlines = minutes_at(leads, reach);
+    let deadlines = ends_at(leads, numbers, t.n, reach);
     let marks = minutes_at(grid, reach);
     let ready = [0u32; 48];
     let opens = [0u32; 16];

@@ -1,3 +1,4 @@
 mod Dues
-mod JobByJob
+mod ClassByClass
+mod LateFirst
 mod Tells

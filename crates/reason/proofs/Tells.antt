@@ -7,13 +7,15 @@ use native.Mathlib.Decide.{decLt}
 use borrow.Author.Tests.{lt-ltb, le-ltb}
 use lib.IntN.{ℤ, pos}
 use lib.ListN.{length, getD, replicate}
-use Rattle.sums.specs.Lists.{tabulate}
+use Rattle.sums.specs.Lists.{nth, tabulate}
 use Rattle.sums.specs.Places.{tabulate-cong, tabulate-getD}
 use Rattle.order.specs.Refusals.{Finding, clear, first}
 use Rattle.order.specs.Table.{findingOf}
 use Rattle.profile.specs.Search.{nothing, found}
 use Rattle.stairs.specs.Places.{FoundPlaces, firstOverfullAt}
 use Rattle.sums.specs.Arrays.{pad, getD-pad}
+use Rattle.table.specs.Held.{valueOf, byNumber}
+use Rattle.table.specs.HeldLaws.{value-at}
 use Rattle.table.specs.Tabled.{Fine}
 use Rattle.order.specs.Lead.{dueAt, lastDue}
 use Rattle.table.specs.declared.Table.{Table}
@@ -22,7 +24,7 @@ use Rattle.stairs.specs.Tables.{stopAt}
 use Rattle.stairs.specs.declared.Outcome.the-variants.{Places, Nothing as Nowhere}
 use Rattle.stairs.specs.declared.Stop.{Stop}
 use Rattle.reason.specs.Told.{sixteen}
-use Rattle.reason.specs.Asked.{firstOf, late, dueOr, toldAt, toldBy, toldOf}
+use Rattle.reason.specs.Asked.{firstOf, late, dueOr, toldAt, toldBy, toldFrom, toldOf}
 use Rattle.reason.specs.declared.Reason.the-variants.{Job, Stairs}
 use Rattle.reason.specs.declared.Tightness.the-variants.{Tight, Met}
 
@@ -82,26 +84,38 @@ hit-of t reach fine w k e r = go (firstOf t reach) refl e
               ));
         }
 
-module _ (t : Table) (reach j : ℕ) (e : findingOf j ≡ first (late t reach) (tabulate (t .n) (λ j. j))) where
+-- the place of the first late job, from 1 on, or 0
+module _ (t : Table) (reach at : ℕ) (fine : Fine t) (l : at ≤ t .n)
+    (e : findingOf (nth (t .«by_need») at 0) ≡ first (late (byNumber t) reach) (tabulate (t .n) (λ j. j))) where
   -- a job was found
-  pub tell-late : 0 < j → record { tightness = Tight (Job j (getD (t .times) (j - 1) 0)); dues = replicate 16 (pos 0) } ≡ toldOf t reach
-  unfolding toldOf
-  tell-late h = go j h ∙ ap (λ (f : Finding). toldBy t f (firstOf t reach)) e
+  pub tell-late : 0 < at →
+      record { tightness = Tight (Job (getD (t .«by_need») (at - 1) 0) (getD (t .times) (at - 1) 0)); dues = replicate 16 (pos 0) }
+      ≡ toldOf t reach
+  unfolding toldFrom
+  tell-late h = go at h l ∙ ap (λ (f : Finding). toldBy (byNumber t) t f (firstOf t reach)) e
     where
-      go : (j : ℕ) → 0 < j → record { tightness = Tight (Job j (getD (t .times) (j - 1) 0)); dues = replicate 16 (pos 0) } ≡
-          toldBy t (findingOf j) (firstOf t reach)
-      go zero h = absurd (omega arith)
-      go (suc i) h =
-          ap (λ (x : ℕ). record { tightness = Tight (Job (suc i) (getD (t .times) x 0)); dues = replicate 16 (pos 0) }) (omega arith)
+      number : (x v : ℕ) → 1 ≤ x → valueOf (t .«by_need») (t .n) (t .times) x ≡ v →
+          record { tightness = Tight (Job x v); dues = sixteen [] } ≡ toldBy (byNumber t) t (findingOf x) (firstOf t reach)
+      number zero v b q = absurd (omega arith)
+      number (suc x) v b q = rw q refl
 
-  module _ (h : j ≤ 0) where
+      go : (at : ℕ) → 0 < at → at ≤ t .n →
+          record { tightness = Tight (Job (getD (t .«by_need») (at - 1) 0) (getD (t .times) (at - 1) 0)); dues = replicate 16 (pos 0) }
+          ≡ toldBy (byNumber t) t (findingOf (nth (t .«by_need») at 0)) (firstOf t reach)
+      go zero h l = absurd (omega arith)
+      go (suc i) h l =
+          let z : suc i - 1 ≡ i = omega arith in
+          rw z (number (getD (t .«by_need») i 0) (getD (t .times) i 0) (fine .numbers .are i l .0)
+          (value-at (t .«by_need») (t .n) (fine .numbers) (t .times) i l))
+
+  module _ (h : at ≤ 0) where
     by-profile : toldAt t (firstOf t reach) ≡ toldOf t reach
-    unfolding toldOf
+    unfolding toldFrom
     by-profile =
-        let z : findingOf j ≡ clear = none j h in
-        ap (λ (f : Finding). toldBy t f (firstOf t reach)) (sym z ∙ e)
+        let z : findingOf (nth (t .«by_need») at 0) ≡ clear = none at h in
+        ap (λ (f : Finding). toldBy (byNumber t) t f (firstOf t reach)) (sym z ∙ e)
       where
-        none : (j : ℕ) → j ≤ 0 → findingOf j ≡ clear
+        none : (at : ℕ) → at ≤ 0 → findingOf (nth (t .«by_need») at 0) ≡ clear
         none zero h = refl
         none (suc i) h = absurd (omega arith)
 

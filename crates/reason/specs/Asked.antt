@@ -12,6 +12,7 @@ use Rattle.order.specs.Refusals.{Finding, clear, holds, first}
 use Rattle.profile.specs.Search.{nothing, found}
 use Rattle.order.specs.Lead.{lead}
 use Rattle.sums.specs.Most.{most, ceiling}
+use Rattle.table.specs.Held.{Reading, byNumber, byPlace}
 use Rattle.table.specs.declared.Table.{Table}
 use Rattle.stairs.specs.Places.{FoundPlaces, firstOverfullAt, best}
 use Rattle.order.specs.Lead.{dueAt, lastDue}
@@ -25,7 +26,7 @@ use Rattle.reason.specs.declared.Why.{Why}
 abbrev pub owedBy : ℕ → ℕ → ℕ → ℕ
 owedBy time lead g = time - (g - lead)
 
--- what job j adds to class k at the due time d
+-- what the job at place j adds to class k at the due time d
 abbrev pub owes : Table → ℕ → ℕ → ℕ → ℕ
 owes t k d j =
     only (eqb (getD (t .classes) j 0) k) (owedBy (getD (t .times) j 0) (getD (t .leads) j 0) (getD (t .grid) d 0))
@@ -58,9 +59,12 @@ leastFor t k = ceiling (best (weight t) k (t .q)) (procsTo t k)
 unfoldable pub leastReachOf : Table → ℕ
 leastReachOf t = max (latestOf t) (most (t .s) (λ k. leastFor t (suc k)))
 
--- a job whose time exceeds its end
-abbrev pub late : Table → ℕ → ℕ → Bool
-late t reach j = ltb reach (getD (t .times) j 0 + getD (t .leads) j 0)
+-- a job whose time exceeds its end, in input order; and at a place
+abbrev pub late : Reading → ℕ → ℕ → Bool
+late r reach j = ltb reach (r .time j + r .lead j)
+
+abbrev pub lateAt : Table → ℕ → ℕ → Bool
+lateAt t reach k = late (byPlace t) reach k
 
 -- the i-th of k due times, and 0 beyond
 abbrev pub dueOr : List ℕ → List ℕ → ℕ → ℕ → ℤ
@@ -71,10 +75,17 @@ abbrev pub toldAt : Table → FoundPlaces → Why
 toldAt t nothing = record { tightness = Met; dues = sixteen [] }
 toldAt t (found ds) = record { tightness = Tight (Stairs (length ds)); dues = sixteen (map (λ d. dueAt lastDue (getD (t .grid) d 0)) ds) }
 
-abbrev pub toldBy : Table → Finding → FoundPlaces → Why
-toldBy t (holds j) f = record { tightness = Tight (Job j (getD (t .times) (pred j) 0)); dues = sixteen [] }
-toldBy t clear f = toldAt t f
+abbrev pub toldBy : Reading → Table → Finding → FoundPlaces → Why
+toldBy r t (holds j) f = record { tightness = Tight (Job j (r .time (pred j))); dues = sixteen [] }
+toldBy r t clear f = toldAt t f
 
--- a job whose time exceeds its end, the first such; if there is none, the first overfull profile
-unfoldable pub toldOf : Table → ℕ → Why
-toldOf t reach = toldBy t (first (late t reach) (tabulate (t .n) (λ j. j))) (firstOf t reach)
+-- a job whose time exceeds its end, the first such in input order; if there is none, the first overfull profile
+unfoldable pub toldFrom : Reading → Table → ℕ → Why
+toldFrom r t reach = toldBy r t (first (late r reach) (tabulate (t .n) (λ j. j))) (firstOf t reach)
+
+-- of §8's table; and of the input-order table
+abbrev pub toldOf : Table → ℕ → Why
+toldOf t reach = toldFrom (byNumber t) t reach
+
+abbrev pub toldInOrder : Table → ℕ → Why
+toldInOrder t reach = toldFrom (byPlace t) t reach

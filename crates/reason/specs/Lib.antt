@@ -5,3 +5,4 @@ pub mod Choices
 pub mod Matching
 pub mod Telling
 pub mod ToldLaws
+pub mod SameTold

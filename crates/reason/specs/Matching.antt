@@ -1,4 +1,4 @@
--- A table that is an order's: its weights are the order's, and so its least reach is the order's.
+-- A table that is an order's, wherever its jobs lie: its weights are the order's, and so its least reach is the order's.
 use Prim.Native.Nat.{ℕ, suc, _+_, _*_, _≤_, _<_}
 use mathlib.Core.Path.{_≡_, refl, sym, ap, _∙_}
 use mathlib.Core.List.{List, [], _∷_, map}
@@ -10,19 +10,20 @@ use Rattle.sums.specs.Sum.{sum, sum-cong}
 use Rattle.sums.specs.Lists.{total, only}
 use Rattle.sums.specs.Members.{All-map}
 use Rattle.sums.specs.Totals.{total-places}
-use Rattle.order.specs.Order.{Order, Job, jobCount, noJob}
+use Rattle.order.specs.Order.{Order, Job, jobCount, jobOf, noJob}
 use Rattle.order.specs.Class.{classes, classOf, processorsIn, processorsTo}
 use Rattle.profile.specs.Least.{owedAt, weightAt, weightFrom, heaviest, leastReach}
 use Rattle.order.specs.Lead.{lead, dueAt, lastDue}
 use Rattle.sums.specs.Most.{largest, ceiling, most, most-cong, largest-most}
-use Rattle.table.specs.Tabled.{Tabled}
+use Rattle.table.specs.HeldLaws.{most-once}
+use Rattle.table.specs.Tabled.{TabledBy}
 use Rattle.table.specs.declared.Table.{Table}
 use Rattle.stairs.specs.Places.{profiles, value, best}
 use Rattle.reason.specs.Asked.{owedBy, minutesAt, weight, procsTo, latestOf, leastFor, leastReachOf}
 use Rattle.order.specs.LeadLaws.{lead-due}
 use Rattle.reason.specs.Choices.{largest-image, largest-agree, choices-places, profiles-sized, Sized}
 
-module _ (o : Order) (t : Table) (m : Tabled lastDue o t) where
+module _ {number : ℕ → ℕ} (o : Order) (t : Table) (m : TabledBy number lastDue o t) where
   -- the due time at a place
   abbrev pub dueIn : ℕ → ℤ
   dueIn d = dueAt lastDue (getD (t .grid) d 0)
@@ -33,6 +34,7 @@ module _ (o : Order) (t : Table) (m : Tabled lastDue o t) where
       ≡ sum (t .n) (λ j. only (eqb (getD (t .classes) j 0) k) (owedBy (getD (t .times) j 0) (getD (t .leads) j 0) g))
   owes-same k g =
       total-places (o .jobs) noJob (λ (job : Job). only (eqb (classOf o job) k) (owedAt lastDue g job))
+      ∙ sym (m .each-once .sums (λ j. only (eqb (classOf o (jobOf o j)) k) (owedAt lastDue g (jobOf o j))))
       ∙ (sum-cong (jobCount o) _ (λ j. only (eqb (getD (t .classes) j 0) k) (owedBy (getD (t .times) j 0) (getD (t .leads) j 0) g))
       (λ j l. rw (m .times j l, m .leads j l, m .classes-of j l) refl)
       ∙ ap (λ (n : ℕ). sum n (λ j. only (eqb (getD (t .classes) j 0) k) (owedBy (getD (t .times) j 0) (getD (t .leads) j 0) g)))
@@ -78,6 +80,7 @@ module _ (o : Order) (t : Table) (m : Tabled lastDue o t) where
   reach-same =
       let a : largest (λ (job : Job). job .time + lead lastDue (job .due)) (o .jobs) ≡ latestOf t
       = largest-most (o .jobs) noJob (λ (job : Job). job .time + lead lastDue (job .due))
+      ∙ sym (most-once (jobCount o) number (m .each-once) (λ j. jobOf o j .time + lead lastDue (jobOf o j .due)))
       ∙ (most-cong (jobCount o) _ (λ j. getD (t .times) j 0 + getD (t .leads) j 0)
       (λ j l. omega (arith, m .times j l, m .leads j l))
       ∙ ap (λ (n : ℕ). most n (λ j. getD (t .times) j 0 + getD (t .leads) j 0)) (sym (m .jobs))) in

@@ -21,12 +21,14 @@ use Rattle.order.specs.Lead.{lead, reachAt, lastDue, Workable}
 use Rattle.order.specs.LeadLaws.{late-reach, workable}
 use Rattle.sums.specs.Downwards.{in-down}
 use Rattle.profile.specs.Threshold.{overfull-reach}
-use Rattle.table.specs.Tabled.{Tabled}
+use Rattle.table.specs.Held.{Reading, byNumber, ReadingOf}
+use Rattle.table.specs.HeldLaws.{held-read}
+use Rattle.table.specs.Tabled.{TabledBy, Tabled}
 use Rattle.table.specs.declared.Table.{Table}
 use Rattle.stairs.specs.Places.{FoundPlaces, ranking, overfullAt, firstOverfullAt}
 use Rattle.stairs.specs.PlacesLaws.{Below}
 use Rattle.reason.specs.Told.{sixteen, whyOf}
-use Rattle.reason.specs.Asked.{weight, procsTo, firstOf, late, toldAt, toldBy, toldOf}
+use Rattle.reason.specs.Asked.{weight, procsTo, firstOf, late, toldAt, toldBy, toldFrom, toldOf}
 use Rattle.reason.specs.Choices.{foundMap, first-image, first-agree, ranked-places, ranking-sized}
 use Rattle.reason.specs.Matching.{dueIn, value-same, procs-same}
 use Rattle.reason.specs.declared.Reason.the-variants.{Job as JobReason, Stairs}
@@ -60,7 +62,8 @@ first-holds test (x ∷ xs) k c e = at (test x) e (first-holds test xs (suc k) c
     at true e f = let q : c ≡ suc k = cc in (0, omega arith, omega arith)
     at false e f = let r = f e in (suc (r .0), omega (arith, r .1), omega (arith, r .2))
 
-module _ (o : Order) (t : Table) (m : Tabled lastDue o t) (a : Acceptable o) (bound : ℤ) where
+module _ {number : ℕ → ℕ} (o : Order) (t : Table) (m : TabledBy number lastDue o t) (r : Reading) (R : ReadingOf lastDue o r)
+    (a : Acceptable o) (bound : ℤ) where
   abbrev reach : ℕ
   reach = reachAt lastDue bound
 
@@ -78,13 +81,13 @@ module _ (o : Order) (t : Table) (m : Tabled lastDue o t) (a : Acceptable o) (bo
       (All-at _ (o .jobs) noJob (work .times) j l)
 
   -- the same job is over its end
-  pub same-job : firstOverEnd o bound ≡ first (late t reach) (tabulate (t .n) (λ j. j))
+  pub same-job : firstOverEnd o bound ≡ first (late r reach) (tabulate (t .n) (λ j. j))
   unfolding over
   same-job =
-      first-places over (o .jobs) noJob (late t reach) (t .n) (λ j. j) 0 (sym (m .jobs))
+      first-places over (o .jobs) noJob (late r reach) (t .n) (λ j. j) 0 (sym (m .jobs))
       (λ j b.
       let l : j < jobCount o = omega (arith, m .jobs) in
-      over-late j l ∙ ap (ltb reach) (omega (arith, m .times j l, m .leads j l)))
+      over-late j l ∙ ap (ltb reach) (omega (arith, R .times j l, R .leads j l)))
 
   module _ (c : firstOverEnd o bound ≡ clear) where
     in-time : All (λ (job : Job). job .time + lead lastDue (job .due) ≤ reach) (o .jobs)
@@ -134,18 +137,23 @@ module _ (o : Order) (t : Table) (m : Tabled lastDue o t) (a : Acceptable o) (bo
         at (found ds) =
             ap (λ (n : ℕ). record { tightness = Tight (Stairs n); dues = sixteen (map (dueIn o t m) ds) }) (length-map ds (dueIn o t m))
 
-  told-by : (f : Finding) → firstOverEnd o bound ≡ f → whyOf o (reasonBy f (firstOverfull o bound)) ≡ toldBy t f
+  told-by : (f : Finding) → firstOverEnd o bound ≡ f → whyOf o (reasonBy f (firstOverfull o bound)) ≡ toldBy r t f
       (firstOf t reach)
   unfolding over
   told-by clear e = told-profile e
   told-by (holds j) e =
-      let r = first-holds over (o .jobs) 0 j e in
-      let q : j ≡ suc (r .0) = omega (arith, r .2) in
+      let h = first-holds over (o .jobs) 0 j e in
+      let q : j ≡ suc (h .0) = omega (arith, h .2) in
       ap (λ (x : ℕ). record { tightness = Tight (JobReason j x); dues = sixteen [] })
-      (rw q (sym (m .times (r .0) (r .1))))
+      (rw q (sym (R .times (h .0) (h .1))))
 
   -- what is told is the reason
-  pub told-is : toldOf t reach ≡ whyOf o (reasonOf o bound)
-  unfolding toldOf reasonOf
-  told-is =
-      ap (λ (f : Finding). toldBy t f (firstOf t reach)) (sym same-job) ∙ sym (told-by (firstOverEnd o bound) refl)
+  pub told-from : toldFrom r t reach ≡ whyOf o (reasonOf o bound)
+  unfolding toldFrom reasonOf
+  told-from =
+      ap (λ (f : Finding). toldBy r t f (firstOf t reach)) (sym same-job) ∙ sym (told-by (firstOverEnd o bound) refl)
+
+-- and so it is of §8's table
+pub told-is : (o : Order) (t : Table) → Tabled lastDue o t → Acceptable o → (bound : ℤ) →
+    toldOf t (reachAt lastDue bound) ≡ whyOf o (reasonOf o bound)
+told-is o t m a bound = told-from o t m (byNumber t) (held-read o t m) a bound

@@ -16,30 +16,38 @@ ghost use mathlib.Core.Bool.{true};
 ghost use Prim.Native.Nat.{ℕ, _<_, _≤_};
 ghost use lib.IntN.{pos};
 ghost use lib.ListN.{length, getD};
-ghost use Rattle.sums.specs.Lists.{tabulate};
+ghost use Rattle.sums.specs.Lists.{nth, tabulate};
 ghost use Rattle.order.specs.Lead.{boundAt, lastDue, mostReach};
 ghost use Rattle.order.specs.Refusals.{Accepted, boundInRange, first};
 ghost use Rattle.order.specs.Table.{orderOf, findingOf};
 ghost use Rattle.profile.specs.Search.{reasonOf};
 ghost use Rattle.reason.specs.Asked.{late, dueOr, toldOf, leastReachOf};
+ghost use Rattle.table.specs.Held.{byNumber};
 ghost use Rattle.table.specs.Tabled.{Fine};
 ghost use Rattle.reason.specs.Told.{whyOf, whyTold};
 
-// The first job whose time exceeds its end, or 0.
+// The place, from 1 on, of the first job in input order whose time exceeds its end, or 0: of the jobs that are late the one with the
+// smallest number, wherever it lies.
 pub fn first_late(o: Table, reach: u32) -> u32
     requires { ⌜ Fine o ⌝ }
-    ensures { λ r. ⌜ (r ≤ o .n) × (findingOf r ≡ first (late o reach) (tabulate (o .n) (λ j. j))) ⌝ }
+    ensures { λ r. ⌜ (r ≤ o .n) × (findingOf (nth (o .«by_need») r 0) ≡ first (late (byNumber o) reach) (tabulate (o .n) (λ j. j))) ⌝ }
 {
     let n = o.n;
-    let mut j: usize = 0;
-    while j < n {
-        let least = o.times[j] + o.leads[j];
-        j += 1;
-        if reach < least {
-            return j as u32;
+    let mut place: u32 = 0;
+    let mut least: u32 = 49;
+    let mut k: usize = 0;
+    while k < n {
+        let ends = o.times[k] + o.leads[k];
+        let number = o.by_need[k];
+        k += 1;
+        if reach < ends {
+            if number < least {
+                place = k as u32;
+                least = number;
+            }
         }
     }
-    0
+    place
 }
 
 // The due times of k places, and 0 beyond.
@@ -65,11 +73,12 @@ pub fn tell(o: Table, reach: u32) -> Why
     requires { ⌜ reach ≤ mostReach ⌝ }
     ensures { λ r. ⌜ r ≡ toldOf o reach ⌝ }
 {
-    let j = first_late(o, reach);
-    if 0 < j {
-        let i = (j - 1) as usize;
+    let place = first_late(o, reach);
+    if 0 < place {
+        let k = (place - 1) as usize;
+        let number = o.by_need[k];
         return Why {
-            tightness: Tightness::Tight(Reason::Job(j, o.times[i])),
+            tightness: Tightness::Tight(Reason::Job(number, o.times[k])),
             dues: [0i32; 16],
         };
     }

@@ -4,7 +4,7 @@ use table::Table;
 ghost use mathlib.Core.Path.{_≡_};
 ghost use mathlib.Core.List.{[]};
 ghost use Prim.Native.Nat.{ℕ, suc, _+_, _*_, _<_, _≤_};
-ghost use lib.ListN.{getD};
+ghost use lib.ListN.{length, getD};
 ghost use Rattle.sums.specs.Arrays.{RowOf};
 ghost use Rattle.table.specs.Tabled.{Fine};
 ghost use Rattle.reason.specs.Asked.{owedBy, minutesAt, weight};
@@ -23,21 +23,22 @@ pub fn owed(time: u32, lead: u32, g: u32) -> u32
     time - past
 }
 
-// What a class owes at every due time, with one job more.
-fn with_job(row: [u32; 48], time: u32, lead: u32, grid: [u32; 48]) -> [u32; 48]
-    requires { ⌜ (time ≤ 100000) × ((d : ℕ) → d < 48 → getD row d 0 ≤ 4700000) ⌝ }
-    ensures { λ r. ⌜ RowOf (λ d. getD row d 0 + owedBy time lead (getD grid d 0)) 48 r ⌝ }
+// One job more in what a class owes at every due time.
+fn add_job(row: &mut [u32], time: u32, lead: u32, grid: &[u32])
+    requires { ⌜ (length (now row) ≡ 48) × (length (now grid) ≡ 48) × (time ≤ 100000)
+        × ((d : ℕ) → d < 48 → getD (now row) d 0 ≤ 4700000) ⌝ }
+    ensures { λ r. ⌜ RowOf (λ d. getD (now (row .entry)) d 0 + owedBy time lead (getD (now (grid .entry)) d 0)) 48 (now (row .exit)) ⌝ }
 {
-    let mut r = [0u32; 48];
     let mut d: usize = 0;
     while d < 48 {
-        r[d] = row[d] + owed(time, lead, grid[d]);
+        let before = row[d];
+        row[d] = before + owed(time, lead, grid[d]);
         d += 1;
     }
-    r
 }
 
-// Document 01's minutes owed by the jobs of each class: 16 classes by 48 due times, filled once, job by job.
+// Document 01's minutes owed by the jobs of each class: 16 classes by 48 due times, filled once, job by job. The jobs of a class lie
+// together, so a class's row is put down when the next class begins.
 pub fn owed_table(t: Table) -> [[u32; 48]; 16]
     requires { ⌜ Fine t ⌝ }
     ensures { λ r. ⌜ ((i : ℕ) → i < 16 → RowOf (minutesAt t (suc i)) 48 (getD r i [])) ⌝ }
@@ -45,20 +46,20 @@ pub fn owed_table(t: Table) -> [[u32; 48]; 16]
     let n = t.n;
     let grid = t.grid;
     let mut r = [[0u32; 48]; 16];
-    let mut j: usize = 0;
-    while j < n {
-        let class = t.classes[j] as usize;
-        let time = t.times[j];
-        let lead = t.leads[j];
-        j += 1;
-        if 0 < class {
-            if class <= 16 {
-                let i = class - 1;
-                let row = r[i];
-                r[i] = with_job(row, time, lead, grid);
-            }
+    let mut row = [0u32; 48];
+    let mut class: usize = 1;
+    let mut k: usize = 0;
+    while k < n {
+        let next = t.classes[k] as usize;
+        if class < next {
+            r[class - 1] = row;
+            row = [0u32; 48];
+            class = next;
         }
+        add_job(&mut row, t.times[k], t.leads[k], &grid);
+        k += 1;
     }
+    r[class - 1] = row;
     r
 }
 

@@ -4,8 +4,8 @@ use mathlib.Core.Path.{_≡_, refl, sym, ap, _∙_, subst}
 use mathlib.Core.List.{List, _++_}
 use native.Mathlib.Omega.{arith}
 use lib.IntN.{ℤ, pos}
-use lib.ListN.{length, take}
-use Rattle.sums.specs.Lists.{tabulate}
+use lib.ListN.{length, getD, take}
+use Rattle.sums.specs.Lists.{nth, tabulate}
 use Rattle.order.specs.Class.{classes}
 use Rattle.order.specs.Lead.{reachAt, lastDue}
 use Rattle.order.specs.Order.{Order, processorCount, jobCount, Numbers, jobOf}
@@ -18,6 +18,8 @@ use Rattle.profile.specs.ReasonLaws.{none-over-end}
 use Rattle.profile.specs.Search.{found, firstOverEnd}
 use Rattle.reason.specs.Asked.{late}
 use Rattle.reason.specs.Telling.{same-job}
+use Rattle.table.specs.Held.{byNumber}
+use Rattle.table.specs.HeldLaws.{beside-once, held-read}
 use Rattle.table.specs.Passed.{listing}
 use Rattle.table.specs.Tabled.{Tabled}
 use Rattle.table.specs.declared.Listing.{Listing}
@@ -31,26 +33,31 @@ use Rattle.sentence.specs.declared.Weighed.the-variants.{Stands as Overf
 use Rattle.sentence.proofs.Classes.{classes-told}
 
 module _ (o : Order) (a : Acceptable o) (t : Table) (m : Tabled lastDue o t) (bound : ℤ) (reach : ℕ)
-    (e : reach ≡ reachAt lastDue bound) (r : ℕ) (told : findingOf r ≡ first (late t reach) (tabulate (t .n) (λ j. j))) where
-  finding : firstOverEnd o bound ≡ findingOf r
+    (e : reach ≡ reachAt lastDue bound) (r : ℕ)
+    (told : (r ≤ t .n) × (findingOf (nth (t .«by_need») r 0) ≡ first (late (byNumber t) reach) (tabulate (t .n) (λ j. j)))) where
+  finding : firstOverEnd o bound ≡ findingOf (nth (t .«by_need») r 0)
   finding =
-      same-job o t m a bound
-      ∙ sym (told ∙ ap (λ (x : ℕ). first (late t x) (tabulate (t .n) (λ j. j))) e)
+      same-job o t m (byNumber t) (held-read o t m) a bound
+      ∙ sym (told .1 ∙ ap (λ (x : ℕ). first (late (byNumber t) x) (tabulate (t .n) (λ j. j))) e)
 
   -- no job is late, or one is
   pub all-in-time : ¬ (0 < r) → (j : ℕ) → Numbers (jobCount o) j → InTime bound (jobOf o j)
   all-in-time h = none-over-end o bound .0 (finding ∙ at r h)
     where
-      at : (r : ℕ) → ¬ (0 < r) → findingOf r ≡ clear
+      at : (r : ℕ) → ¬ (0 < r) → findingOf (nth (t .«by_need») r 0) ≡ clear
       at zero h = refl
       at (suc j) h = absurd (omega arith)
 
   pub one-late : 0 < r → (dues : List ℤ) → ¬ Stands o bound (stairs dues)
-  one-late h dues s = at r h (sym finding ∙ none-over-end o bound .1 (s .0))
+  one-late h dues s = at r h (told .0) (sym finding ∙ none-over-end o bound .1 (s .0))
     where
-      at : (r : ℕ) → 0 < r → ¬ (findingOf r ≡ clear)
-      at zero h z = omega arith
-      at (suc j) h z = let w : _≡_ {A = ℕ} 0 1 = cc in omega arith
+      named : (x : ℕ) → 1 ≤ x → ¬ (findingOf x ≡ clear)
+      named zero h z = omega arith
+      named (suc j) h z = let w : _≡_ {A = ℕ} 0 1 = cc in omega arith
+
+      at : (r : ℕ) → 0 < r → r ≤ t .n → ¬ (findingOf (nth (t .«by_need») r 0) ≡ clear)
+      at zero h l z = omega arith
+      at (suc k) h l z = named (getD (t .«by_need») k 0) (beside-once o t m .are k l .0) z
 
   -- due times that fit are reached, and their sums decide
   module _ (none : ¬ (0 < r)) (dues : List ℤ) (k : ℕ) (few : k ≤ length dues) (most : k ≤ 16) (fit : StepsFit o dues k) where

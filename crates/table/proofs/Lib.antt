@@ -1,1 +1,3 @@
 mod Dues
+mod Scattered
+mod NeedsFall

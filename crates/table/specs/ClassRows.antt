@@ -8,7 +8,7 @@ use Rattle.sums.specs.Lists.{tabulate}
 use Rattle.sums.specs.Places.{getD-tabulate, tabulate-cong, tabulate-getD}
 use Rattle.order.specs.Order.{Order, Job, processorCount}
 use Rattle.order.specs.Class.{classes, lastThatSuffices, classFor, classOf}
-use Rattle.order.specs.ClassLaws.{classes-few}
+use Rattle.order.specs.ClassLaws.{class-suffices, class-at-most, classes-few}
 use Rattle.order.specs.Table.{padded}
 use Rattle.table.specs.Passed.{listing}
 use Rattle.table.specs.declared.Listing.{Listing}
@@ -46,6 +46,15 @@ module _ (o : Order) (few : processorCount o ≤ 16) (l : Listing) (e : l ≡ li
   pub class-is : (need : ℕ) → lastThatSuffices need (tabulate (l .count) (λ i. getD (l .memories) i 0)) ≡ classFor o need
   unfolding classFor
   class-is need = ap (lastThatSuffices need) listed-is
+
+  -- the classes up to a need's own suffice for it
+  pub listed-suffices : (need i : ℕ) → i < classFor o need → need ≤ getD (l .memories) i 0
+  listed-suffices need i b =
+      let n : i < length (classes o) = omega (arith, class-at-most o need) in
+      let e : getD (l .memories) i 0 ≡ getD (classes o) i 0
+      = ap (λ (l : Listing). getD (l .memories) i 0) e
+      ∙ getD-tabulate 16 (λ i. getD (classes o) i 0) 0 i (omega (arith, classes-few o)) in
+      omega (arith, e, class-suffices o need i n .0 b)
 
   pub class-of-is : (job : Job) →
       lastThatSuffices (job .need) (tabulate (l .count) (λ i. getD (l .memories) i 0)) ≡ classOf o job

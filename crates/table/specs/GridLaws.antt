@@ -18,8 +18,9 @@ use Rattle.sums.specs.Places.{length-tabulate, getD-tabulate, tabulate-cong, ma
 use Rattle.order.specs.Order.{Order, Job, jobOf, noJob}
 use Rattle.order.specs.Sorted.{distinct, dueTimes}
 use Rattle.order.specs.SortedLaws.{ltb-strict, ltZ-strict, distinct-falls, in-distinct, distinct-in}
-use Rattle.order.specs.Refusals.{dueInRange}
-use Rattle.order.specs.RefusalLaws.{Acceptable, dues-in-range}
+use Rattle.order.specs.Refusals.{dueInRange, Accepted}
+use Rattle.order.specs.RefusalLaws.{Acceptable, accepted-iff, dues-in-range}
+use Rattle.order.specs.StructLaws.{job-count}
 use Rattle.order.specs.Table.{orderOf, jobAt}
 use Rattle.order.specs.declared.Order.{Order as OrderTable}
 use Rattle.order.specs.Lead.{lead, dueAt, lastDue, Workable}
@@ -28,7 +29,7 @@ use Rattle.table.specs.Tabled.{GridOf}
 use Rattle.table.specs.declared.Members.{Members}
 use Rattle.table.specs.Downwards.{DistinctOf}
 use Rattle.table.specs.SameMembers.{same-members, ltZ-never}
-use Rattle.order.specs.LeadLaws.{lead-due, due-back, due-falls, lead-most}
+use Rattle.order.specs.LeadLaws.{workable, lead-due, due-back, due-falls, lead-most}
 use Rattle.sums.specs.Downwards.{Pairwise-down, down-in, in-down}
 
 -- Whole numbers by their leads: the distinct ones, downwards, are those of the distinct leads, upwards.
@@ -150,3 +151,13 @@ pub leads-tabulated : (t : OrderTable) (r : List ℕ) → RowOf (λ j. lead last
 leads-tabulated t r h =
     tabulate-cong (t .jobs) (λ j. getD r j 0) (λ j. lead lastDue (jobAt t j .due)) (h .at)
     ∙ sym (map-tabulate (λ (job : Job). lead lastDue (job .due)) (t .jobs) (jobAt t))
+
+-- and so their distinct ones are those of the due times
+pub grid-of-leads : (t : OrderTable) → Accepted (orderOf t) → (ls : List ℕ) →
+    RowOf (λ j. lead lastDue (getD (t .dues) j (pos 0))) (t .jobs) ls → (m : Members) →
+    DistinctOf (tabulate (t .jobs) (λ j. getD ls j 0)) m → GridOf lastDue (orderOf t) m
+grid-of-leads t ok ls h m d =
+    let a = accepted-iff (orderOf t) .0 ok in
+    grid-found lastDue (orderOf t) (workable (orderOf t) a) m
+    (subst (λ (l : List ℕ). DistinctOf l m) (leads-tabulated t ls h) d)
+    (omega (arith, a .few-jobs, job-count t, d .few, length-tabulate (t .jobs) (λ j. getD ls j 0)))

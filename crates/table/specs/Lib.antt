@@ -1,5 +1,8 @@
 pub mod Downwards
+pub mod Held
 pub mod Tabled
+pub mod HeldLaws
+pub mod ByClass
 pub mod SameMembers
 pub mod FallingLaws
 pub mod Passed

@@ -5,6 +5,7 @@ pub mod distinct; // the distinct members of a list, downwards
 pub mod lead; // due times as leads
 pub mod making; // the table of an order
 pub mod passing; // the classes with their processors, in one pass
+pub mod places; // values by place, and by input number
 
 // The distinct members of a list, downwards; 0 beyond the count.
 pub struct Members {
@@ -26,9 +27,10 @@ pub struct LastClass {
     pub procs: u32,
 }
 
-// Counts of jobs (n), processors (m), classes (s) and distinct due times (q); for each job its time, its class from 1 and its lead
-// (1,000,000 less the due time); the class of each processor; the processors of each class; the leads of the distinct due times, by rising
-// due time; the processors' numbers by falling memory and the jobs' numbers by falling need, ties in input order, 0 beyond.
+// Counts of jobs (n), processors (m), classes (s) and distinct due times (q). The jobs lie by falling need, ties in input order (document
+// 02, §8), and so by class: at each place a job's time, its class from 1, its lead (1,000,000 less the due time) and beside them, in
+// by_need, its input number. The class of each processor; the processors of each class; the leads of the distinct due times, by rising due
+// time; the processors' numbers by falling memory, ties in input order. 0 beyond the counts.
 pub struct Table {
     pub n: usize,
     pub m: usize,

@@ -2,9 +2,10 @@
 use super::Table;
 use super::class::classes_of_jobs;
 use super::class::classes_of_processors;
-use super::lead::grid_of;
+use super::distinct::distinct_down;
 use super::lead::leads_of;
 use super::passing::classes_of;
+use super::places::by_place;
 use order::Order;
 use order::orderings::job_order;
 use order::orderings::processor_order;
@@ -17,24 +18,27 @@ pub fn table_of(order: Order) -> Table
     requires { ⌜ Accepted (orderOf order) ⌝ }
     ensures { λ t. ⌜ Tabled lastDue (orderOf order) t ⌝ }
 {
+    let n = order.jobs as usize;
     let by_memory = processor_order(order);
+    let by_need = job_order(order);
     let classes = classes_of(order, by_memory);
     let procs = classes.procs;
-    let dues = grid_of(order);
+    let leads = leads_of(order);
+    let dues = distinct_down(&leads, n);
     let times = order.times;
     let grid = dues.at;
     Table {
-        n: order.jobs as usize,
+        n,
         m: order.processors as usize,
         s: classes.count,
         q: dues.count,
-        times,
-        classes: classes_of_jobs(order, classes),
-        leads: leads_of(order),
+        times: by_place(times, by_need, n),
+        classes: classes_of_jobs(order, by_need, classes),
+        leads: by_place(leads, by_need, n),
         kinds: classes_of_processors(order, classes),
         procs,
         grid,
         by_memory,
-        by_need: job_order(order),
+        by_need,
     }
 }

@@ -14,7 +14,7 @@ use lib.Signed.{_≤ℤ_}
 use Rattle.sums.specs.Arrays.{RowOf}
 use Rattle.sums.specs.Downwards.{length-down, down-reversed}
 use Rattle.sums.specs.Lists.{All, In, tabulate, nth, downTo}
-use Rattle.sums.specs.Members.{All-at, All-in, in-All, in-at, at-in, in-append, in-left, in-right, in-map, map-in}
+use Rattle.sums.specs.Members.{All-nth, All-in, in-All, in-at, at-in, in-append, in-left, in-right, in-map, map-in}
 use Rattle.sums.specs.Places.{length-tabulate, getD-tabulate, numbers-in, numbers-are}
 use Rattle.order.specs.Order.{Order, processorCount, jobCount, Numbers, noJob, jobOf, endOf}
 use Rattle.order.specs.Deadline.{cut}
@@ -25,6 +25,8 @@ use Rattle.order.specs.Sorted.{distinct}
 use Rattle.order.specs.SortedLaws.{distinct-length}
 use Rattle.order.specs.Whole.{pos-le}
 use Rattle.table.specs.FallingLaws.{held-list}
+use Rattle.table.specs.Held.{numberAt}
+use Rattle.table.specs.HeldLaws.{held-once}
 use Rattle.table.specs.GridLaws.{distinct-by-leads}
 use Rattle.table.specs.declared.Table.{Table}
 use Rattle.allot.specs.Tables.{Put}
@@ -55,15 +57,20 @@ module _ (o : Order) (t : Table) (bound : ℤ) (times : TimesTable) (T : TimedOf
       W .before i (omega arith) ∙ P₂ .before i l ∙ ap (λ (k : ℕ). getD l₁ k 0) z ∙ P₁ .inside i l
       ∙ sym (lead-minute (getD (times .ready) i 0))
 
-  due-good : (i : ℕ) → i < jobCount o → dueInRange (jobOf o (suc i) .due) ≡ true
-  due-good i l = All-at _ (o .jobs) noJob (dues-in-range o (accepted-iff o .0 (T .accepted))) i l
+  due-good : (j : ℕ) → Numbers (jobCount o) j → dueInRange (jobOf o j .due) ≡ true
+  due-good j b = All-nth _ (o .jobs) noJob (dues-in-range o (accepted-iff o .0 (T .accepted))) j (b .0) (b .1)
 
-  end-at : (i : ℕ) → i < jobCount o → getD l₃ (t .n + i) 0 ≡ lead top (endOf bound (jobOf o (suc i)))
+  end-at : (k : ℕ) → k < jobCount o → getD l₃ (t .n + k) 0 ≡ lead top (endOf bound (jobOf o (numberAt o k)))
   unfolding endOf
-  end-at i l =
-      W .before (t .n + i) (omega (arith, T .tabled .jobs))
-      ∙ P₂ .inside i (omega (arith, T .tabled .jobs))
-      ∙ omega (arith, e, T .tabled .leads i l, lead-end bound (jobOf o (suc i) .due) (T .bound-good) (due-good i l))
+  end-at k l =
+      W .before (t .n + k) (omega (arith, T .tabled .jobs))
+      ∙ P₂ .inside k (omega (arith, T .tabled .jobs))
+      ∙ omega (
+        arith,
+        e,
+        T .tabled .leads k l,
+        lead-end bound (jobOf o (numberAt o k) .due) (T .bound-good) (due-good (numberAt o k) (held-once o .are k l)),
+      )
 
   opens-at : (i : ℕ) → i < t .m → getD l₃ (2 * t .n + i) 0 ≡ lead top (pos (getD (times .opens) i 0))
   opens-at i l = W .opening i l ∙ sym (lead-minute (getD (times .opens) i 0))
@@ -105,10 +112,13 @@ module _ (o : Order) (t : Table) (bound : ℤ) (times : TimesTable) (T : TimedOf
 
   end-placed : (j : ℕ) → Numbers (jobCount o) j → Placed (endOf bound (jobOf o j))
   unfolding endOf
-  end-placed zero b = absurd (omega arith)
-  end-placed (suc i) b =
-      let l : i < t .n = omega (arith, b .1, T .tabled .jobs) in
-      (t .n + i, omega arith, end-at i (b .1), end-by-top bound (jobOf o (suc i) .due) (T .bound-good) (due-good i (b .1)))
+  end-placed j b =
+      let r = held-once o .place j b in (
+        t .n + r .0,
+        omega (arith, r .1, T .tabled .jobs),
+        end-at (r .0) (r .1) ∙ ap (λ (x : ℕ). lead top (endOf bound (jobOf o x))) (r .2),
+        end-by-top bound (jobOf o j .due) (T .bound-good) (due-good j b),
+      )
 
   opening-placed : (i : ℕ) → Numbers (processorCount o) i → Placed (pos (nth (times .opens) i 0))
   opening-placed zero b = absurd (omega arith)
@@ -163,9 +173,9 @@ module _ (o : Order) (t : Table) (bound : ℤ) (times : TimesTable) (T : TimedOf
                   let k : ℕ = i - t .n in
                   let e : t .n + k ≡ i = omega arith in
                   let n : k < jobCount o = omega (arith, T .tabled .jobs) in (
-                    endOf bound (jobOf o (suc k)),
-                    in-right readies _ _ (in-left ends _ _ (map-in (λ j. endOf bound (jobOf o j)) jobs (suc k)
-                        (numbers-in (jobCount o) (suc k) (omega arith) n))),
+                    endOf bound (jobOf o (numberAt o k)),
+                    in-right readies _ _ (in-left ends _ _ (map-in (λ j. endOf bound (jobOf o j)) jobs (numberAt o k)
+                        (numbers-in (jobCount o) (numberAt o k) (held-once o .are k n .0) (held-once o .are k n .1)))),
                     ap (λ (x : ℕ). getD l₃ x 0) (sym e) ∙ end-at k n,
                   )
               | no b ↦

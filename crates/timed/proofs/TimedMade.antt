@@ -25,15 +25,17 @@ use Rattle.wrap.specs.Frame.{Frame, lies, openIn, FeasibleIn, layoutIn, Rising}
 use Rattle.wrap.specs.FrameAt.{RightTimed, timed-in, timed-out}
 use Rattle.wrap.specs.Joined.{joined-layout-right, joined-count-in}
 use Rattle.feasible.specs.FramePlan.{cut-no-plan}
+use Rattle.table.specs.Held.{byNumber, ReadingOf}
+use Rattle.table.specs.HeldLaws.{held-read}
 use Rattle.table.specs.declared.Table.{Table}
 use Rattle.allot.specs.Flows.{flowOn, Long, Sized}
-use Rattle.allot.specs.GridMarks.{deadlines-are}
 use Rattle.allot.specs.InFrame.{Agrees, classed-in, sized-in-frame, feasible-in-frame, cut-in-frame, run-in-frame}
 use Rattle.allot.specs.LaidInFrame.{planned-is, planned-given}
 use Rattle.layout.specs.Laid.{Numbered}
 use Rattle.layout.specs.Planned.{frameLent, lentFrame, planned, Joinable}
 use Rattle.timed.specs.Changes.{markAt, timedFrame}
 use Rattle.timed.specs.ChangeLaws.{timed-rising, timed-framed}
+use Rattle.timed.specs.LentTimes.{times-agree}
 use Rattle.timed.specs.Making.{RoomFor}
 use Rattle.timed.specs.Times.{timesOf}
 use Rattle.timed.specs.Written.{TimedWritten}
@@ -54,7 +56,7 @@ run-of flow m w true h e = h
 run-of flow m w false h e = absurd (let z : _≡_ {A = ℕ} 0 1 = cc in omega (arith, z))
 
 module _ {o : Order} {t : Table} {bound : ℤ} {times : TimesTable} {c : Changes} {lent : ℕ} (m : RoomFor o t bound times c lent)
-    {reach : ℕ} {ds : List ℕ} (e : reach ≡ reachAt lastDue bound) (hd : RowOf (λ i. reach - getD (t .leads) i 0) 48 ds) where
+    {reach : ℕ} {ds : List ℕ} (e : reach ≡ reachAt lastDue bound) (hd : RowOf (λ j. reach - byNumber t .lead j) (t .n) ds) where
   abbrev a : Acceptable o
   a = accepted-iff o .0 (m .timed .accepted)
 
@@ -64,39 +66,17 @@ module _ {o : Order} {t : Table} {bound : ℤ} {times : TimesTable} {c : Changes
   abbrev g : Frame
   g = frameLent (c .count) (c .marks) (times .ready) ds (times .opens) (times .closes)
 
+  read : ReadingOf lastDue o (byNumber t)
+  read = held-read o t (m .timed .tabled)
+
   up : Rising f
   up = timed-rising o bound (timesOf times)
 
   few : f .stretches ≤ 128
   few = omega (arith, m .changed .few, m .changed .count-is)
 
-  marks-same : (s : ℕ) → s ≤ f .stretches → g .mark s ≡ f .mark s
-  unfolding markAt
-  marks-same zero l = refl
-  marks-same (suc s) l = m .changed .marks-are s (omega (arith, m .changed .count-is))
-
-  ready-same : (j : ℕ) → Numbers (jobCount o) j → g .ready j ≡ f .ready j
-  ready-same zero b = absurd (omega arith)
-  ready-same (suc j) b = refl
-
-  until-same : (j : ℕ) → Numbers (jobCount o) j → g .until j ≡ deadlineOf bound (jobOf o j)
-  until-same zero b = absurd (omega arith)
-  until-same (suc j) b = deadlines-are o (workable o a) bound t (m .timed .tabled) reach e ds hd j (b .1)
-
-  open-same : (s i : ℕ) → s < f .stretches → Numbers (processorCount o) i → openIn g s i ≡ openIn f s i
-  unfolding lies
-  open-same s zero l b = absurd (omega (arith, b .0))
-  open-same s (suc i) l b = rw (marks-same s (omega arith), marks-same (suc s) l) refl
-
   agrees : Agrees o f g
-  agrees =
-      record {
-        stretches-same = m .changed .count-is;
-        marks-same = marks-same;
-        ready-same = ready-same;
-        until-same = until-same;
-        open-same = open-same;
-      }
+  agrees = times-agree o (workable o a) bound times c (m .changed) (byNumber t) read e (rw (m .timed .tabled .jobs) at hd)
 
   small : (s : ℕ) → s < f .stretches → f .mark (suc s) ≤ 176000016
   small s l =
@@ -128,13 +108,13 @@ module _ {o : Order} {t : Table} {bound : ℤ} {times : TimesTable} {c : Changes
   -- where a cut violates there is no plan, in any parts
   pub none-made : Cut (flowOn t g) (suc (t .s)) → (p : ℕ) → 1 ≤ p → (rows : List Row) → ¬ RightTimed p o bound (timesOf times) rows
   none-made cut p parts rows R =
-      cut-no-plan o f (timed-framed o bound (timesOf times)) (cut-in-frame o t (m .timed .tabled) f g agrees cut) p parts rows
+      cut-no-plan o f (timed-framed o bound (timesOf times)) (cut-in-frame o t (m .timed .tabled) f g agrees (byNumber t) read cut) p parts rows
       (timed-in p o bound (timesOf times) _ _ rows R)
 
   -- else the amounts are laid out
   module _ (w : List ℕ) (F : Feasible (flowOn t g) 1 (grid (c .count) w)) where
     feasible : FeasibleIn o f (amountIn (c .count) w)
-    feasible = feasible-in-frame o t (m .timed .tabled) f g agrees w F
+    feasible = feasible-in-frame o t (m .timed .tabled) f g agrees (byNumber t) read w F
 
     pub plan-given : length (c .marks) ≡ 128 → length (times .opens) ≡ 16 → length (times .closes) ≡ 16 → length w ≡ 6272 →
         ((t .m ≤ 16) × (t .n ≤ 48) × Numbered (t .m) (t .«by_memory») × Numbered (t .n) (t .«by_need»)
@@ -175,7 +155,7 @@ module _ {o : Order} {t : Table} {bound : ℤ} {times : TimesTable} {c : Changes
           plan-of =
               record {
                 amounts = amountIn (c .count) w;
-                chosen = run-in-frame o t (m .timed .tabled) f g agrees (grid (c .count) w) true run;
+                chosen = run-in-frame o t (m .timed .tabled) f g agrees (byNumber t) read (grid (c .count) w) true run;
                 feasible = feasible;
                 plan-is = refl;
                 right = timed-out 1 o bound (timesOf times) _ _ _ (joined-layout-right o f up (amountIn (c .count) w) feasible);

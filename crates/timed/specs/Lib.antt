@@ -11,3 +11,5 @@ pub mod Inside
 pub mod Leads
 pub mod LeadLaws
 pub mod Making
+pub mod LentTimes
+pub mod SamePlan

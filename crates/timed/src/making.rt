@@ -6,8 +6,8 @@ use super::Times;
 use allot::filling::fill_amounts;
 use layout::stretches::lay_plan;
 use table::Table;
-use table::lead::minutes_at;
 use table::lead::reach_of;
+use table::places::ends_at;
 ghost use lib.ListN.{length};
 ghost use Rattle.timed.specs.Making.{Makeable, MadeBy};
 
@@ -22,7 +22,8 @@ pub fn make_timed(
     ensures { λ r. ⌜ MadeBy t bound times changes (now (rows .entry)) (now (rows .exit)) r ⌝ }
 {
     let leads = t.leads;
-    let until = minutes_at(leads, reach_of(bound));
+    let numbers = t.by_need;
+    let until = ends_at(leads, numbers, t.n, reach_of(bound));
     let marks = changes.marks;
     let ready = times.ready;
     let opens = times.opens;

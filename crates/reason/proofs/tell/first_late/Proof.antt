@@ -1,80 +1,76 @@
-use Prim.Native.Nat.{ℕ, _-_, _<_, _≤_}
-use mathlib.Core.Path.{_≡_, sym}
-use mathlib.Core.Bool.{false}
-use native.Mathlib.Numerals.{add-one}
-use native.Mathlib.Omega.{arith}
-use borrow.Author.Count.{below-none, below-more}
-use borrow.Author.Tests.{lt-ltb, le-ltb}
 use borrow.Author.Needs.{needs}
-use Rattle.order.specs.RefusalLaws.{first-tabulate, none-tabulate}
-use Rattle.reason.specs.Asked.{late}
+use native.Mathlib.Omega.{arith}
+use native.Mathlib.Numerals.{add-one}
+use Prim.Native.Nat.{ℕ, _-_, _≤_}
+use mathlib.Core.Path.{_≡_, subst}
+use borrow.Author.Tests.{lt-ltb}
+use Rattle.reason.proofs.LateFirst.{late-not, LeastLate, late-none, late-found, late-passed, late-place, late-first}
 use Rattle.reason.proofs.tell.first_late.Statement.{statement}
 use Rattle.reason.proofs.tell.first_late.Tie as tie
 
--- no job passed is over its end
 abbrev Inv-loop : tie.InvT-loop
-Inv-loop reach o n j₀ j = (j ≤ o .n) × ((i : ℕ) → i < j → late o reach i ≡ false)
-
+Inv-loop reach o n place₀ least₀ k₀ place least k = (k ≤ o .n) × LeastLate o reach k place least
 abbrev μ-loop : tie.MeasureT-loop
-μ-loop reach o n j₀ j = o .n - j
-
+μ-loop reach o n place₀ least₀ k₀ place least k = o .n - k
 loop-holds : tie.Need-loop-holds Inv-loop μ-loop
-loop-holds c = (search needs, below-none _)
-
-mul-least : tie.Need-mul-least Inv-loop μ-loop
-mul-least c = search needs
-
-element-copy-out-least : tie.Need-element-copy-out-least Inv-loop μ-loop
-element-copy-out-least c = search needs
-
-mul-least-2 : tie.Need-mul-least-2 Inv-loop μ-loop
-mul-least-2 c = search needs
-
-element-copy-out-least-2 : tie.Need-element-copy-out-least-2 Inv-loop μ-loop
-element-copy-out-least-2 c = search needs
-
-add-least : tie.Need-add-least Inv-loop μ-loop
-add-least c =
+loop-holds c = (search needs, late-none (c .args .t1) (c .args .reach))
+mul-ends : tie.Need-mul-ends Inv-loop μ-loop
+mul-ends c = search needs
+element-copy-out-ends : tie.Need-element-copy-out-ends Inv-loop μ-loop
+element-copy-out-ends c = search needs
+mul-ends-2 : tie.Need-mul-ends-2 Inv-loop μ-loop
+mul-ends-2 c = search needs
+element-copy-out-ends-2 : tie.Need-element-copy-out-ends-2 Inv-loop μ-loop
+element-copy-out-ends-2 c = search needs
+add-ends : tie.Need-add-ends Inv-loop μ-loop
+add-ends c =
     let s = c .before .before .before .before in
-    let j = c .before .before .before .loop .j in
-    omega (arith, s .pre .times j (omega arith), s .pre .leads j (omega arith))
-
-add-j : tie.Need-add-j Inv-loop μ-loop
-add-j c = search needs
-
-cast-result : tie.Need-cast-result Inv-loop μ-loop
-cast-result c = search needs
-
-returns : tie.Need-returns Inv-loop μ-loop
-returns c =
-    let s = c .before .before .before .before .before in
-    let l = c .before .before .before .before .loop in (
-      search needs,
-      rw add-one (sym (first-tabulate (late (s .args .t1) (s .args .reach)) (s .args .t1 .n) (λ j. j) (l .j)
-          (omega arith) (l .inv .1) (lt-ltb _ _ (c .if1 .taken)))),
-    )
-
+    let k = c .before .before .before .loop .k in
+    omega (arith, s .pre .times k (omega arith), s .pre .leads k (omega arith))
+mul-number : tie.Need-mul-number Inv-loop μ-loop
+mul-number c = search needs
+element-copy-out-number : tie.Need-element-copy-out-number Inv-loop μ-loop
+element-copy-out-number c = search needs
+add-k : tie.Need-add-k Inv-loop μ-loop
+add-k c = search needs
+cast-place : tie.Need-cast-place Inv-loop μ-loop
+cast-place c = search needs
 loop-less : tie.Need-loop-less Inv-loop μ-loop
 loop-less c = search needs
-
 loop-again : tie.Need-loop-again Inv-loop μ-loop
 loop-again c =
-    let s = c .before .before .before .before .before in
-    let l = c .before .before .before .before .loop in (
+    let s = c .before .before .before .before .before .before .before in
+    let l = c .before .before .before .before .before .before .loop in (
       search needs,
-      below-more (λ (i : ℕ). late (s .args .t1) (s .args .reach) i ≡ false) (l .j) (l .inv .1)
-          (le-ltb _ _ (c .if1 .left)),
+      late-found (s .args .t1) (s .args .reach) (l .k) (l .place) (l .least) (l .inv .1) (lt-ltb _ _ (c .before .if1 .taken)) (c .if2 .taken)
+          _ (add-one (l .k)),
     )
-
-returns-2 : tie.Need-returns-2 Inv-loop μ-loop
-returns-2 c =
+loop-less-2 : tie.Need-loop-less-2 Inv-loop μ-loop
+loop-less-2 c = search needs
+loop-again-2 : tie.Need-loop-again-2 Inv-loop μ-loop
+loop-again-2 c =
+    let s = c .before .before .before .before .before .before .before in
+    let l = c .before .before .before .before .before .before .loop in
+    (search needs, late-passed (s .args .t1) (s .args .reach) (l .k) (l .place) (l .least) (l .inv .1) (λ h. c .if2 .left))
+loop-less-3 : tie.Need-loop-less-3 Inv-loop μ-loop
+loop-less-3 c = search needs
+loop-again-3 : tie.Need-loop-again-3 Inv-loop μ-loop
+loop-again-3 c =
+    let s = c .before .before .before .before .before .before in
+    let l = c .before .before .before .before .before .loop in (
+      search needs,
+      late-passed (s .args .t1) (s .args .reach) (l .k) (l .place) (l .least) (l .inv .1)
+          (λ h. absurd (late-not _ _ (c .if1 .left) h)),
+    )
+returns : tie.Need-returns Inv-loop μ-loop
+returns c =
     let s = c .before .before in
-    let l = c .before .loop in (
-      search needs,
-      sym (none-tabulate (late (s .args .t1) (s .args .reach)) (s .args .t1 .n) (λ j. j)
-          (λ i h. l .inv .1 i (omega arith))),
+    let l = c .before .loop in
+    let e : l .k ≡ s .args .t1 .n = omega arith in
+    let L = subst (λ (k : ℕ). LeastLate (s .args .t1) (s .args .reach) k (l .place) (l .least)) e (l .inv .1) in (
+      late-place (s .args .t1) (s .args .reach) (s .pre) (l .place) (l .least) L,
+      late-first (s .args .t1) (s .args .reach) (s .pre) (l .place) (l .least) L,
     )
-
 pub first-late-spec : {M : Type 1} → statement M
 first-late-spec =
     tie.close
@@ -82,14 +78,19 @@ first-late-spec =
     Inv-loop
     μ-loop
     loop-holds
-    mul-least
-    element-copy-out-least
-    mul-least-2
-    element-copy-out-least-2
-    add-least
-    add-j
-    cast-result
-    returns
+    mul-ends
+    element-copy-out-ends
+    mul-ends-2
+    element-copy-out-ends-2
+    add-ends
+    mul-number
+    element-copy-out-number
+    add-k
+    cast-place
     loop-less
     loop-again
-    returns-2)
+    loop-less-2
+    loop-again-2
+    loop-less-3
+    loop-again-3
+    returns)

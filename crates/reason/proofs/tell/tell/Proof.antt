@@ -1,3 +1,5 @@
+use Prim.Native.Nat.{_≤_}
+use native.Mathlib.Omega.{arith}
 use borrow.Author.Needs.{needs}
 use Rattle.reason.proofs.Tells.{hit-of, tell-late, tell-stairs, tell-nothing}
 use Rattle.reason.proofs.tell.tell.Statement.{statement}
@@ -6,23 +8,33 @@ use Rattle.reason.proofs.tell.tell.Tie as tie
 first-late-requires : tie.Need-first-late-requires
 first-late-requires c κs = search needs
 
-sub-i : tie.Need-sub-i
-sub-i c = search needs
+sub-k : tie.Need-sub-k
+sub-k c = search needs
 
-cast-i : tie.Need-cast-i
-cast-i c = search needs
+cast-k : tie.Need-cast-k
+cast-k c = search needs
 
-mul-t14 : tie.Need-mul-t14
-mul-t14 c = search needs
+-- the place told is one of the table's
+within : (c : tie.Then1) → c .before .first-late .result ≤ 48
+within c = omega (arith, c .before .first-late .ensures .0, c .before .before .pre .0 .jobs)
 
-element-copy-out-t13 : tie.Need-element-copy-out-t13
-element-copy-out-t13 c = search needs
+mul-number : tie.Need-mul-number
+mul-number c = omega (arith, within c)
+
+element-copy-out-number : tie.Need-element-copy-out-number
+element-copy-out-number c = omega (arith, within c)
+
+mul-t15 : tie.Need-mul-t15
+mul-t15 c = omega (arith, within (c .before))
+
+element-copy-out-t14 : tie.Need-element-copy-out-t14
+element-copy-out-t14 c = omega (arith, within (c .before))
 
 returns : tie.Need-returns
 returns c =
-    let a = c .before .before .before .args in
-    let l = c .before .before .first-late in
-    tell-late (a .t1) (a .reach) (l .result) (l .ensures .1) (c .before .if1 .taken)
+    let s = c .before .before .before .before in
+    let l = c .before .before .before .first-late in
+    tell-late (s .args .t1) (s .args .reach) (l .result) (s .pre .0) (l .ensures .0) (l .ensures .1) (c .before .before .if1 .taken)
 
 first-overfull-requires : tie.Need-first-overfull-requires
 first-overfull-requires c κs = search needs
@@ -47,7 +59,7 @@ returns-2 c =
     let l = c .before .before .before .before .before .before .before .before .first-late in
     let w = c .before .before .before .before .before .before .first-overfull in
     let k = c .before .before .outcome .given .0 .0 in
-    tell-stairs (s .args .t1) (s .args .reach) (l .result) (l .ensures .1)
+    tell-stairs (s .args .t1) (s .args .reach) (l .result) (s .pre .0) (l .ensures .0) (l .ensures .1)
     (c .before .before .before .before .before .before .before .if1 .left) (w .result) k
     (hit-of (s .args .t1) (s .args .reach) (s .pre .0) (w .result) k (w .ensures) (c .before .before .outcome .given .1))
     (c .dues-of .result) (c .dues-of .ensures)
@@ -57,7 +69,7 @@ returns-3 c =
     let s = c .before .before .before .before .before .before .before in
     let l = c .before .before .before .before .before .before .first-late in
     let w = c .before .before .before .before .first-overfull in
-    tell-nothing (s .args .t1) (s .args .reach) (l .result) (l .ensures .1)
+    tell-nothing (s .args .t1) (s .args .reach) (l .result) (s .pre .0) (l .ensures .0) (l .ensures .1)
     (c .before .before .before .before .before .if1 .left) (w .result) (w .ensures)
     (c .enum-told .given .1)
 
@@ -66,10 +78,12 @@ tell-spec =
     tie.close
     (tie.spec
     first-late-requires
-    sub-i
-    cast-i
-    mul-t14
-    element-copy-out-t13
+    sub-k
+    cast-k
+    mul-number
+    element-copy-out-number
+    mul-t15
+    element-copy-out-t14
     returns
     first-overfull-requires
     enum-known-outcome

@@ -1,113 +1,101 @@
-use Prim.Native.Nat.{_-_, _≤_}
-use mathlib.Core.Path.{_≡_}
-use lib.ListN.{length, getD}
-use Rattle.reason.proofs.JobByJob.{Owed, owed-none, owed-small, owed-outside, owed-more, owed-all}
 use borrow.Author.Needs.{needs}
 use native.Mathlib.Omega.{arith}
+use Prim.Native.Nat.{_-_, _≤_}
+use mathlib.Core.Path.{_≡_}
+use mathlib.Core.Logic.{inl, inr}
+use lib.ListN.{length}
+use Rattle.reason.proofs.ClassByClass.{Filling, Begun, filling-none, filling-small, filling-begun, filling-more, filling-all}
 use Rattle.reason.proofs.weight.owed_table.Statement.{statement}
 use Rattle.reason.proofs.weight.owed_table.Tie as tie
-use Rattle.reason.proofs.weight.owed_table.Reads as reads
-use Rattle.reason.proofs.weight.owed_table.Lts as lts
-use Rattle.reason.proofs.weight.with_job.Reads as with-job-reads
 
 abbrev Inv-loop : tie.InvT-loop
-Inv-loop t n grid r₀ j₀ r j = (j ≤ t .n) × (length r ≡ 16) × Owed t j r
-
+Inv-loop t n grid r₀ row₀ class₀ k₀ r row class k =
+    (k ≤ t .n) × (length r ≡ 16) × (length row ≡ 48) × Filling t k r row class
 abbrev μ-loop : tie.MeasureT-loop
-μ-loop t n grid r₀ j₀ r j = t .n - j
-
+μ-loop t n grid r₀ row₀ class₀ k₀ r row class k = t .n - k
 loop-holds : tie.Need-loop-holds Inv-loop μ-loop
-loop-holds c = (search needs, search needs, owed-none (c .before .args .t1))
+loop-holds c = (omega arith, search needs, search needs, filling-none (c .before .args .t1) (c .before .pre))
 
-mul-class : tie.Need-mul-class Inv-loop μ-loop
-mul-class c = search needs
+-- the class being filled
+filled : (c : tie.In-loop Inv-loop μ-loop) →
+    Filling (c .before .before .before .args .t1) (c .before .loop .k) (c .before .loop .r) (c .before .loop .row) (c .before .loop .class)
+filled c = c .before .loop .inv .3
 
-element-copy-out-class : tie.Need-element-copy-out-class Inv-loop μ-loop
-element-copy-out-class c = search needs
-
-cast-class : tie.Need-cast-class Inv-loop μ-loop
-cast-class c = search needs
-
-mul-time : tie.Need-mul-time Inv-loop μ-loop
-mul-time c = search needs
-
-element-copy-out-time : tie.Need-element-copy-out-time Inv-loop μ-loop
-element-copy-out-time c = search needs
-
-mul-lead : tie.Need-mul-lead Inv-loop μ-loop
-mul-lead c = search needs
-
-element-copy-out-lead : tie.Need-element-copy-out-lead Inv-loop μ-loop
-element-copy-out-lead c = search needs
-
-add-j : tie.Need-add-j Inv-loop μ-loop
-add-j c = search needs
-
-sub-i : tie.Need-sub-i Inv-loop μ-loop
-sub-i c = search needs
-
-mul-row : tie.Need-mul-row Inv-loop μ-loop
-mul-row c = search needs
-
-array-copy-out-row : tie.Need-array-copy-out-row Inv-loop μ-loop
-array-copy-out-row c = search needs
-
-with-job-requires : tie.Need-with-job-requires Inv-loop μ-loop
-with-job-requires c κs =
+-- the row at hand is that of the next job's class
+begun : (c : tie.Joined1 Inv-loop μ-loop) →
+    Begun (c .before .before .before .before .before .args .t1) (c .before .before .before .loop .k) (c .if1 .r) (c .if1 .row) (c .if1 .class)
+begun c =
+    let l = c .before .before .before .loop in
+    filling-begun (c .before .before .before .before .before .args .t1) (c .before .before .before .before .before .pre) (l .k) (l .r) (l .row) (l .class) (filled (c .before .before)) (l .inv .1) (l .inv .2) (omega arith)
+    (c .if1 .r) (c .if1 .row) (c .if1 .class)
+    (elim (c .if1 .came) [
+      | inl p ↦ inl (p .0 .taken, p .1, p .2, p .3)
+      | inr p ↦ inr (p .0 .left, p .1, p .2, p .3)
+    ])
+mul-next : tie.Need-mul-next Inv-loop μ-loop
+mul-next c = search needs
+element-copy-out-next : tie.Need-element-copy-out-next Inv-loop μ-loop
+element-copy-out-next c = search needs
+cast-next : tie.Need-cast-next Inv-loop μ-loop
+cast-next c = search needs
+sub-r : tie.Need-sub-r Inv-loop μ-loop
+sub-r c = omega (arith, filled (c .before .before) .some)
+mul-r : tie.Need-mul-r Inv-loop μ-loop
+mul-r c = omega (arith, filled (c .before .before) .few)
+array-set-from-r : tie.Need-array-set-from-r Inv-loop μ-loop
+array-set-from-r c = omega (arith, filled (c .before .before) .some, filled (c .before .before) .few)
+slice-aggregate-add-job : tie.Need-slice-aggregate-add-job Inv-loop μ-loop
+slice-aggregate-add-job c = omega (arith, begun (c .before) .wide)
+mul-add-job : tie.Need-mul-add-job Inv-loop μ-loop
+mul-add-job c = search needs
+element-copy-out-add-job : tie.Need-element-copy-out-add-job Inv-loop μ-loop
+element-copy-out-add-job c = search needs
+mul-add-job-2 : tie.Need-mul-add-job-2 Inv-loop μ-loop
+mul-add-job-2 c = search needs
+element-copy-out-add-job-2 : tie.Need-element-copy-out-add-job-2 Inv-loop μ-loop
+element-copy-out-add-job-2 c = search needs
+slice-aggregate-add-job-2 : tie.Need-slice-aggregate-add-job-2 Inv-loop μ-loop
+slice-aggregate-add-job-2 c = search needs
+add-job-requires : tie.Need-add-job-requires Inv-loop μ-loop
+add-job-requires c κs =
     let s = c .before .before .before .before .before .before .before .before .before in
     let l = c .before .before .before .before .before .before .before .loop in
-    let class = getD (s .args .t1 .classes) (l .j) 0 in (
-      s .pre .times (l .j) (omega arith),
-      λ d h. owed-small (s .args .t1) (s .pre) (l .j) (omega arith) (l .r) (l .inv .2) (class - 1) d (omega arith) h,
+    let b = begun (c .before .before .before .before) in (
+      b .wide,
+      search needs,
+      s .pre .times (l .k) (omega arith),
+      λ d h. filling-small (s .args .t1) (s .pre) (l .k) _ _ _ (b .filling) (omega arith) d h,
     )
-
-mul-r : tie.Need-mul-r Inv-loop μ-loop
-mul-r c = search needs
-
-array-set-from-r : tie.Need-array-set-from-r Inv-loop μ-loop
-array-set-from-r c = search needs
-
+add-k : tie.Need-add-k Inv-loop μ-loop
+add-k c = search needs
 loop-less : tie.Need-loop-less Inv-loop μ-loop
 loop-less c = search needs
-
 loop-again : tie.Need-loop-again Inv-loop μ-loop
 loop-again c =
-    let s = c .before .before .before .before .before .before .before .before .before .before in
-    let l = c .before .before .before .before .before .before .before .before .loop in
-    let class = getD (s .args .t1 .classes) (l .j) 0 in (
+    let s = c .before .before .before .before .before .before .before .before .before .before .before in
+    let l = c .before .before .before .before .before .before .before .before .before .loop in
+    let b = begun (c .before .before .before .before .before .before) in
+    (
       search needs,
+      b .size,
       search needs,
-      owed-more (s .args .t1) (l .j) (l .r) (l .inv .2) (l .inv .1) (class - 1) (omega arith) (omega arith)
-          (c .with-job .result) (c .with-job .ensures),
+      filling-more (s .args .t1) (s .pre) (l .k) _ _ _ (b .filling) _ (b .same) (c .before .add-job .ensures),
     )
+-- the last class
+last : (c : tie.After-loop Inv-loop μ-loop) →
+    Filling (c .before .before .before .args .t1) (c .before .loop .k) (c .before .loop .r) (c .before .loop .row) (c .before .loop .class)
+last c = c .before .loop .inv .3
 
-loop-less-2 : tie.Need-loop-less-2 Inv-loop μ-loop
-loop-less-2 c = search needs
-
-loop-again-2 : tie.Need-loop-again-2 Inv-loop μ-loop
-loop-again-2 c =
-    let l = c .before .before .before .before .before .before .loop in (
-      search needs,
-      l .inv .1,
-      owed-outside (c .before .before .before .before .before .before .before .before .args .t1) (l .j) (l .r)
-          (l .inv .2) (λ i h. omega arith),
-    )
-
-loop-less-3 : tie.Need-loop-less-3 Inv-loop μ-loop
-loop-less-3 c = search needs
-
-loop-again-3 : tie.Need-loop-again-3 Inv-loop μ-loop
-loop-again-3 c =
-    let l = c .before .before .before .before .before .loop in (
-      search needs,
-      l .inv .1,
-      owed-outside (c .before .before .before .before .before .before .before .args .t1) (l .j) (l .r)
-          (l .inv .2) (λ i h. omega arith),
-    )
-
+sub-r-2 : tie.Need-sub-r-2 Inv-loop μ-loop
+sub-r-2 c = omega (arith, last c .some)
+mul-r-2 : tie.Need-mul-r-2 Inv-loop μ-loop
+mul-r-2 c = omega (arith, last c .few)
+array-set-from-r-2 : tie.Need-array-set-from-r-2 Inv-loop μ-loop
+array-set-from-r-2 c = omega (arith, last c .some, last c .few)
 returns : tie.Need-returns Inv-loop μ-loop
-returns c = let l = c .before .loop in owed-all (c .before .before .before .args .t1) (l .j) (omega arith) (l .r) (l .inv .2)
-
+returns c =
+    let l = c .before .loop in
+    filling-all (c .before .before .before .args .t1) (c .before .before .before .pre) (l .k) (l .r) (l .row) (l .class) (last c) (l .inv .1) (omega arith)
 pub owed-table-spec : {M : Type 1} → statement M
 owed-table-spec =
     tie.close
@@ -115,24 +103,23 @@ owed-table-spec =
     Inv-loop
     μ-loop
     loop-holds
-    mul-class
-    element-copy-out-class
-    cast-class
-    mul-time
-    element-copy-out-time
-    mul-lead
-    element-copy-out-lead
-    add-j
-    sub-i
-    mul-row
-    array-copy-out-row
-    with-job-requires
+    mul-next
+    element-copy-out-next
+    cast-next
+    sub-r
     mul-r
     array-set-from-r
+    slice-aggregate-add-job
+    mul-add-job
+    element-copy-out-add-job
+    mul-add-job-2
+    element-copy-out-add-job-2
+    slice-aggregate-add-job-2
+    add-job-requires
+    add-k
     loop-less
     loop-again
-    loop-less-2
-    loop-again-2
-    loop-less-3
-    loop-again-3
+    sub-r-2
+    mul-r-2
+    array-set-from-r-2
     returns)

@@ -37,7 +37,7 @@ returns c =
     = c .before .before .reach-of .ensures .0 ∙ ap (λ (z : ℤ). reachAt lastDue z)
     (toZ-ofZ w32 (s .args .bound) (s .fits .bound)) in
     let late = c .before .first-late in
-    one-late o a (s .args .t) (s .pre .2) (s .args .bound) _ e (late .result) (late .ensures .1) (omega (arith, c .if1 .taken)) _
+    one-late o a (s .args .t) (s .pre .2) (s .args .bound) _ e (late .result) (late .ensures) (omega (arith, c .if1 .taken)) _
 
 returns-2 : tie.Need-returns-2
 returns-2 c =
@@ -76,7 +76,7 @@ weigh-steps-requires c κs =
       fine-of o (s .args .t) (s .pre .2) a,
       c .before .before .before .before .before .before .reach-of .ensures .1,
       s .pre .3,
-      reached o a (s .args .t) (s .pre .2) (s .args .bound) _ e (late .result) (late .ensures .1)
+      reached o a (s .args .t) (s .pre .2) (s .args .bound) _ e (late .result) (late .ensures)
           (λ l. omega (arith, c .before .before .before .before .if1 .left))
           (s .args .dues) (s .args .k) (omega arith) (s .pre .3) (q .ensures .0 (not-false (q .result) (c .if3 .left))),
     )
@@ -92,7 +92,7 @@ returns-4 c =
     let late = c .before .before .before .before .before .before .first-late in
     let size = s .good in
     let q = c .before .before .steps-fit in
-    weighed o a (s .args .t) (s .pre .2) (s .args .bound) _ e (late .result) (late .ensures .1)
+    weighed o a (s .args .t) (s .pre .2) (s .args .bound) _ e (late .result) (late .ensures)
     (λ l. omega (arith, c .before .before .before .before .before .if1 .left))
     (s .args .dues) (s .args .k) (omega arith) (s .pre .3) (q .ensures .0 (not-false (q .result) (c .before .if3 .left)))
     (omega (arith, c .before .before .before .if2 .left)) (c .weigh-steps .result) (c .weigh-steps .ensures)

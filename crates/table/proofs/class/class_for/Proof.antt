@@ -1,7 +1,7 @@
 use Prim.Native.Nat.{ℕ, _-_, _<_, _≤_}
 use mathlib.Core.Path.{sym}
 use native.Mathlib.Omega.{arith}
-use borrow.Author.Count.{below-none, below-more}
+use borrow.Author.Count.{below-more}
 use borrow.Author.Needs.{needs}
 use lib.ListN.{getD}
 use Rattle.table.specs.ClassRows.{last-stops, last-all}
@@ -10,13 +10,13 @@ use Rattle.table.proofs.class.class_for.Tie as tie
 
 -- the memories passed suffice
 abbrev Inv-loop : tie.InvT-loop
-Inv-loop count need memories k₀ k = (k ≤ count) × ((i : ℕ) → i < k → need ≤ getD memories i 0)
+Inv-loop count need from memories k₀ k = (k ≤ count) × ((i : ℕ) → i < k → need ≤ getD memories i 0)
 
 abbrev μ-loop : tie.MeasureT-loop
-μ-loop count need memories k₀ k = count - k
+μ-loop count need from memories k₀ k = count - k
 
 loop-holds : tie.Need-loop-holds Inv-loop μ-loop
-loop-holds c = (search needs, below-none _)
+loop-holds c = (c .pre .1, c .pre .2)
 
 mul-if1 : tie.Need-mul-if1 Inv-loop μ-loop
 mul-if1 c = search needs
