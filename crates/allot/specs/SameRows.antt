@@ -36,12 +36,32 @@ over plan entry = numbersOf plan ++ drop (4 * length plan) entry
 abbrev pub endsFrom : Reading → Table → ℕ → List ℕ
 endsFrom r t reach = tabulate (t .n) (λ j. reach - r .lead j)
 
--- rows from a table whose jobs are so read, in a frame of lent numbers
-pub record RowsFrom (r : Reading) (t : Table) (q : ℕ) (marks ready until opens closes entry exit : List ℕ) (count : ℕ) : Type 0 where
+-- a frame as it is lent
+pub record LentNumbers : Type 0 where
+  pub stretches : ℕ
+  pub marks : List ℕ
+  pub ready : List ℕ
+  pub until : List ℕ
+  pub opens : List ℕ
+  pub closes : List ℕ
+
+abbrev pub frameOf : LentNumbers → Frame
+frameOf l = frameLent (l .stretches) (l .marks) (l .ready) (l .until) (l .opens) (l .closes)
+
+-- the layout of flat amounts in it, joined
+abbrev pub planOf : Table → LentNumbers → List ℕ → List Row
+planOf t l w = joined (planned t (l .stretches) (l .marks) (l .opens) (l .closes) w)
+
+-- the answer of the run on a table whose jobs are so read, with its amounts
+abbrev pub AnswerFrom : Reading → Table → LentNumbers → List ℕ → Bool → Type 0
+AnswerFrom r t l w b = RunOf (flowFrom r t (frameOf l)) (suc (t .s)) (grid (l .stretches) w) b
+
+-- `count` rows from it
+pub record RowsFrom (r : Reading) (t : Table) (l : LentNumbers) (entry exit : List ℕ) (count : ℕ) : Type 0 where
   pub amounts : List ℕ
-  pub run : RunOf (flowFrom r t (frameLent q marks ready until opens closes)) (suc (t .s)) (grid q amounts) true
-  pub rows-are : exit ≡ over (joined (planned t q marks opens closes amounts)) entry
-  pub count-is : count ≡ length (joined (planned t q marks opens closes amounts))
+  pub run : AnswerFrom r t l amounts true
+  pub rows-are : exit ≡ over (planOf t l amounts) entry
+  pub count-is : count ≡ length (planOf t l amounts)
 
 -- rows of an order in a frame
 pub record RowsIn (o : Order) (f : Frame) (entry exit : List ℕ) (count : ℕ) : Type 0 where
@@ -65,43 +85,42 @@ module _ (o : Order) (f : Frame) (entry exit exit′ : List ℕ) (count count′
 
 module _ {top : ℤ} (o : Order) (f : Frame) (up : Rising f) where
   -- rows from a table of the order are the order's
-  module _ {number : ℕ → ℕ} (t : Table) (m : TabledBy number top o t) (r : Reading) (R : ReadingOf top o r) (q : ℕ)
-      (marks ready until opens closes : List ℕ) (A : Agrees o f (frameLent q marks ready until opens closes)) where
-    pub rows-in : (entry exit : List ℕ) (count : ℕ) → RowsFrom r t q marks ready until opens closes entry exit count →
-        RowsIn o f entry exit count
+  module _ {number : ℕ → ℕ} (t : Table) (m : TabledBy number top o t) (r : Reading) (R : ReadingOf top o r) (l : LentNumbers)
+      (A : Agrees o f (frameOf l)) where
+    laid : (w : List ℕ) → planned t (l .stretches) (l .marks) (l .opens) (l .closes) w ≡ layoutIn o f (amountIn (l .stretches) w)
+    laid w = planned-is o t m (l .stretches) (l .marks) (l .ready) (l .until) (l .opens) (l .closes) w f A up
+
+    pub rows-in : (entry exit : List ℕ) (count : ℕ) → RowsFrom r t l entry exit count → RowsIn o f entry exit count
     rows-in entry exit count X =
         let w = X .amounts in
-        let e : planned t q marks opens closes w ≡ layoutIn o f (amountIn q w)
-        = planned-is o t m q marks ready until opens closes w f A up in
         record {
-          amounts = amountIn q w;
-          run = run-in-frame o t m f (frameLent q marks ready until opens closes) A r R (grid q w) true (X .run);
-          rows-are = X .rows-are ∙ ap (λ (l : List Row). over (joined l) entry) e;
-          count-is = X .count-is ∙ ap (λ (l : List Row). length (joined l)) e;
+          amounts = amountIn (l .stretches) w;
+          run = run-in-frame o t m f (frameOf l) A r R (grid (l .stretches) w) true (X .run);
+          rows-are = X .rows-are ∙ ap (λ (rows : List Row). over (joined rows) entry) (laid w);
+          count-is = X .count-is ∙ ap (λ (rows : List Row). length (joined rows)) (laid w);
         }
 
-    -- the runs and rows of another table of the order
-    module _ {number′ : ℕ → ℕ} (u : Table) (n : TabledBy number′ top o u) (r′ : Reading) (R′ : ReadingOf top o r′) (q′ : ℕ)
-        (marks′ ready′ until′ opens′ closes′ : List ℕ) (B : Agrees o f (frameLent q′ marks′ ready′ until′ opens′ closes′)) where
-      pub run-same : (w : List ℕ) (b : Bool) →
-          RunOf (flowFrom r t (frameLent q marks ready until opens closes)) (suc (t .s)) (grid q w) b →
-          RunOf (flowFrom r′ u (frameLent q′ marks′ ready′ until′ opens′ closes′)) (suc (u .s)) (grid q′ w) b
-      run-same w b h =
-          run-of-frame o u n f (frameLent q′ marks′ ready′ until′ opens′ closes′) B r′ R′ (grid q′ w) b
-          (subst (λ (x : ℕ). RunOf (flowIn o f) (suc (length (classes o))) (grid x w) b) (A .stretches-same ∙ sym (B .stretches-same))
-          (run-in-frame o t m f (frameLent q marks ready until opens closes) A r R (grid q w) b h))
+  -- two tables of the order, each in lent numbers of the frame
+  module _ {number number′ : ℕ → ℕ} (t u : Table) (m : TabledBy number top o t) (n : TabledBy number′ top o u) (r r′ : Reading)
+      (R : ReadingOf top o r) (R′ : ReadingOf top o r′) (l l′ : LentNumbers) (A : Agrees o f (frameOf l))
+      (B : Agrees o f (frameOf l′)) where
+    stretches-are : l .stretches ≡ l′ .stretches
+    stretches-are = A .stretches-same ∙ sym (B .stretches-same)
 
-      pub rows-carried : (entry exit : List ℕ) (count : ℕ) → RowsFrom r t q marks ready until opens closes entry exit count →
-          RowsFrom r′ u q′ marks′ ready′ until′ opens′ closes′ entry exit count
-      rows-carried entry exit count X =
-          let w = X .amounts in
-          let e : planned t q marks opens closes w ≡ planned u q′ marks′ opens′ closes′ w
-          = planned-is o t m q marks ready until opens closes w f A up
-          ∙ ap (λ (x : ℕ). layoutIn o f (amountIn x w)) (A .stretches-same ∙ sym (B .stretches-same))
-          ∙ sym (planned-is o u n q′ marks′ ready′ until′ opens′ closes′ w f B up) in
-          record {
-            amounts = w;
-            run = run-same w true (X .run);
-            rows-are = X .rows-are ∙ ap (λ (l : List Row). over (joined l) entry) e;
-            count-is = X .count-is ∙ ap (λ (l : List Row). length (joined l)) e;
-          }
+    pub answer-carried : (w : List ℕ) (b : Bool) → AnswerFrom r t l w b → AnswerFrom r′ u l′ w b
+    answer-carried w b h =
+        run-of-frame o u n f (frameOf l′) B r′ R′ (grid (l′ .stretches) w) b
+        (subst (λ (q : ℕ). RunOf (flowIn o f) (suc (length (classes o))) (grid q w) b) stretches-are
+        (run-in-frame o t m f (frameOf l) A r R (grid (l .stretches) w) b h))
+
+    pub rows-carried : (entry exit : List ℕ) (count : ℕ) → RowsFrom r t l entry exit count → RowsFrom r′ u l′ entry exit count
+    rows-carried entry exit count X =
+        let w = X .amounts in
+        let e : planOf t l w ≡ planOf u l′ w
+        = ap joined (laid t m r R l A w ∙ ap (λ (q : ℕ). layoutIn o f (amountIn q w)) stretches-are ∙ sym (laid u n r′ R′ l′ B w)) in
+        record {
+          amounts = w;
+          run = answer-carried w true (X .run);
+          rows-are = X .rows-are ∙ ap (λ (plan : List Row). over plan entry) e;
+          count-is = X .count-is ∙ ap (λ (plan : List Row). length plan) e;
+        }

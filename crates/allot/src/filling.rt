@@ -43,8 +43,10 @@ pub fn fill_amounts(
     let processors = t.by_memory;
     let kinds = t.kinds;
     let numbers = t.by_need;
-    let times = by_number(t.times, numbers, t.n);
-    let classes = by_number(t.classes, numbers, t.n);
+    let held_times = t.times;
+    let held_classes = t.classes;
+    let times = by_number(held_times, numbers, t.n);
+    let classes = by_number(held_classes, numbers, t.n);
     put_caps(cap, marks, q, ready, until, t.n);
     put_rooms(room, processors, t.m, kinds, t.s, marks, q, opens, closes);
     put_times(&mut time, &times, t.n, idle_minutes(room, q, t.s + 1));

@@ -19,14 +19,13 @@ use Rattle.plan.specs.Join.{joined}
 use Rattle.plan.specs.Plan.{Row}
 use Rattle.wrap.specs.FrameBase.{baseFrame, layout-is}
 use Rattle.wrap.specs.Marks.{mark-up}
-use Rattle.layout.specs.Planned.{frameLent}
 use Rattle.table.specs.Held.{Reading, byNumber, byPlace, ReadingOf}
 use Rattle.table.specs.HeldLaws.{held-read, input-read}
 use Rattle.table.specs.Tabled.{TabledBy, Tabled, InInputOrder}
 use Rattle.table.specs.declared.Table.{Table}
 use Rattle.allot.specs.GridMarks.{grid-counted, lent-agrees}
 use Rattle.allot.specs.InFrame.{Agrees}
-use Rattle.allot.specs.SameRows.{over, endsFrom, RowsFrom, RowsIn, rows-one, rows-in, rows-carried}
+use Rattle.allot.specs.SameRows.{over, endsFrom, LentNumbers, frameOf, RowsFrom, RowsIn, rows-one, rows-in, rows-carried}
 use Rattle.reason.specs.Asked.{toldOf, toldInOrder}
 use Rattle.reason.specs.SameTold.{reason-same}
 use Rattle.reason.specs.declared.Tightness.{Tightness}
@@ -46,28 +45,35 @@ rowsRead t why numbers = roomRow (numbers / 4) (t .q * (t .n + t .m - 1)) ∷ ti
 
 -- Rows -------------------------------------------------------------------------------------------------------------------------
 
--- document 01's frame from a table at a reach
-abbrev pub marksFrom : Table → ℕ → List ℕ
-marksFrom t reach = tabulate 48 (λ s. reach - getD (t .grid) s 0)
+-- document 01's frame from a table whose jobs are so read, at a reach: each job is ready at 0, each processor open from 0 to the reach
+abbrev pub lentAt : Reading → Table → ℕ → LentNumbers
+lentAt r t reach =
+    record {
+      stretches = t .q;
+      marks = tabulate 48 (λ s. reach - getD (t .grid) s 0);
+      ready = replicate 48 0;
+      until = endsFrom r t reach;
+      opens = replicate 16 0;
+      closes = replicate 16 reach;
+    }
 
--- `count` rows from a table whose jobs are so read, at a reach: each job is ready at 0, each processor open from 0 to the reach
+-- `count` rows from it
 abbrev pub PlanFrom : Reading → Table → ℕ → (entry exit : List ℕ) → ℕ → Type 0
-PlanFrom r t reach entry exit count =
-    RowsFrom r t (t .q) (marksFrom t reach) (replicate 48 0) (endsFrom r t reach) (replicate 16 0) (replicate 16 reach) entry exit count
+PlanFrom r t reach entry exit count = RowsFrom r t (lentAt r t reach) entry exit count
 
 module _ (o : Order) (ok : Accepted o) (bound : ℤ) where
   abbrev reach : ℕ
   reach = reachAt lastDue bound
 
   framed : {number : ℕ → ℕ} (t : Table) → TabledBy number lastDue o t → (r : Reading) → ReadingOf lastDue o r →
-      Agrees o (baseFrame o bound)
-      (frameLent (t .q) (marksFrom t reach) (replicate 48 0) (endsFrom r t reach) (replicate 16 0) (replicate 16 reach))
+      Agrees o (baseFrame o bound) (frameOf (lentAt r t reach))
   framed t m r R =
-      lent-agrees o (workable o (accepted-iff o .0 ok)) bound t m r R reach refl (endsFrom r t reach) (marksFrom t reach)
-      (record { at = λ j l. getD-tabulate (t .n) (λ j. reach - r .lead j) 0 j l })
-      (record { at = λ s l. getD-tabulate 48 (λ s. reach - getD (t .grid) s 0) 0 s l })
-      (replicate 48 0) (replicate 16 0) (replicate 16 reach) (λ j l. getD-replicate 48 j 0 0 l) (λ i l. getD-replicate 16 i 0 0 l)
-      (λ i l. getD-replicate 16 i reach 0 l)
+      let l = lentAt r t reach in
+      lent-agrees o (workable o (accepted-iff o .0 ok)) bound t m r R reach refl (l .until) (l .marks)
+      (record { at = λ j b. getD-tabulate (t .n) (λ j. reach - r .lead j) 0 j b })
+      (record { at = λ s b. getD-tabulate 48 (λ s. reach - getD (t .grid) s 0) 0 s b })
+      (l .ready) (l .opens) (l .closes) (λ j b. getD-replicate 48 j 0 0 b) (λ i b. getD-replicate 16 i 0 0 b)
+      (λ i b. getD-replicate 16 i reach 0 b)
 
   written-in : (entry exit : List ℕ) (count : ℕ) → Written o bound entry exit count → RowsIn o (baseFrame o bound) entry exit count
   written-in entry exit count W =
@@ -91,16 +97,22 @@ module _ (o : Order) (ok : Accepted o) (bound : ℤ) where
           m .processors ∙ sym (i .processors),
         ) refl
 
+    held : Agrees o (baseFrame o bound) (frameOf (lentAt (byNumber t) t reach))
+    held = framed t m (byNumber t) (held-read o t m)
+
+    input : Agrees o (baseFrame o bound) (frameOf (lentAt (byPlace u) u reach))
+    input = framed u i (byPlace u) (input-read o u i)
+
     module _ (entry exit : List ℕ) (count : ℕ) where
       -- rows from §8's table are rows from the input-order table, and the other way round
       pub rows-same : PlanFrom (byNumber t) t reach entry exit count ↔ PlanFrom (byPlace u) u reach entry exit count
       rows-same =
-          let a = framed t m (byNumber t) (held-read o t m) in
-          let b = framed u i (byPlace u) (input-read o u i) in (
-            rows-carried o (baseFrame o bound) (mark-up o bound) t m (byNumber t) (held-read o t m) (t .q) _ _ _ _ _ a
-                u i (byPlace u) (input-read o u i) (u .q) _ _ _ _ _ b entry exit count,
-            rows-carried o (baseFrame o bound) (mark-up o bound) u i (byPlace u) (input-read o u i) (u .q) _ _ _ _ _ b
-                t m (byNumber t) (held-read o t m) (t .q) _ _ _ _ _ a entry exit count,
+          let f = lentAt (byNumber t) t reach in
+          let g = lentAt (byPlace u) u reach in (
+            rows-carried o (baseFrame o bound) (mark-up o bound) t u m i (byNumber t) (byPlace u) (held-read o t m) (input-read o u i) f g
+                held input entry exit count,
+            rows-carried o (baseFrame o bound) (mark-up o bound) u t i m (byPlace u) (byNumber t) (input-read o u i) (held-read o t m) g f
+                input held entry exit count,
           )
 
       -- what the planner leaves by its contract are the rows from the input-order table, and there are no others
@@ -108,5 +120,5 @@ module _ (o : Order) (ok : Accepted o) (bound : ℤ) where
           PlanFrom (byPlace u) u reach entry exit′ count′ → (exit ≡ exit′) × (count ≡ count′)
       rows-planned W exit′ count′ X =
           rows-one o (baseFrame o bound) entry exit exit′ count count′ (written-in entry exit count W)
-          (rows-in o (baseFrame o bound) (mark-up o bound) u i (byPlace u) (input-read o u i) (u .q) _ _ _ _ _
-          (framed u i (byPlace u) (input-read o u i)) entry exit′ count′ X)
+          (rows-in o (baseFrame o bound) (mark-up o bound) u i (byPlace u) (input-read o u i) (lentAt (byPlace u) u reach) input entry
+          exit′ count′ X)

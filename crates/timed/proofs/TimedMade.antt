@@ -76,7 +76,9 @@ module _ {o : Order} {t : Table} {bound : ℤ} {times : TimesTable} {c : Changes
   few = omega (arith, m .changed .few, m .changed .count-is)
 
   agrees : Agrees o f g
-  agrees = times-agree o (workable o a) bound times c (m .changed) (byNumber t) read e (rw (m .timed .tabled .jobs) at hd)
+  agrees =
+      times-agree o (workable o a) bound times c (m .changed) (byNumber t) read e ds
+      (record { at = λ j l. hd .at j (omega (arith, m .timed .tabled .jobs)) })
 
   small : (s : ℕ) → s < f .stretches → f .mark (suc s) ≤ 176000016
   small s l =

@@ -20,7 +20,7 @@ use Rattle.timed.specs.declared.Changes.{Changes}
 use Rattle.timed.specs.declared.Times.{Times as TimesTable}
 
 module _ (o : Order) (work : Workable lastDue o) (bound : ℤ) (times : TimesTable) (c : Changes) (C : ChangesOf o bound (timesOf times) c)
-    (r : Reading) (R : ReadingOf lastDue o r) {reach : ℕ} (e : reach ≡ reachAt lastDue bound) {ds : List ℕ}
+    (r : Reading) (R : ReadingOf lastDue o r) {reach : ℕ} (e : reach ≡ reachAt lastDue bound) (ds : List ℕ)
     (hd : RowOf (λ j. reach - r .lead j) (jobCount o) ds) where
   abbrev f : Frame
   f = timedFrame o bound (timesOf times)

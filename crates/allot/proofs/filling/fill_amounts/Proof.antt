@@ -6,9 +6,15 @@ use Rattle.allot.proofs.Carrying.{idle-small, given, answered, carried}
 use Rattle.allot.proofs.filling.fill_amounts.Statement.{statement}
 use Rattle.allot.proofs.filling.fill_amounts.Tie as tie
 
+by-number-requires : tie.Need-by-number-requires
+by-number-requires c κs = let z = c .before .before .before .before .before .before .before .before .before .before .before .before .before .before .pre .0 in (z .few-jobs, z .job-numbers)
+
+by-number-requires-2 : tie.Need-by-number-requires-2
+by-number-requires-2 c κs = let z = c .before .before .before .before .before .before .before .before .before .before .before .before .before .before .before .pre .0 in (z .few-jobs, z .job-numbers)
+
 put-caps-requires : tie.Need-put-caps-requires
 put-caps-requires c κs =
-    let s = c .before .before .before .before .before .before .before .before .before .before .before .before .before .before in
+    let s = c .before .before .before .before .before .before .before .before .before .before .before .before .before .before .before .before .before in
     let z = s .pre .0 in
     let l = s .pre .1 in
     (z .rising, l .long .l-marks, l .long .l-ready, l .long .l-until, z .few-jobs, z .few-stretches, l .l-cap)
@@ -17,7 +23,7 @@ put-rooms-requires : tie.Need-put-rooms-requires
 put-rooms-requires c κs =
     let p1 = c .before .before .before .before .before .before .before .before .before .before .before .before .before .before in
     let p2 = p1 .before .before .before .before in
-    let s = p2 in
+    let s = p2 .before .before .before in
     let z = s .pre .0 in
     let l = s .pre .1 in (
       (
@@ -42,7 +48,7 @@ add-idle-minutes : tie.Need-add-idle-minutes
 add-idle-minutes c =
     let p1 = c .before .before .before .before .before .before .before .before .before .before .before .before .before .before in
     let p2 = p1 .before .before .before .before .before .before .before .before .before .before .before in
-    omega (arith, p2 .pre .0 .few-classes)
+    omega (arith, p2 .before .before .before .pre .0 .few-classes)
 
 idle-minutes-requires : tie.Need-idle-minutes-requires
 idle-minutes-requires c κs =
@@ -50,7 +56,7 @@ idle-minutes-requires c κs =
     let p2 = p1 .before .before .before .before in
     let p3 = p2 .before .before .before .before .before .before .before .before .before .before .before .before .before .before in
     let p4 = p3 .before in
-    let s = p4 in
+    let s = p4 .before .before .before in
     let z = s .pre .0 in
     let small = idle-small (s .args .t) (s .args .q) (s .args .marks .now) (s .args .ready .now) (s .args .until .now) (s .args .opens .now) (s .args .closes .now) z _ _
     (p2 .put-caps .ensures) (p1 .put-rooms .ensures) in (
@@ -65,7 +71,7 @@ put-times-requires : tie.Need-put-times-requires
 put-times-requires c κs =
     let p1 = c .before .before .before .before .before .before .before .before .before .before .before .before .before .before in
     let p2 = p1 .before .before .before .before .before .before .before .before .before .before .before .before in
-    let z = p2 .pre .0 in
+    let z = p2 .before .before .before .pre .0 in
     (z .few-jobs, omega (arith, z .few-jobs))
 
 slice-aggregate-put-classes : tie.Need-slice-aggregate-put-classes
@@ -76,7 +82,7 @@ put-classes-requires c κs =
     let p1 = c .before .before .before .before .before .before .before .before .before .before .before .before .before .before in
     let p2 = p1 .before .before .before .before .before .before .before .before .before .before .before .before .before .before in
     let p3 = p2 .before in
-    let z = p3 .pre .0 in
+    let z = p3 .before .before .before .pre .0 in
     (z .few-jobs, z .few-classes, omega (arith, z .few-jobs))
 
 slice-aggregate-solve : tie.Need-slice-aggregate-solve
@@ -96,7 +102,7 @@ add-solve c =
     let p1 = c .before .before .before .before .before .before .before .before .before .before .before .before .before .before in
     let p2 = p1 .before .before .before .before .before .before .before .before .before .before .before .before .before .before in
     let p3 = p2 .before .before .before .before .before .before .before .before .before .before .before .before in
-    omega (arith, p3 .pre .0 .few-classes)
+    omega (arith, p3 .before .before .before .pre .0 .few-classes)
 
 solve-requires : tie.Need-solve-requires
 solve-requires c κs =
@@ -107,7 +113,7 @@ solve-requires c κs =
     let p5 = p4 .before .before .before .before in
     let p6 = p5 .before .before .before .before .before .before .before .before .before .before .before .before .before .before in
     let p7 = p6 .before in
-    let s = p7 in
+    let s = p7 .before .before .before in
     let z = s .pre .0 in
     let l = s .pre .1 in
     let times = p2 .put-times in
@@ -125,7 +131,7 @@ solve-requires c κs =
         s-h = omega (arith, z .few-jobs);
       },
       given (s .args .t) (s .args .q) (s .args .marks .now) (s .args .ready .now) (s .args .until .now) (s .args .opens .now) (s .args .closes .now) z _ _ (caps .ensures)
-          (rooms .ensures) _ _
+          (rooms .ensures) _ _ _ _ (p5 .before .before .before .by-number .ensures) (p5 .before .before .by-number2 .ensures)
           (idle-read (s .args .t .s) (rooms .ensures) (times .ensures) (p3 .idle-minutes .ensures)) (classes .ensures) _ (add-one _),
     )
 
@@ -158,24 +164,28 @@ returns c =
     let p6 = p5 .before .before .before .before in
     let p7 = p6 .before .before .before .before .before .before .before .before .before .before .before .before .before .before in
     let p8 = p7 .before in
-    let s = p8 in
+    let s = p8 .before .before .before in
     let z = s .pre .0 in
     let times = p3 .put-times in
     let classes = p2 .put-classes in
     let caps = p6 .put-caps in
     let rooms = p5 .put-rooms in
     let idle = idle-read (s .args .t .s) (rooms .ensures) (times .ensures) (p4 .idle-minutes .ensures) in
+    let by-time = p6 .before .before .before .by-number .ensures in
+    let by-class = p6 .before .before .by-number2 .ensures in
     let solve = p1 .solve in (
       answered (s .args .t) (s .args .q) (s .args .marks .now) (s .args .ready .now) (s .args .until .now) (s .args .opens .now) (s .args .closes .now) z _ _ (caps .ensures)
-          (rooms .ensures) _ _ idle (classes .ensures) _ (add-one _) (solve .last .1 .1 .1 .1 .0) (solve .result) (solve .ensures .0),
+          (rooms .ensures) _ _ _ _ by-time by-class idle (classes .ensures) _ (add-one _) (solve .last .1 .1 .1 .1 .0) (solve .result) (solve .ensures .0),
       carried (s .args .t) (s .args .q) (s .args .marks .now) (s .args .ready .now) (s .args .until .now) (s .args .opens .now) (s .args .closes .now) z _ _ (caps .ensures)
-          (rooms .ensures) _ _ idle (classes .ensures) _ (add-one _) (solve .last .1 .1 .1 .1 .0) (solve .result) (solve .ensures .1),
+          (rooms .ensures) _ _ _ _ by-time by-class idle (classes .ensures) _ (add-one _) (solve .last .1 .1 .1 .1 .0) (solve .result) (solve .ensures .1),
     )
 
 pub fill-amounts-spec : {M : Type 1} → statement M
 fill-amounts-spec =
     tie.close
     (tie.spec
+    by-number-requires
+    by-number-requires-2
     put-caps-requires
     put-rooms-requires
     slice-aggregate-put-times

@@ -5,6 +5,7 @@ use native.Mathlib.Omega.{arith}
 use lib.ListN.{length, replicate, getD-replicate}
 use mir.Syntax.{w32}
 use mir.ValLaws.{toZ-ofZ}
+use Rattle.table.specs.HeldLaws.{beside-once}
 use Rattle.order.specs.Lead.{reachAt, lastDue}
 use Rattle.planner.proofs.PlanMade.{amounts-fit, plan-given, plan-made, plan-few}
 use Rattle.planner.proofs.making.make_plan.Statement.{statement}
@@ -13,11 +14,13 @@ use Rattle.planner.proofs.making.make_plan.Tie as tie
 reach-of-requires : tie.Need-reach-of-requires
 reach-of-requires c κs = search needs
 
+ends-at-requires : tie.Need-ends-at-requires
+ends-at-requires c κs =
+    let s = c .before .before .before .before .before in
+    (s .pre .1 .tabled .few-jobs, beside-once (s .pre .0) (s .args .t) (s .pre .1 .tabled))
+
 minutes-at-requires : tie.Need-minutes-at-requires
 minutes-at-requires c κs = search needs
-
-minutes-at-requires-2 : tie.Need-minutes-at-requires-2
-minutes-at-requires-2 c κs = search needs
 
 slice-aggregate-fill-amounts : tie.Need-slice-aggregate-fill-amounts
 slice-aggregate-fill-amounts c = search needs
@@ -52,11 +55,11 @@ fill-amounts-requires c κs =
     let p2 = p1 .before .before in
     let p3 = p2 .before in
     let p4 = p3 .before in
-    let p5 = p4 .before .before .before in
+    let p5 = p4 .before .before .before .before in
     let p6 = p5 .before .before in
     let s = p6 in
     let e = p5 .reach-of .ensures .0 ∙ ap (reachAt lastDue) (toZ-ofZ w32 (s .args .bound) (s .fits .bound)) in
-    let fit = amounts-fit (s .pre .1) e (p4 .minutes-at .ensures) (p3 .minutes-at2 .ensures) (replicate 48 0) (replicate 16 0) (replicate 16 (p5 .reach-of .result)) (λ j l. getD-replicate 48 j 0 0 l)
+    let fit = amounts-fit (s .pre .1) e (p4 .ends-at .ensures) (p3 .minutes-at .ensures) (replicate 48 0) (replicate 16 0) (replicate 16 (p5 .reach-of .result)) (λ j l. getD-replicate 48 j 0 0 l)
     (λ i l. getD-replicate 16 i 0 0 l) (λ i l. getD-replicate 16 i (p5 .reach-of .result) 0 l)
     (omega (arith, slice-aggregate-fill-amounts (p2))) refl (omega (arith, slice-aggregate-fill-amounts-3 (p1))) refl refl (replicate 2352 0) refl in
     let sized = fit .0 .0 in (
@@ -88,13 +91,13 @@ lay-plan-requires c κs =
     let p2 = p1 .before .before .before .before .before .before .before .before .before in
     let p3 = p2 .before in
     let p4 = p3 .before in
-    let p5 = p4 .before .before .before in
+    let p5 = p4 .before .before .before .before in
     let p6 = p5 .before .before in
     let s = p6 in
     let w = p1 .fill-amounts in
     let e = p5 .reach-of .ensures .0 ∙ ap (reachAt lastDue) (toZ-ofZ w32 (s .args .bound) (s .fits .bound)) in
-    let marked : length (p3 .minutes-at2 .result) ≡ 48 = (omega (arith, slice-aggregate-fill-amounts (p2))) in
-    plan-given (s .pre .1) e (p4 .minutes-at .ensures) (p3 .minutes-at2 .ensures) (replicate 48 0) (replicate 16 0) (replicate 16 (p5 .reach-of .result)) (λ j l. getD-replicate 48 j 0 0 l)
+    let marked : length (p3 .minutes-at .result) ≡ 48 = (omega (arith, slice-aggregate-fill-amounts (p2))) in
+    plan-given (s .pre .1) e (p4 .ends-at .ensures) (p3 .minutes-at .ensures) (replicate 48 0) (replicate 16 0) (replicate 16 (p5 .reach-of .result)) (λ j l. getD-replicate 48 j 0 0 l)
     (λ i l. getD-replicate 16 i 0 0 l) (λ i l. getD-replicate 16 i (p5 .reach-of .result) 0 l)
     (w .last .1 .1 .1 .1 .1 .1 .1 .1 .1 .1 .0) (w .result) (w .ensures .0) marked refl refl long
 
@@ -106,14 +109,14 @@ returns c =
     let p1 = c .before .before .before .before .before .before .before .before .before .before .before .before in
     let p2 = p1 .before .before .before .before .before .before .before .before .before .before in
     let p3 = p2 .before in
-    let p4 = p3 .before .before .before in
+    let p4 = p3 .before .before .before .before in
     let p5 = p4 .before .before in
     let l = c .before .before .lay-plan .ensures in
     let s = p5 in
     let w = p1 .fill-amounts in
     let e = p4 .reach-of .ensures .0 ∙ ap (reachAt lastDue) (toZ-ofZ w32 (s .args .bound) (s .fits .bound)) in
-    let hd = p3 .minutes-at .ensures in
-    let hm = p2 .minutes-at2 .ensures in (
+    let hd = p3 .ends-at .ensures in
+    let hm = p2 .minutes-at .ensures in (
       λ o m. plan-made m e hd hm (replicate 48 0) (replicate 16 0) (replicate 16 (p4 .reach-of .result)) (λ j l. getD-replicate 48 j 0 0 l)
           (λ i l. getD-replicate 16 i 0 0 l) (λ i l. getD-replicate 16 i (p4 .reach-of .result) 0 l)
           (w .last .1 .1 .1 .1 .1 .1 .1 .1 .1 .1 .0) (w .result) (w .ensures .0) (w .ensures .1) _ _ _ (l .0) (l .1),
@@ -127,8 +130,8 @@ make-plan-spec =
     tie.close
     (tie.spec
     reach-of-requires
+    ends-at-requires
     minutes-at-requires
-    minutes-at-requires-2
     slice-aggregate-fill-amounts
     slice-aggregate-fill-amounts-2
     slice-aggregate-fill-amounts-3

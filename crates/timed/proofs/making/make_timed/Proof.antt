@@ -8,6 +8,7 @@ use mir.Syntax.{w32}
 use mir.ValLaws.{toZ-ofZ}
 use Rattle.order.specs.Lead.{reachAt, lastDue}
 use Rattle.order.specs.Refusals.{boundInRange}
+use Rattle.table.specs.HeldLaws.{beside-once}
 use Rattle.timed.proofs.TimedMade.{
   amounts-sized,
   amounts-long,
@@ -24,11 +25,14 @@ use Rattle.timed.proofs.making.make_timed.Tie as tie
 
 reach-of-requires : tie.Need-reach-of-requires
 reach-of-requires c κs =
-    let s = c .before .before in
+    let s = c .before .before .before in
     ap boundInRange (toZ-ofZ w32 (s .args .bound) (s .fits .bound)) ∙ s .pre .1 .timed .bound-good
 
-minutes-at-requires : tie.Need-minutes-at-requires
-minutes-at-requires c κs = search needs
+ends-at-requires : tie.Need-ends-at-requires
+ends-at-requires c κs =
+    let s = c .before .before .before .before in
+    let m = s .pre .1 .timed .tabled in
+    (m .few-jobs, beside-once (s .pre .0) (s .args .t) m)
 
 slice-aggregate-fill-amounts : tie.Need-slice-aggregate-fill-amounts
 slice-aggregate-fill-amounts c = search needs
@@ -66,10 +70,10 @@ fill-amounts-requires c κs =
     let p5 = p4 .before in
     let p6 = p5 .before .before .before .before .before in
     let p7 = p6 .before in
-    let p8 = p7 .before .before .before in
+    let p8 = p7 .before .before .before .before in
     let s = p8 in
     let e = p7 .reach-of .ensures .0 ∙ ap (reachAt lastDue) (toZ-ofZ w32 (s .args .bound) (s .fits .bound)) in
-    let hd = p6 .minutes-at .ensures in
+    let hd = p6 .ends-at .ensures in
     let sized = amounts-sized (s .pre .1) e hd in
     let long = amounts-long (s .pre .1) e hd (omega (arith, slice-aggregate-fill-amounts (p5)))
     (omega (arith, slice-aggregate-fill-amounts-2 (p4))) (omega (arith, slice-aggregate-fill-amounts-3 (p3)))
@@ -89,11 +93,11 @@ returns c =
     let p1 = c .before .before .before .before .before in
     let p2 = p1 .before .before .before .before .before .before .before .before .before .before .before .before .before .before in
     let p3 = p2 .before in
-    let p4 = p3 .before .before .before in
+    let p4 = p3 .before .before .before .before in
     let s = p4 in
     let e = p3 .reach-of .ensures .0 ∙ ap (reachAt lastDue) (toZ-ofZ w32 (s .args .bound) (s .fits .bound)) in
     let w = p1 .fill-amounts in
-    λ o m. (refl, none-made m e (p2 .minutes-at .ensures) (cut-of _ _ _ (w .result) (w .ensures .0) (not-true _ (c .if1 .taken))))
+    λ o m. (refl, none-made m e (p2 .ends-at .ensures) (cut-of _ _ _ (w .result) (w .ensures .0) (not-true _ (c .if1 .taken))))
 
 slice-aggregate-lay-plan : tie.Need-slice-aggregate-lay-plan
 slice-aggregate-lay-plan c =
@@ -124,27 +128,27 @@ lay-plan-requires c κs =
     let p5 = p4 .before .before .before in
     let p6 = p5 .before .before .before .before .before in
     let p7 = p6 .before in
-    let p8 = p7 .before .before .before in
+    let p8 = p7 .before .before .before .before in
     let s = p8 in
     let e = p7 .reach-of .ensures .0 ∙ ap (reachAt lastDue) (toZ-ofZ w32 (s .args .bound) (s .fits .bound)) in
     let w = p2 .fill-amounts in
-    plan-given (s .pre .1) e (p6 .minutes-at .ensures) (w .last .1 .1 .1 .1 .1 .1 .1 .1 .1 .1 .0)
+    plan-given (s .pre .1) e (p6 .ends-at .ensures) (w .last .1 .1 .1 .1 .1 .1 .1 .1 .1 .1 .0)
     (amounts-of _ _ _ (w .result) (w .ensures .0) (not-false _ (p1 .if1 .left)))
     (omega (arith, slice-aggregate-fill-amounts (p5))) (omega (arith, slice-aggregate-fill-amounts-4 (p4))) (omega (arith, slice-aggregate-fill-amounts-5 (p3))) long
 
-cast-t19 : tie.Need-cast-t19
-cast-t19 c =
+cast-t20 : tie.Need-cast-t20
+cast-t20 c =
     let p1 = c .before .before .before .before .before .before .before .before in
     let p2 = p1 .before .before .before .before .before in
     let p3 = p2 .before .before .before .before .before .before .before .before .before .before .before .before .before .before in
     let p4 = p3 .before in
-    let p5 = p4 .before .before .before in
+    let p5 = p4 .before .before .before .before in
     let s = p5 in
     let e = p4 .reach-of .ensures .0 ∙ ap (reachAt lastDue) (toZ-ofZ w32 (s .args .bound) (s .fits .bound)) in
     let w = p2 .fill-amounts in
     omega (
       arith,
-      plan-few (s .pre .1) e (p3 .minutes-at .ensures) (w .last .1 .1 .1 .1 .1 .1 .1 .1 .1 .1 .0)
+      plan-few (s .pre .1) e (p3 .ends-at .ensures) (w .last .1 .1 .1 .1 .1 .1 .1 .1 .1 .1 .0)
           (amounts-of _ _ _ (w .result) (w .ensures .0) (not-false _ (p1 .if1 .left))) _ (c .before .before .lay-plan .ensures .0),
     )
 
@@ -157,7 +161,7 @@ returns-2 c =
     let p2 = p1 .before .before .before .before .before in
     let p3 = p2 .before .before .before .before .before .before .before .before .before .before .before .before .before .before in
     let p4 = p3 .before in
-    let p5 = p4 .before .before .before in
+    let p5 = p4 .before .before .before .before in
     let s = p5 in
     let e = p4 .reach-of .ensures .0 ∙ ap (reachAt lastDue) (toZ-ofZ w32 (s .args .bound) (s .fits .bound)) in
     let w = p2 .fill-amounts in
@@ -165,8 +169,8 @@ returns-2 c =
     let F = amounts-of _ _ _ (w .result) (w .ensures .0) done in
     let l = c .before .before .lay-plan .ensures in
     λ o m. (
-      plan-made m e (p3 .minutes-at .ensures) (w .last .1 .1 .1 .1 .1 .1 .1 .1 .1 .1 .0) F (run-of _ _ _ (w .result) (w .ensures .1) done) _ _ _ (l .0) (l .1),
-      plan-few m e (p3 .minutes-at .ensures) (w .last .1 .1 .1 .1 .1 .1 .1 .1 .1 .1 .0) F _ (l .0),
+      plan-made m e (p3 .ends-at .ensures) (w .last .1 .1 .1 .1 .1 .1 .1 .1 .1 .1 .0) F (run-of _ _ _ (w .result) (w .ensures .1) done) _ _ _ (l .0) (l .1),
+      plan-few m e (p3 .ends-at .ensures) (w .last .1 .1 .1 .1 .1 .1 .1 .1 .1 .1 .0) F _ (l .0),
     )
 
 pub make-timed-spec : {M : Type 1} → statement M
@@ -174,7 +178,7 @@ make-timed-spec =
     tie.close
     (tie.spec
     reach-of-requires
-    minutes-at-requires
+    ends-at-requires
     slice-aggregate-fill-amounts
     slice-aggregate-fill-amounts-2
     slice-aggregate-fill-amounts-3
@@ -191,6 +195,6 @@ make-timed-spec =
     slice-aggregate-lay-plan-3
     slice-aggregate-lay-plan-4
     lay-plan-requires
-    cast-t19
+    cast-t20
     same-length
     returns-2)
