@@ -256,7 +256,7 @@ fn try_book_least(
 
 /// The least lateness and its plan.
 fn put_least(order: &Order, setting: &Setting, rows: &mut [u32], answer: &mut [i32]) {
-    let lateness = setting::bound_of(stairs::least_reach(order, setting));
+    let lateness = setting::bound_of(stairs::least_reach(setting));
     answer[0] = lateness;
     answer[1] = make_plan(order, setting, lateness, rows) as i32;
 }
@@ -267,7 +267,7 @@ fn try_plan(file: &[u8], bound: i32, rows: &mut [u32], answer: &mut [i32]) -> Re
     ask_bound(bound)?;
     let setting = Setting::of(&order);
     ask_rows(&order, &setting, rows)?;
-    ask_loose(&order, &setting, bound)?;
+    ask_loose(&setting, bound)?;
     answer[0] = make_plan(&order, &setting, bound, rows) as i32;
     Ok(())
 }
@@ -285,14 +285,14 @@ fn try_book_plan(
     ask_bound(bound)?;
     let setting = Setting::of(&order);
     ask_rows(&order, &setting, rows)?;
-    ask_loose(&order, &setting, bound)?;
+    ask_loose(&setting, bound)?;
     *book = book::add(book, &order).ok_or(BOOK_FULL)?;
     answer[0] = make_plan(&order, &setting, bound, rows) as i32;
     Ok(())
 }
 
-fn ask_loose(order: &Order, setting: &Setting, bound: i32) -> Result<(), Refusal> {
-    match stairs::reason(order, setting, setting::reach_of(bound)) {
+fn ask_loose(setting: &Setting, bound: i32) -> Result<(), Refusal> {
+    match stairs::reason(setting, setting::reach_of(bound)) {
         Reason::Nothing => Ok(()),
         _ => Err(BOUND_TOO_TIGHT),
     }
@@ -327,7 +327,7 @@ fn try_reason(file: &[u8], bound: i32, answer: &mut [i32]) -> Result<(), Refusal
     let setting = Setting::of(&order);
     let answer = &mut answer[..19];
     answer.fill(0);
-    match stairs::reason(&order, &setting, setting::reach_of(bound)) {
+    match stairs::reason(&setting, setting::reach_of(bound)) {
         Reason::Nothing => {}
         Reason::Job { job, time } => {
             answer[0] = 1;

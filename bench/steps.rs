@@ -66,7 +66,7 @@ fn steps(file: &[u8]) -> (Steps, [usize; 3]) {
         panic!("an order is refused");
     };
     let setting = Setting::of(&order);
-    let reach = stairs::least_reach(&order, &setting);
+    let reach = stairs::least_reach(&setting);
     let marks = setting.marks(reach);
     let marks = &marks[..setting.due_count + 1];
     let bound = setting::bound_of(reach);

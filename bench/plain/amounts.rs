@@ -59,17 +59,18 @@ impl<const Q: usize> Amounts<Q> {
             left: [0; MOST_JOBS + 1],
             height: [1; MOST_JOBS + 1],
         };
-        amounts.put_jobs(order, setting, times, marks);
+        amounts.put_jobs(setting, times, marks);
         amounts.put_rooms(setting, times, marks);
         amounts
     }
 
-    /// A job may have a whole stretch that begins when it is there and ends by its deadline, and nothing
-    /// of any other.
-    fn put_jobs(&mut self, order: &Order, setting: &Setting, times: &impl Times, marks: &[u32]) {
-        for (j, job) in order.jobs().iter().enumerate() {
-            self.class[j] = setting.classes[j];
-            self.left[j] = job.time;
+    /// The jobs in input order. A job may have a whole stretch that begins when it is there and ends by its
+    /// deadline, and nothing of any other.
+    fn put_jobs(&mut self, setting: &Setting, times: &impl Times, marks: &[u32]) {
+        for held in setting.jobs() {
+            let j = held.job;
+            self.class[j] = held.class;
+            self.left[j] = held.time;
             let (ready, deadline) = times.span(j);
             for (cap, mark) in self.cap[j].iter_mut().zip(marks.windows(2)) {
                 if ready <= mark[0] && mark[1] <= deadline {

@@ -1,8 +1,8 @@
 //! Why a bound is too tight, and the least reach: a table of what each class weighs at each due
 //! time, and of the best that the later classes can add.
 
-use super::order::{Order, MOST_JOBS, MOST_PROCESSORS};
-use super::setting::Setting;
+use super::order::{MOST_JOBS, MOST_PROCESSORS};
+use super::setting::{Held, Setting};
 
 type Row = [u32; MOST_JOBS];
 type Table = [Row; MOST_PROCESSORS];
@@ -29,12 +29,12 @@ pub fn owed(time: u32, lead: u32, g: u32) -> u32 {
 }
 
 /// The minutes owed by the jobs of each class, and its processors times the lead, at each due time.
-fn weigh(order: &Order, setting: &Setting) -> Table {
+fn weigh(setting: &Setting) -> Table {
     let mut table = [[0; MOST_JOBS]; MOST_PROCESSORS];
     let grid = &setting.grid[..setting.due_count];
-    for (j, job) in order.jobs().iter().enumerate() {
-        for (weight, &g) in table[setting.classes[j] - 1].iter_mut().zip(grid) {
-            *weight += owed(job.time, setting.leads[j], g);
+    for held in setting.jobs() {
+        for (weight, &g) in table[held.class - 1].iter_mut().zip(grid) {
+            *weight += owed(held.time, held.lead, g);
         }
     }
     for (row, &processors) in table.iter_mut().zip(&setting.processors) {
@@ -71,12 +71,12 @@ fn heaviest(table: &Table, k: usize, q: usize, completions: &mut Table) -> u32 {
 }
 
 /// The least reach at which every job has its time by its end and no staircase is overfull.
-pub fn least_reach(order: &Order, setting: &Setting) -> u32 {
-    let table = weigh(order, setting);
+pub fn least_reach(setting: &Setting) -> u32 {
+    let table = weigh(setting);
     let mut completions = [[0; MOST_JOBS]; MOST_PROCESSORS];
     let mut reach = 0;
-    for (job, lead) in order.jobs().iter().zip(&setting.leads) {
-        reach = reach.max(job.time + lead);
+    for held in setting.jobs() {
+        reach = reach.max(held.time + held.lead);
     }
     let mut processors = 0;
     for k in 0..setting.class_count {
@@ -88,26 +88,27 @@ pub fn least_reach(order: &Order, setting: &Setting) -> u32 {
 }
 
 /// Why a reach is too small, or that it is not.
-pub fn reason(order: &Order, setting: &Setting, reach: u32) -> Reason {
-    if let Some(j) = first_late(order, setting, reach) {
+pub fn reason(setting: &Setting, reach: u32) -> Reason {
+    if let Some(held) = first_late(setting, reach) {
         return Reason::Job {
-            job: j as u32 + 1,
-            time: order.jobs[j].time,
+            job: held.job as u32 + 1,
+            time: held.time,
         };
     }
-    first_overfull(order, setting, reach)
+    first_overfull(setting, reach)
 }
 
-/// The first job whose time exceeds its end.
-pub fn first_late(order: &Order, setting: &Setting, reach: u32) -> Option<usize> {
-    let mut jobs = order.jobs().iter().zip(&setting.leads);
-    jobs.position(|(job, lead)| reach < job.time + lead)
+/// The first job in input order whose time exceeds its end.
+pub fn first_late(setting: &Setting, reach: u32) -> Option<&Held> {
+    let jobs = setting.jobs().iter();
+    let late = jobs.filter(|held| reach < held.time + held.lead);
+    late.min_by_key(|held| held.job)
 }
 
 /// The first overfull staircase: the fewest classes, then the earliest due time for class 1, for
 /// class 2, and so on.
-fn first_overfull(order: &Order, setting: &Setting, reach: u32) -> Reason {
-    let table = weigh(order, setting);
+fn first_overfull(setting: &Setting, reach: u32) -> Reason {
+    let table = weigh(setting);
     let mut completions = [[0; MOST_JOBS]; MOST_PROCESSORS];
     let q = setting.due_count;
     let mut room = 0;

@@ -8,14 +8,14 @@ use super::stairs;
 /// of another.
 pub fn weigh(order: &Order, setting: &Setting, bound: i32, dues: &[i32]) -> Option<(u32, u32)> {
     let reach = setting::reach_of(bound);
-    let late = stairs::first_late(order, setting, reach);
+    let late = stairs::first_late(setting, reach);
     if late.is_some() || setting.class_count < dues.len() || !is_staircase(order, dues) {
         return None;
     }
     let (mut owed, mut on_hand) = (0, 0);
     for (i, &due) in dues.iter().enumerate() {
         let g = setting::lead_of(due);
-        owed += class_owes(order, setting, i + 1, g);
+        owed += class_owes(setting, i + 1, g);
         on_hand += setting.processors[i] * (reach - g);
     }
     (on_hand < owed).then_some((owed, on_hand))
@@ -28,9 +28,7 @@ fn is_staircase(order: &Order, dues: &[i32]) -> bool {
 }
 
 /// The minutes that the jobs of a class owe by the time of the lead g.
-fn class_owes(order: &Order, setting: &Setting, class: usize, g: u32) -> u32 {
-    let jobs = order.jobs().iter().zip(&setting.leads);
-    let own = jobs.zip(&setting.classes).filter(|(_, &of)| of == class);
-    own.map(|((job, &lead), _)| stairs::owed(job.time, lead, g))
-        .sum()
+fn class_owes(setting: &Setting, class: usize, g: u32) -> u32 {
+    let own = setting.jobs().iter().filter(|held| held.class == class);
+    own.map(|held| stairs::owed(held.time, held.lead, g)).sum()
 }

@@ -72,9 +72,17 @@ pub fn lay<const Q: usize>(
             processor: 0,
             minute: start,
         };
-        for &j in &setting.by_need[..order.job_count] {
-            let minutes = amounts.of(j, s);
-            lay_share(&mut written, processors, start, end, &mut place, j, minutes);
+        for held in setting.jobs() {
+            let minutes = amounts.of(held.job, s);
+            lay_share(
+                &mut written,
+                processors,
+                start,
+                end,
+                &mut place,
+                held.job,
+                minutes,
+            );
         }
     }
     written.count

@@ -3,14 +3,17 @@
 //! search minute by minute, its plans against the four rules, its joined rows against its rows as
 //! laid out, its files against their reader, its two readers of lines against each other, its books
 //! against the orders, its two ways to list classes against each other, its plans with ready minutes
-//! and windows against a search with them, its tables of needs against their ends.
+//! and windows against a search with them, its tables of needs against their ends, all that it finds
+//! against the same with the jobs by falling need.
 
 mod books;
 mod classes;
+mod held;
 mod joins;
 pub mod needs;
 mod times;
 
+use crate::draw::held::HELD_FAMILIES;
 use crate::draw::lines::changed;
 use crate::draw::orders::{many_memories, tiny, LARGE_FAMILIES, SMALL_FAMILIES};
 use crate::draw::Random;
@@ -48,7 +51,13 @@ pub fn run(small: u64, large: u64) -> Result<u64, String> {
         times::agree(&mut random, &order)?;
         classes::agree(&many_memories(&mut random))?;
     }
-    Ok(2 * (small + small / 2) + large)
+    for seed in 0..small / 10 {
+        let mut random = Random::new(seed);
+        let (_, family) = HELD_FAMILIES[seed as usize % HELD_FAMILIES.len()];
+        let order = family(&mut random);
+        held::agree(&mut random, &order)?;
+    }
+    Ok(2 * (small + small / 2) + large + small / 10)
 }
 
 fn agrees(order: &Order) -> Result<(), String> {

@@ -5,6 +5,7 @@ pub mod books;
 pub mod bounds;
 pub mod damage;
 pub mod files;
+pub mod held;
 pub mod keeping;
 pub mod lengths;
 pub mod lines;

@@ -1,11 +1,13 @@
 //! Document 01's "Orders to try", the small examples of its refusal table and its order file of C,
 //! with the values that stand there, the leasts and the bounds one lower as document 02's §3 has
 //! them, each job of maker 1 as its §4 has it; the lines, the joined rows, the ends, the makers, the
-//! books, the classes, the ready minutes and windows, and the needs of document 02 in `fixed/`.
+//! books, the classes, the ready minutes and windows, the needs, and the jobs held by need of document 02
+//! in `fixed/`.
 
 mod books;
 mod classes;
 mod ends;
+mod held;
 mod joins;
 mod kept;
 mod lines;
@@ -65,8 +67,8 @@ fn d() -> Order {
     order(&[8, 8], &[(1, 4, 1); 3])
 }
 
-/// Puts all fixed cases before the library, but those with ready minutes and windows and those with a
-/// table of needs.
+/// Puts all fixed cases before the library, but those with ready minutes and windows, those with a table
+/// of needs and those of jobs that lie elsewhere than they are given.
 pub fn run(trial: &mut Trial) {
     trial.begin("document 01", 0);
     lateness(trial);
@@ -101,6 +103,12 @@ pub fn run_needs(trial: &mut Trial) {
 pub fn run_long_lists(trial: &mut Trial) {
     trial.begin("document 02, long lists", 0);
     needs::long_lists(trial);
+}
+
+/// Puts the cases of jobs that lie elsewhere than they are given before the library.
+pub fn run_held(trial: &mut Trial) {
+    trial.begin("document 02, jobs held", 0);
+    held::run(trial);
 }
 
 /// A call on the order's file, all of whose buffers are long enough, with a book just opened; jobs are

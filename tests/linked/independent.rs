@@ -1,7 +1,8 @@
 //! Documents 01 and 02 in plain Rust, made apart from the proved code and from their text alone:
 //! orders, order files, classes, right plans and their joining, the least lateness, reasons and their
-//! lines, books, plans with ready minutes and windows, needs from a table. Whether a bound is met is decided
-//! by a maximum flow, never by the staircase sums, so that each of the two can be held against the other.
+//! lines, books, plans with ready minutes and windows, needs from a table, jobs by falling need. Whether a
+//! bound is met is decided by a maximum flow, never by the staircase sums, so that each of the two can be
+//! held against the other.
 
 // a program that takes this module in may use only a part of it
 #![allow(dead_code, unused_imports)]
@@ -18,6 +19,8 @@ mod classes;
 mod clip;
 #[path = "independent/flow.rs"]
 mod flow;
+#[path = "independent/held.rs"]
+mod held;
 #[path = "independent/join.rs"]
 mod join;
 #[path = "independent/needs.rs"]
@@ -46,6 +49,7 @@ pub use amounts::{amounts, least, least_between, meets, plan};
 pub use book::{booked, minutes_of, MAKERS, MOST_BOOKED};
 pub use classes::{class_list, Classes};
 pub use clip::{clipped, clipped_to, joins, joins_over};
+pub use held::{held, order_of, times_of, Held};
 pub use join::{join, joined};
 pub use needs::{
     counted_lines, good_line, is_length, judge_lengths, judge_lines, meets_length, need_of,

@@ -63,6 +63,7 @@ fn compare_linked(times: u64) -> Result<String, String> {
     fixed::run_timed(&mut trial);
     fixed::run_needs(&mut trial);
     fixed::run_long_lists(&mut trial);
+    fixed::run_held(&mut trial);
     let rounds = Rounds {
         small: 2_340 * times,
         large: 660 * times,
@@ -74,6 +75,7 @@ fn compare_linked(times: u64) -> Result<String, String> {
         times: 1_000 * times,
         large_times: 60 * times,
         needs: 3_000 * times,
+        held: 100 * times,
     };
     rounds::run(&mut trial, &rounds);
     if let Some(difference) = trial.difference {

@@ -1,10 +1,11 @@
 //! The drawn calls: accepted orders with bounds, row lists, reasons, lines and books around their
 //! least lateness, orders that are refused, doubtful files, lists for the writer, processors of few
-//! and of many memories, books that go through many calls, orders with ready minutes and windows, and
-//! tables of needs.
+//! and of many memories, books that go through many calls, orders with ready minutes and windows,
+//! tables of needs, and orders whose jobs lie, by falling need, elsewhere than they are given.
 
 mod books;
 mod classes;
+mod held;
 mod needs;
 mod times;
 
@@ -35,11 +36,12 @@ pub struct Rounds {
     pub times: u64,
     pub large_times: u64,
     pub needs: u64,
+    pub held: u64,
 }
 
 /// Runs all parts, up to the first difference.
 pub fn run(trial: &mut Trial, rounds: &Rounds) {
-    let parts: [(&str, u64, fn(&mut Trial, u64)); 10] = [
+    let parts: [(&str, u64, fn(&mut Trial, u64)); 11] = [
         ("small orders", rounds.small, small_order),
         ("large orders", rounds.large, large_order),
         ("refused orders", rounds.refused, refused_order),
@@ -50,6 +52,7 @@ pub fn run(trial: &mut Trial, rounds: &Rounds) {
         ("times", rounds.times, times::small),
         ("times of large orders", rounds.large_times, times::large),
         ("needs", rounds.needs, needs::any_table),
+        ("jobs held", rounds.held, held::any_needs),
     ];
     for (part, times, round) in parts {
         for seed in 0..times {

@@ -71,12 +71,15 @@ mod class_room;
 mod classes;
 mod ends;
 mod files;
+mod first_jobs;
 mod forms;
 mod full;
+mod held;
 mod joins;
 mod kept;
 mod lines;
 mod long_lists;
+mod lying;
 mod makers;
 mod marks;
 mod meeting;
@@ -130,6 +133,12 @@ const NEED_ROUNDS: Rounds = Rounds {
     ..NO_ROUNDS
 };
 
+/// The rounds with jobs that lie elsewhere than they are given.
+const HELD_ROUNDS: Rounds = Rounds {
+    held: 40,
+    ..NO_ROUNDS
+};
+
 const NO_ROUNDS: Rounds = Rounds {
     small: 0,
     large: 0,
@@ -141,6 +150,7 @@ const NO_ROUNDS: Rounds = Rounds {
     times: 0,
     large_times: 0,
     needs: 0,
+    held: 0,
 };
 
 /// What a library is put before.
@@ -152,12 +162,20 @@ enum Cases {
     Needs,
     /// with lists of millions of lengths
     LongLists,
+    /// with jobs that lie elsewhere than they are given
+    Held,
     Others,
 }
 
 /// Puts the unbroken library and all wrong ones before the comparison; answers the last line.
 pub fn run() -> Result<String, String> {
-    let parts = [Cases::Others, Cases::Timed, Cases::Needs, Cases::LongLists];
+    let parts = [
+        Cases::Others,
+        Cases::Timed,
+        Cases::Needs,
+        Cases::LongLists,
+        Cases::Held,
+    ];
     for cases in parts {
         let (unbroken, calls) = tried(MODEL, cases);
         if let Some(difference) = unbroken {
@@ -182,8 +200,8 @@ pub fn run() -> Result<String, String> {
     Err(format!("broken: NOT caught: {}", missed.join("; ")))
 }
 
-/// All wrong libraries, each with what is wrong with it, and what it is put before.
-fn libraries() -> Vec<(String, Library, Cases)> {
+/// The wrong things that need no times, no table of needs and no jobs that lie elsewhere.
+fn others() -> Vec<&'static [Wrong]> {
     let parts = [
         buffers::WRONG,
         refusals::WRONG,
@@ -199,7 +217,7 @@ fn libraries() -> Vec<(String, Library, Cases)> {
         checks::WRONG,
         ends::WRONG,
     ];
-    let others = [
+    [
         &parts,
         makers::PARTS,
         forms::PARTS,
@@ -209,7 +227,11 @@ fn libraries() -> Vec<(String, Library, Cases)> {
         classes::PARTS,
         class_room::PARTS,
     ]
-    .concat();
+    .concat()
+}
+
+/// All wrong libraries, each with what is wrong with it, and what it is put before.
+fn libraries() -> Vec<(String, Library, Cases)> {
     let of_times = [
         untimed::PARTS,
         times::PARTS,
@@ -221,17 +243,27 @@ fn libraries() -> Vec<(String, Library, Cases)> {
     ]
     .concat();
     let of_needs = [needs::PARTS, met::PARTS, need_lists::PARTS].concat();
-    let in_one = in_one_function(&others, Cases::Others);
+    let of_held = [lying::PARTS, held::PARTS, first_jobs::PARTS].concat();
+    let in_one = in_one_function(&others(), Cases::Others);
     let of_times = in_one_function(&of_times, Cases::Timed);
     let of_needs = in_one_function(&of_needs, Cases::Needs);
     let of_long_lists = in_one_function(long_lists::PARTS, Cases::LongLists);
+    let of_held = in_one_function(&of_held, Cases::Held);
     let in_several = [ends::LIBRARIES, books::LIBRARIES].concat();
     let in_several = in_several.into_iter().map(|(what, library)| {
         let name = format!("the library {what}");
         (name, library, Cases::Others)
     });
     let in_several = in_several.collect();
-    [in_one, of_times, of_needs, of_long_lists, in_several].concat()
+    [
+        in_one,
+        of_times,
+        of_needs,
+        of_long_lists,
+        of_held,
+        in_several,
+    ]
+    .concat()
 }
 
 /// The libraries that are wrong in one function, which are put before these cases.
@@ -256,6 +288,10 @@ fn tried(library: Library, cases: Cases) -> (Option<String>, u64) {
             rounds::run(&mut trial, &NEED_ROUNDS);
         }
         Cases::LongLists => fixed::run_long_lists(&mut trial),
+        Cases::Held => {
+            fixed::run_held(&mut trial);
+            rounds::run(&mut trial, &HELD_ROUNDS);
+        }
         Cases::Others => {
             fixed::run(&mut trial);
             rounds::run(&mut trial, &ROUNDS);

@@ -16,6 +16,7 @@ import book
 import cases_book
 import cases_check
 import cases_classes
+import cases_held
 import cases_join
 import cases_needs
 import cases_planner
@@ -34,7 +35,7 @@ HERE = pathlib.Path(__file__).resolve().parent
 PROGRAM = HERE.parent.parent / "crates" / "cases"
 PARTS = (cases_read, cases_check, cases_write, cases_planner, cases_sentence,
          cases_join, cases_book, cases_timed, cases_timed_check, cases_classes,
-         cases_needs)
+         cases_needs, cases_held)
 # What the program reads, what it has to print, and what each case shows.
 STORED = {"stdin": PROGRAM / "stdin", "stdout": PROGRAM / "stdout",
           "list": HERE / "streams" / "cases.list"}

@@ -6,7 +6,9 @@ negative due times and due times that are all equal. Document 02, §4: "Each job
 gains a maker number, 1 to 16": they have jobs of one maker and of several. §5: "a
 ready minute [..] for each job and one window [..] for each processor": times of small
 orders, many of them equal, windows that touch and windows that are long. §6: "distinct
-memories and the processors of each": up to 16 processors of few distinct memories.
+memories and the processors of each": up to 16 processors of few distinct memories. §8:
+"by falling need, ties in input order": jobs of few needs, in an input order that is
+another one.
 """
 
 import orders
@@ -16,6 +18,9 @@ MEMORIES = ((4,), (0,), (4294967295,), (4, 8), (0, 4294967295), (1, 2, 3),
             (0, 1, 4294967295), (2, 4, 8), (4294967294, 4294967295))
 MAKERS = ((1,), (1, 2), (1, 16), (2, 3), (15, 16), (5, 9, 12), tuple(range(1, 17)))
 NO_MAKERS = (0, 17, 18, 32, 256, 257, 65537, 2147483649, 4294967295)
+# The memories of an order, and needs that fit them.
+FEW_NEEDS = (((8, 4), (8, 5, 4, 3)), ((4, 8, 2), (8, 4, 2, 1)), ((4,), (4, 2, 0)),
+             ((4, 4), (4, 3)), ((0, 4294967295), (4294967295, 1, 0)))
 
 
 class Draw:
@@ -135,6 +140,37 @@ def few_memories(draw):
     return by_makers(draw, memories, [
         (draw.between(1, 9), draw.between(-3, 9), need(draw, memories))
         for _ in range(draw.between(1, 3))])
+
+
+def apart(draw, jobs):
+    """The jobs shuffled so that, by falling need and ties in input order, none lies at
+    the place of its number. Their needs are not all equal."""
+    while True:
+        jobs = draw.shuffled(jobs)
+        lying = sorted(range(len(jobs)), key=lambda number: (-jobs[number][2], number))
+        if all(place != number for place, number in enumerate(lying)):
+            return jobs
+
+
+def mixed(draw, n, time_most):
+    """An accepted order of n jobs, from 4 on, of two or three needs; place and number
+    differ for every job."""
+    memories, needs = draw.one_of(FEW_NEEDS)
+    few = draw.shuffled(needs)[:draw.between(2, 3)]
+    needs = few + [draw.one_of(few) for _ in range(n - len(few))]
+    return by_makers(draw, memories, apart(draw, [
+        (draw.between(1, time_most), draw.between(-2, time_most + 2), need)
+        for need in needs]))
+
+
+def mixed_tiny(draw):
+    """Of 4 jobs of times up to 3."""
+    return mixed(draw, 4, 3)
+
+
+def mixed_more(draw):
+    """Of 5 to 8 jobs of times up to 20."""
+    return mixed(draw, draw.between(5, 8), 20)
 
 
 def window(draw, last):

@@ -4,6 +4,8 @@ import functools
 import unittest
 
 import cases
+import held
+import least
 import orders
 import search
 import stream_form
@@ -194,6 +196,40 @@ class Stored(unittest.TestCase):
                 continue
             seen[record.kind] += 1
         self.assertGreater(min(seen.values()), 400)
+
+    def test_late_jobs(self):
+        # The job told is the first over its end, whatever the needs of the others.
+        told = larger = 0
+        for record, (line, *_) in stored():
+            if record.kind == "plan" and line.startswith("tight job "):
+                order, bound, _ = record.values
+                over = [number for number, job in enumerate(order.jobs, 1)
+                        if job.time > job.due + bound + 1]
+                self.assertEqual(line, f"tight job {over[0]}")
+                needs = [order.jobs[number - 1].need for number in over]
+                told, larger = told + 1, larger + (max(needs) > needs[0])
+        self.assertGreater(told, 300)
+        self.assertGreater(larger, 80)
+
+    def test_along_the_jobs_held(self):
+        # Refusals, reasons and the least lateness of few minutes, each found along the
+        # jobs as they lie by falling need.
+        told = {"refused": 0, "tight": 0, "meets": 0, "least": 0}
+        for record, (line, *_) in stored():
+            if record.kind not in ("least", "plan"):
+                continue
+            order, word = record.values[0], line.split()[0]
+            refused = held.refusal(order)
+            if refused:
+                self.assertEqual(line, f"refused {refused.number} {refused.carried}")
+            elif word in ("tight", "meets"):
+                self.assertEqual(line, held.line(order, record.values[1]))
+            elif sum(job.time for job in order.jobs) > least.STEPS_MOST:
+                continue
+            elif word == "least":
+                self.assertEqual(line, f"least {held.least_lateness(order)}")
+            told[word] += 1
+        self.assertGreater(min(told.values()), 300)
 
     def test_tiny_cases_with_times_by_search(self):
         told = {"meets": 0, "tight": 0}

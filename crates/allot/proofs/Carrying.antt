@@ -7,11 +7,11 @@ use native.Mathlib.Nat.{mul-le-mul-right}
 use native.Mathlib.Omega.{arith}
 use borrow.Author.Tests.{lt-leb}
 use lib.Dec.{leb}
-use lib.ListN.{length, getD, take, length-take}
+use lib.ListN.{getD, take, length-take}
 use Rattle.sums.specs.Arrays.{RowOf}
 use Rattle.sums.specs.Sum.{sum, sum-le, sum-mul}
 use Rattle.sums.specs.Kept.{keep-all, keep-few}
-use Rattle.sums.specs.Lists.{total, only, nth, keep}
+use Rattle.sums.specs.Lists.{only, nth, keep}
 use Rattle.sums.specs.Members.{All-map, in-All}
 use Rattle.sums.specs.Totals.{only-le, total-le, total-none, total-ones}
 use Rattle.amounts.specs.Flow.{Flow}

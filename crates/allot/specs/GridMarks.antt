@@ -86,7 +86,7 @@ module _ {top : ℤ} {number : ℕ → ℕ} (o : Order) (work : Workable top o) 
 
     until : (j : ℕ) → Numbers (jobCount o) j → lent .until j ≡ deadlineOf bound (jobOf o j)
     until zero b = absurd (omega arith)
-    until (suc j) b = 
+    until (suc j) b =
         deadlines-are o work bound r R reach e ds (record { at = λ j l. hd .at j (omega (arith, m .jobs)) }) j (b .1)
 
     pub lent-agrees : Agrees o (baseFrame o bound) lent

@@ -9,7 +9,7 @@ use lib.Dec.{leb}
 use lib.IntN.{ℤ, pos}
 use lib.ListN.{length, getD}
 use Rattle.sums.specs.Sum.{sum}
-use Rattle.sums.specs.Lists.{All, total, only, keep}
+use Rattle.sums.specs.Lists.{total, only, keep}
 use Rattle.sums.specs.Kept.{keep-same}
 use Rattle.sums.specs.Members.{All-map, nth-in}
 use Rattle.sums.specs.Totals.{total-cong}

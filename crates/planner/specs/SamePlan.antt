@@ -1,7 +1,7 @@
 -- Document 02, §8, of the planner: "For every order the least lateness, reasons, refusals and rows are equal to those of the input-order
 -- table." Least lateness and reasons stand in reason/specs/SameTold.antt; acceptance and the bound are judged of the order itself, 9 and 10
 -- of the table.
-use Prim.Native.Nat.{ℕ, _+_, _-_, _*_, _/_, _<_}
+use Prim.Native.Nat.{ℕ, _+_, _-_, _*_, _/_}
 use mathlib.Core.Path.{_≡_, refl, sym, ap, _∙_}
 use mathlib.Core.Bool.{Bool, true, false}
 use mathlib.Core.List.{List, [], _∷_}

@@ -34,16 +34,16 @@ pub fn first_late(o: Table, reach: u32) -> u32
 {
     let n = o.n;
     let mut place: u32 = 0;
-    let mut least: u32 = 49;
+    let mut first: u32 = 49;
     let mut k: usize = 0;
     while k < n {
-        let ends = o.times[k] + o.leads[k];
+        let enough = o.times[k] + o.leads[k];
         let number = o.by_need[k];
         k += 1;
-        if reach < ends {
-            if number < least {
+        if reach < enough {
+            if number < first {
                 place = k as u32;
-                least = number;
+                first = number;
             }
         }
     }

@@ -4,7 +4,7 @@ use mathlib.Core.Path.{_≡_, sym, ap, _∙_}
 use mathlib.Core.List.{List}
 use native.Mathlib.Decide.{decLt}
 use native.Mathlib.Omega.{arith}
-use lib.ListN.{length, getD}
+use lib.ListN.{getD}
 use Rattle.sums.specs.Pairs.{Pairwise-at}
 use Rattle.sums.specs.Places.{getD-tabulate}
 use Rattle.order.specs.Order.{Job, Numbers, processorCount, jobOf, noJob}

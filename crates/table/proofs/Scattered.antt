@@ -28,10 +28,10 @@ module _ (numbers : List ℕ) (n : ℕ) (E : EachOnce n (beside numbers)) (few :
       (λ i b.
       getD-set-other r (beside numbers k - 1) (beside numbers i - 1) (getD values k 0) 0
       (λ e. absurd (
-        let a = E .are i (omega arith) in
-        let c = E .are k l in
-        let f : i ≡ k = E .once i k (omega arith) l (omega (arith, a .0, c .0, e)) in
-        omega (arith, f)
+      let a = E .are i (omega arith) in
+      let c = E .are k l in
+      let f : i ≡ k = E .once i k (omega arith) l (omega (arith, a .0, c .0, e)) in
+      omega (arith, f)
       ))
       ∙ h i b)
       (getD-set-same r (beside numbers k - 1) (getD values k 0) 0 (omega (arith, E .are k l)))

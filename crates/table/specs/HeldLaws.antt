@@ -1,23 +1,22 @@
 -- Jobs by place and by input number: each stands at one place, and both readings of a table are the order's.
-use Prim.Native.Nat.{ℕ, zero, suc, pred, _+_, _*_, _≤_, _<_}
+use Prim.Native.Nat.{ℕ, zero, suc, _≤_, _<_}
 use mathlib.Core.Path.{_≡_, refl, sym, ap, _∙_, subst}
-use mathlib.Core.Bool.{Bool, true}
-use mathlib.Core.Logic.{_≢_}
+use mathlib.Core.Bool.{Bool}
 use mathlib.Core.List.{List}
 use native.Mathlib.Decide.{decLt}
 use native.Mathlib.Omega.{arith}
 use borrow.Author.Tests.{eqb-true, eq-eqb}
 use lib.Dec.{eqb}
 use lib.IntN.{ℤ}
-use lib.ListN.{length, getD}
+use lib.ListN.{getD}
 use Rattle.sums.specs.Sum.{sum, sum-cong, sum-const, sum-at-below}
-use Rattle.sums.specs.Lists.{only, tabulate}
+use Rattle.sums.specs.Lists.{only}
 use Rattle.sums.specs.Members.{All-at, in-at}
 use Rattle.sums.specs.Most.{most, most-le, most-ge}
 use Rattle.sums.specs.Pairs.{Pairwise-at}
 use Rattle.sums.specs.Places.{getD-tabulate}
 use Rattle.sums.specs.Totals.{only-none, total-tabulate, total-places}
-use Rattle.order.specs.Order.{Order, Job, jobCount, jobOf, Numbers}
+use Rattle.order.specs.Order.{Order, jobCount, jobOf, Numbers}
 use Rattle.order.specs.Sorted.{jobOrder}
 use Rattle.order.specs.OrderingLaws.{Ordered, jobs-ordered}
 use Rattle.order.specs.Class.{classOf}

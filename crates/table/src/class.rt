@@ -29,7 +29,7 @@ pub fn class_for(memories: [u32; 16], count: usize, need: u32, from: usize) -> u
     k as u32
 }
 
-// The class of the job at each place: by falling need no class falls, so each is looked for from the last one on.
+// The class of the job at each place: by falling need no class falls, so each is looked for from the one before it on.
 pub fn classes_of_jobs(order: Order, by_need: [u32; 48], classes: Listing) -> [u32; 48]
     requires { ⌜ Accepted (orderOf order) × («by_need» ≡ padded 48 (jobOrder (orderOf order))) × (classes ≡ listing (orderOf order)) ⌝ }
     ensures { λ r. ⌜ RowOf (λ k. classOf (orderOf order) (jobOf (orderOf order) (numberAt (orderOf order) k))) (order .jobs) r ⌝ }

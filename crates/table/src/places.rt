@@ -1,7 +1,6 @@
 // What jobs have, by place, where they lie by falling need, and by input number (document 02, §8). All serve the crates above and have a
 // `requires`.
 use super::lead::minutes_at;
-ghost use mathlib.Core.Path.{_≡_};
 ghost use Prim.Native.Nat.{suc, _-_, _≤_};
 ghost use Rattle.sums.specs.Arrays.{RowOf};
 ghost use Rattle.sums.specs.Lists.{nth};

@@ -13,7 +13,7 @@ use lib.ListN.{length, getD, drop, length-reverse}
 use lib.Signed.{_≤ℤ_}
 use Rattle.sums.specs.Arrays.{RowOf}
 use Rattle.sums.specs.Downwards.{length-down, down-reversed}
-use Rattle.sums.specs.Lists.{All, In, tabulate, nth, downTo}
+use Rattle.sums.specs.Lists.{In, tabulate, nth, downTo}
 use Rattle.sums.specs.Members.{All-nth, All-in, in-All, in-at, at-in, in-append, in-left, in-right, in-map, map-in}
 use Rattle.sums.specs.Places.{length-tabulate, getD-tabulate, numbers-in, numbers-are}
 use Rattle.order.specs.Order.{Order, processorCount, jobCount, Numbers, noJob, jobOf, endOf}
@@ -30,7 +30,7 @@ use Rattle.table.specs.HeldLaws.{held-once}
 use Rattle.table.specs.GridLaws.{distinct-by-leads}
 use Rattle.table.specs.declared.Table.{Table}
 use Rattle.allot.specs.Tables.{Put}
-use Rattle.timed.specs.Changes.{changes, changeTimes, markAt}
+use Rattle.timed.specs.Changes.{changes, changeTimes}
 use Rattle.timed.specs.ChangeLaws.{markAt-is}
 use Rattle.timed.specs.Leads.{top, mostBound, WindowsPut}
 use Rattle.timed.specs.LeadLaws.{lead-minute, minute-of-lead, lead-end, end-by-top}

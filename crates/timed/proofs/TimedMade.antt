@@ -1,19 +1,18 @@
 -- How a plan is made of a table in the frame of its changes: the lent numbers agree with the frame; feasible amounts have a layout that is
 -- right and keeps the times, and a cut shuts out every list of rows.
-use Prim.Native.Nat.{ℕ, zero, suc, _+_, _-_, _*_, _≤_, _<_}
+use Prim.Native.Nat.{ℕ, suc, _+_, _-_, _*_, _≤_, _<_}
 use mathlib.Core.Path.{_≡_, refl, ap}
 use mathlib.Core.Bool.{Bool, true, false}
 use mathlib.Core.List.{List, _++_}
 use native.Mathlib.Omega.{arith}
 use native.Mathlib.Nat.{mul-le-mul, mul-le-mul-right, mul-le-mul-left}
 use lib.IntN.{ℤ}
-use lib.ListN.{length, getD, drop}
+use lib.ListN.{length, drop}
 use Rattle.sums.specs.Arrays.{RowOf}
 use Rattle.amounts.specs.Flow.{Flow, Feasible, Cut}
 use Rattle.engine.specs.View.{grid, Answer}
 use Rattle.engine.specs.Run.{RunOf}
-use Rattle.order.specs.Order.{Order, processorCount, jobCount, Numbers, jobOf}
-use Rattle.order.specs.Deadline.{deadlineOf}
+use Rattle.order.specs.Order.{Order, processorCount, jobCount}
 use Rattle.order.specs.Lead.{lastDue, reachAt}
 use Rattle.order.specs.LeadLaws.{workable}
 use Rattle.order.specs.RefusalLaws.{Acceptable, accepted-iff}
@@ -21,7 +20,7 @@ use Rattle.plan.specs.Check.{numbersOf}
 use Rattle.plan.specs.Join.{joined}
 use Rattle.plan.specs.Plan.{Row}
 use Rattle.wrap.specs.Flows.{amountIn}
-use Rattle.wrap.specs.Frame.{Frame, lies, openIn, FeasibleIn, layoutIn, Rising}
+use Rattle.wrap.specs.Frame.{Frame, FeasibleIn, layoutIn, Rising}
 use Rattle.wrap.specs.FrameAt.{RightTimed, timed-in, timed-out}
 use Rattle.wrap.specs.Joined.{joined-layout-right, joined-count-in}
 use Rattle.feasible.specs.FramePlan.{cut-no-plan}
@@ -33,7 +32,7 @@ use Rattle.allot.specs.InFrame.{Agrees, classed-in, sized-in-frame, feasible-in
 use Rattle.allot.specs.LaidInFrame.{planned-is, planned-given}
 use Rattle.layout.specs.Laid.{Numbered}
 use Rattle.layout.specs.Planned.{frameLent, lentFrame, planned, Joinable}
-use Rattle.timed.specs.Changes.{markAt, timedFrame}
+use Rattle.timed.specs.Changes.{timedFrame}
 use Rattle.timed.specs.ChangeLaws.{timed-rising, timed-framed}
 use Rattle.timed.specs.LentTimes.{times-agree}
 use Rattle.timed.specs.Making.{RoomFor}

@@ -1,5 +1,5 @@
 -- Document 01's cases with a ●, the lines of document 02, §1, joined rows of §2, ends of §3, makers and books of §4, ready minutes and
--- windows of §5, classes passed of §6, needs of §7, and more: one table, and one theorem that every case holds of the definitions.
+-- windows of §5, classes passed of §6, needs of §7, jobs as they lie of §8, and more: one table, and one theorem that every case holds of the definitions.
 use Prim.Native.Nat.{ℕ, zero, suc, _+_, _*_, _-_, _≤_}
 use Prim.Native.String.{String}
 use mathlib.Core.Path.{_≡_, refl, sym, ap, _∙_, subst}
@@ -15,7 +15,7 @@ use Rattle.sums.specs.Gate.{gate, gate-in, gate-out}
 use lib.ListN.{length, getD}
 use Rattle.sums.specs.Lists.{All, keep, nth, only, tabulate}
 use Rattle.sums.specs.Same.{sameList}
-use Rattle.order.specs.Order.{Order, processorCount, endAt, endOf}
+use Rattle.order.specs.Order.{Order, processorCount, jobCount, endAt, endOf}
 use Rattle.order.specs.Sorted.{insert, distinct, dueTimes, placeByKey, byFalling, processorOrder, jobOrder}
 use Rattle.order.specs.Class.{classes, lastThatSuffices, classFor, classOf, processorsIn, processorsTo}
 use Rattle.order.specs.Refusals.{limits, Verdict, accepted, refused, judge, leftBy, firstAfter, fitsSome, orderRows, Accepted}
@@ -53,6 +53,7 @@ use Rattle.wrap.specs.FrameFlow.{flowIn}
 use Rattle.amounts.specs.Flow.{Flow, covered, left, right, feasible-no-cut}
 use Rattle.order.specs.Deadline.{deadlineOf}
 use Rattle.feasible.specs.FramePlan.{plan-amounts-in}
+use Rattle.table.specs.Held.{numberAt}
 use Rattle.table.specs.Passed.{passed}
 use Rattle.timed.specs.Changes.{changes, changeTimes, changeCount, markAt, timedFrame, timedRowsAsked}
 use Rattle.timed.specs.ChangeLaws.{timed-framed}
@@ -60,7 +61,7 @@ use Rattle.timed.specs.Rows.{askedRows, earlierTimed}
 use Rattle.timed.specs.Check.{isRightTimed}
 use Rattle.timed.specs.CheckLaws.{timed-yes}
 use Rattle.feasible.specs.Least.{is-least}
-use Rattle.worked.specs.Orders.{A, B, C, D, needZero, overdue, twoOverfull, twoLate, onTop, chain, wraps, shared, ofMaker, nineJobs, twoEarly, ties}
+use Rattle.worked.specs.Orders.{A, B, C, D, needZero, overdue, twoOverfull, twoLate, onTop, chain, wraps, shared, ofMaker, nineJobs, twoEarly, ties, twoAndTwo, oneClass, lateLast}
 
 -- amounts by job, and for each job by stretch
 abbrev pub amountsOf : List (List ℕ) → ℕ → ℕ → ℕ
@@ -88,7 +89,7 @@ sevens lent = tabulate lent (λ _. 7)
 -- of the rows asked for, what is refused before 10 with a buffer of so many numbers, a plan that keeps the times and one that does not,
 -- amounts with their joined rows, and that there is no plan, by what each stretch's classes have at most; the classes and the processors
 -- of each after each processor passed; a table of needs with a list and room for so many needs, what it is judged as, and what the room
--- holds then
+-- holds then; the numbers of the jobs as they lie
 pub data Case : Type 0 where
   leastIs : Order → ℤ → Case
   reasonIs : Order → ℤ → Reason → ℕ → ℤ → Case
@@ -111,6 +112,7 @@ pub data Case : Type 0 where
   timedTightIs : Order → ℤ → Times → List ℕ → Case
   passesAs : Order → List (List ℕ × List ℕ) → Case
   needsAre : (table listed : List ℕ) → (lent : ℕ) → Verdict → List ℕ → Case
+  lieAs : Order → List ℕ → Case
 
 -- what a case says, in the words of the definitions
 abbrev pub Holds : Case → Type 0
@@ -141,6 +143,7 @@ Holds (passesAs o listings) = listingsOf o ≡ listings
 Holds (needsAre table listed lent verdict needs) =
     (judge (needRows table listed lent) ≡ verdict)
     × (leftBy (judge (needRows table listed lent)) (needsOf table listed) (sevens lent) ≡ needs)
+Holds (lieAs o numbers) = tabulate (jobCount o) (numberAt o) ≡ numbers
 
 -- a row: job, processor, from, to; and a row of job 1 on processor 1
 abbrev row : ℕ → ℕ → ℕ → ℕ → Row
@@ -314,6 +317,13 @@ cases =
     ∷ needsAre (line 1 100000 4) (1 ∷ 100000 ∷ 0 ∷ 100001 ∷ []) 1 (refused 5 3) (7 ∷ [])
     ∷ needsAre (line 1 100000 4) (1 ∷ 2 ∷ []) 1 (refused 9 0) (7 ∷ [])
     ∷ needsAre (line 1 100000 4) [] 0 accepted []
+    -- document 02, §8: jobs by falling need, ties in input order, not by class; of two that are late the first in input order is told
+    ∷ lieAs A (1 ∷ 2 ∷ 3 ∷ [])
+    ∷ lieAs D (1 ∷ 2 ∷ 3 ∷ [])
+    ∷ lieAs twoAndTwo (2 ∷ 3 ∷ 1 ∷ 4 ∷ [])
+    ∷ lieAs oneClass (2 ∷ 1 ∷ 3 ∷ [])
+    ∷ lieAs lateLast (2 ∷ 3 ∷ 1 ∷ [])
+    ∷ reasonIs lateLast (minus 1) (overEnd 1) 3 (pos 1)
     -- beyond document 01's: of two overfull staircases, the one that ranks first
     ∷ reasonIs twoOverfull (minus 1) (stairs (pos 4 ∷ pos 2 ∷ [])) 8 (pos 6)
     -- an empty row, and one that goes backwards, beside a right plan
@@ -352,6 +362,7 @@ data Value : Type 0 where
   timedLaid : List Row → Bool → Value
   listings : List (List ℕ × List ℕ) → Value
   needsLeft : Bool → Verdict → List ℕ → Value
+  lying : List ℕ → Value
 
 -- whether the jobs must have more inside a cut of classes, one for each stretch, than there is room: each its time less what it can have
 -- outside, in the stretches whose class is below its own
@@ -393,6 +404,7 @@ computed (passesAs o told) = listings (listingsOf o)
 computed (needsAre table listed lent verdict needs) =
     needsLeft (stopped mostLines (counted table)) (decide mostLines table listed lent)
     (leftBy (decide mostLines table listed lent) (needsOf table listed) (sevens lent))
+computed (lieAs o numbers) = lying (tabulate (jobCount o) (numberAt o))
 
 abbrev stated : Case → Value
 stated (leastIs o least) = leastOf accepted least
@@ -416,6 +428,7 @@ stated (timedLaidIs o bound t amounts plan) = timedLaid plan true
 stated (timedTightIs o bound t cut) = checked true
 stated (passesAs o told) = listings told
 stated (needsAre table listed lent verdict needs) = needsLeft true verdict needs
+stated (lieAs o numbers) = lying numbers
 
 right-rows : (o : Order) (bound : ℤ) (rows : List Row) → isRight o bound (numbersOf rows) ≡ true → Right o bound rows
 right-rows o bound rows e =
@@ -499,6 +512,7 @@ case-holds (passesAs o told) e = cc
 case-holds (needsAre table listed lent verdict needs) e =
     let stops : stopped mostLines (counted table) ≡ true = cc in
     rw (decided mostLines table listed lent stops) (cc, cc)
+case-holds (lieAs o numbers) e = cc
 
 all-hold : (cs : List Case) → map computed cs ≡ map stated cs → All Holds cs
 all-hold [] e = tt

@@ -75,3 +75,14 @@ twoEarly = order (4 ∷ []) (job 3 (pos 10) 4 ∷ job 3 (pos 11) 4 ∷ [])
 -- document 02, §6: two processors of one memory, neither first nor last
 abbrev pub ties : Order
 ties = order (4 ∷ 8 ∷ 4 ∷ 2 ∷ []) (job 1 (pos 9) 0 ∷ [])
+
+-- document 02, §8: jobs of which two and two have one need; two needs of one class; two jobs over their ends at -1, the first of them of the
+-- smallest need
+abbrev pub twoAndTwo : Order
+twoAndTwo = order (8 ∷ 4 ∷ []) (job 1 (pos 9) 4 ∷ job 2 (pos 9) 8 ∷ job 3 (pos 9) 8 ∷ job 4 (pos 9) 4 ∷ [])
+
+abbrev pub oneClass : Order
+oneClass = order (8 ∷ 2 ∷ []) (job 1 (pos 9) 3 ∷ job 2 (pos 9) 7 ∷ job 3 (pos 9) 2 ∷ [])
+
+abbrev pub lateLast : Order
+lateLast = order (8 ∷ []) (job 3 (pos 1) 2 ∷ job 5 (pos 2) 8 ∷ job 1 (pos 9) 4 ∷ [])

@@ -2,7 +2,7 @@
 //! settle each row: joined over one end and over two, on a processor that is not the first, beside a
 //! part on another processor; and not joined where the job or the processor is another one.
 
-use super::{case, on, order};
+use super::{case, on_few, order};
 use crate::independent::{rows_asked, Order, Row};
 use crate::lent::rows_of;
 use crate::library::Function;
@@ -76,7 +76,7 @@ fn not_joined(trial: &mut Trial) {
 
 /// The order has the least lateness -1 and this plan at it, which the check takes. However few rows
 /// there are, "the buffer asked for stays q × (n + m - 1) rows".
-fn rows_are(trial: &mut Trial, order: Order, rows: &[Row]) {
+pub fn rows_are(trial: &mut Trial, order: Order, rows: &[Row]) {
     let (asked, count) = (4 * rows_asked(&order), rows.len() as i32);
     let answers = [
         (Function::Least, vec![-1, count]),
@@ -85,7 +85,7 @@ fn rows_are(trial: &mut Trial, order: Order, rows: &[Row]) {
         (Function::BookPlan, vec![count]),
     ];
     for (function, answer) in answers {
-        let call = on(&mut trial.random, &order).at(-1);
+        let call = on_few(&mut trial.random, &order).at(-1);
         let call = call.with_room(&mut trial.random, asked);
         case(trial, function, call.clone(), 0, &answer);
         if let Some((_, after)) = trial.call(function, call) {
@@ -94,10 +94,10 @@ fn rows_are(trial: &mut Trial, order: Order, rows: &[Row]) {
                 trial.differs(format!("rows {written:?} of {order:?}, not {rows:?}"));
             }
         }
-        let call = on(&mut trial.random, &order).at(-1);
+        let call = on_few(&mut trial.random, &order).at(-1);
         let call = call.with_room(&mut trial.random, asked - 1);
         case(trial, function, call, 9, &[]);
     }
-    let call = on(&mut trial.random, &order).with_rows(&mut trial.random, &rows.concat());
+    let call = on_few(&mut trial.random, &order).with_rows(&mut trial.random, &rows.concat());
     case(trial, Function::Check, call.at(-1), 0, &[1]);
 }

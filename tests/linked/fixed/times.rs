@@ -77,7 +77,7 @@ impl Timed {
     }
 
     /// This plan, and no other, meets the bound.
-    fn settled(&self, trial: &mut Trial, bound: i32, asked: usize, rows: &[Row]) {
+    pub fn settled(&self, trial: &mut Trial, bound: i32, asked: usize, rows: &[Row]) {
         self.planned(trial, bound, asked, rows);
         let call = self.call(trial, bound, asked);
         if let Some((_, after)) = trial.call(Function::TimedPlan, call) {

@@ -5,6 +5,7 @@
 use super::trial_of;
 use crate::draw::bounds::Around;
 use crate::draw::files::file_of;
+use crate::draw::held::HELD_FAMILIES;
 use crate::draw::lengths::{room, times_length};
 use crate::draw::orders::{Family, LARGE_FAMILIES, SMALL_FAMILIES};
 use crate::draw::times::{damaged, drawn, least, window_numbers, OF_TIMES};
@@ -22,6 +23,11 @@ pub fn small(trial: &mut Trial, seed: u64) {
 
 pub fn large(trial: &mut Trial, seed: u64) {
     timed_order(trial, LARGE_FAMILIES, seed);
+}
+
+/// Jobs that lie elsewhere than they are given.
+pub fn held(trial: &mut Trial, seed: u64) {
+    timed_order(trial, HELD_FAMILIES, seed);
 }
 
 /// An accepted order with drawn times.

@@ -178,7 +178,7 @@ pub const LIBRARIES: &[(&str, Library)] = &[
 ];
 
 /// The booked call, but with other counts where a plan is written.
-fn counts(function: Function, call: &mut Call, other: fn(&[u32], &Plan) -> Vec<u32>) -> u32 {
+pub fn counts(function: Function, call: &mut Call, other: fn(&[u32], &Plan) -> Vec<u32>) -> u32 {
     let before = call.book.content().to_vec();
     answered(MODEL.entry(function), call, |call| {
         let counts = other(&before[..MAKERS], &plan_of(function, call));
@@ -187,7 +187,7 @@ fn counts(function: Function, call: &mut Call, other: fn(&[u32], &Plan) -> Vec<u
 }
 
 /// Counts with the minutes of jobs added, which no care is taken of.
-fn added(before: &[u32], jobs: &[Job], minutes: fn(&Job) -> u32) -> Vec<u32> {
+pub fn added(before: &[u32], jobs: &[Job], minutes: fn(&Job) -> u32) -> Vec<u32> {
     let mut counts = before.to_vec();
     for job in jobs {
         let count = &mut counts[job.maker as usize - 1];

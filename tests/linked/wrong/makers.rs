@@ -81,7 +81,7 @@ pub fn each(order: &mut Order, change: impl FnMut(&mut Job)) {
 }
 
 /// The call with other jobs in its file or its lists, which are then as they were.
-fn remade(function: Function, call: &mut Call, change: impl Fn(&mut Order)) -> u32 {
+pub fn remade(function: Function, call: &mut Call, change: impl Fn(&mut Order)) -> u32 {
     let (file, jobs) = (call.file.clone(), call.jobs.clone());
     if function == Function::Write {
         let mut order = listed(call);

@@ -20,10 +20,13 @@ abbrev Inv-loop : tie.InvT-loop
 Inv-loop classes order by-need n memories r₀ class₀ k₀ r class k =
     (k ≤ n) × (length r ≡ 48) × RowOf (λ k. classOf (orderOf order) (jobOf (orderOf order) (numberAt (orderOf order) k))) k r
     × (class ≤ classes .count) × ((i j : ℕ) → i < class → k ≤ j → j < n → needAt order j ≤ getD (classes .memories) i 0)
+
 abbrev μ-loop : tie.MeasureT-loop
 μ-loop classes order by-need n memories r₀ class₀ k₀ r class k = n - k
+
 cast-n : tie.Need-cast-n Inv-loop μ-loop
 cast-n c = search needs
+
 loop-holds : tie.Need-loop-holds Inv-loop μ-loop
 loop-holds c = (
   search needs,
@@ -42,20 +45,28 @@ numbered c =
 
 few : (c : tie.In-loop Inv-loop μ-loop) → c .before .before .before .args .t1 .jobs ≤ 48
 few c = few-jobs (c .before .before .before .args .t1) (c .before .before .before .pre .0)
+
 mul-need : tie.Need-mul-need Inv-loop μ-loop
 mul-need c = omega (arith, few c)
+
 array-read-need : tie.Need-array-read-need Inv-loop μ-loop
 array-read-need c = omega (arith, few c)
+
 sub-need : tie.Need-sub-need Inv-loop μ-loop
 sub-need c = omega (arith, numbered c)
+
 cast-need : tie.Need-cast-need Inv-loop μ-loop
 cast-need c = omega (arith, numbered c)
+
 mul-need-2 : tie.Need-mul-need-2 Inv-loop μ-loop
 mul-need-2 c = omega (arith, numbered c, few c)
+
 element-copy-out-need : tie.Need-element-copy-out-need Inv-loop μ-loop
 element-copy-out-need c = omega (arith, numbered c, few c)
+
 cast-class-for : tie.Need-cast-class-for Inv-loop μ-loop
 cast-class-for c = search needs
+
 class-for-requires : tie.Need-class-for-requires Inv-loop μ-loop
 class-for-requires c κs =
     let s = c .before .before .before .before in
@@ -69,14 +80,19 @@ class-for-requires c κs =
         l .inv .4 i (l .k) h (omega arith) (omega arith),
       ),
     )
+
 mul-r : tie.Need-mul-r Inv-loop μ-loop
 mul-r c = search needs
+
 array-write-r : tie.Need-array-write-r Inv-loop μ-loop
 array-write-r c = omega (arith, few (c .before .before))
+
 add-k : tie.Need-add-k Inv-loop μ-loop
 add-k c = search needs
+
 loop-less : tie.Need-loop-less Inv-loop μ-loop
 loop-less c = search needs
+
 loop-again : tie.Need-loop-again Inv-loop μ-loop
 loop-again c =
     let s = c .before .before .before .before .before in
@@ -96,8 +112,10 @@ loop-again c =
       λ i j h q b. class-fits o (accept .few-processors) (s .args .classes) (s .pre .2) (l .k) (c .class-for .result) e i j h
           (omega arith) (omega arith),
     )
+
 returns : tie.Need-returns Inv-loop μ-loop
 returns c = record { at = λ k h. c .before .loop .inv .2 .at k (omega arith) }
+
 pub classes-of-jobs-spec : {M : Type 1} → statement M
 classes-of-jobs-spec =
     tie.close

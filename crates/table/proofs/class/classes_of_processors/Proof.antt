@@ -36,8 +36,7 @@ element-copy-out-class-for c = search needs
 
 class-for-requires : tie.Need-class-for-requires Inv-loop μ-loop
 class-for-requires c κs =
-    let s = c .before .before .before .before in
-    (
+    let s = c .before .before .before .before in (
       few-listed (orderOf (s .args .t1)) (accepted-iff (orderOf (s .args .t1)) .0 (s .pre .0) .few-processors) (s .args .classes) (s .pre .1),
       omega arith,
       λ i l. absurd (omega arith),

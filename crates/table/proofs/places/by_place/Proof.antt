@@ -13,34 +13,47 @@ use Rattle.table.proofs.places.by_place.Tie as tie
 
 abbrev Inv-loop : tie.InvT-loop
 Inv-loop n values numbers r₀ k₀ r k = (k ≤ n) × (length r ≡ 48) × RowOf (λ (k : ℕ). nth values (beside numbers k) 0) k r
+
 abbrev μ-loop : tie.MeasureT-loop
 μ-loop n values numbers r₀ k₀ r k = n - k
+
 loop-holds : tie.Need-loop-holds Inv-loop μ-loop
 loop-holds c = (search needs, search needs, record { at = λ k h. absurd (omega arith) })
 
 -- the number beside the next place is a job's
 numbered : (c : tie.In-loop Inv-loop μ-loop) → Numbers (c .before .before .args .n) (beside (c .before .before .args .t2) (c .before .loop .k))
 numbered c = c .before .before .pre .1 .are (c .before .loop .k) (omega arith)
+
 mul-r : tie.Need-mul-r Inv-loop μ-loop
 mul-r c = search needs
+
 array-read-r : tie.Need-array-read-r Inv-loop μ-loop
 array-read-r c = search needs
+
 sub-r : tie.Need-sub-r Inv-loop μ-loop
 sub-r c = omega (arith, numbered c)
+
 cast-r : tie.Need-cast-r Inv-loop μ-loop
 cast-r c = omega (arith, numbered c)
+
 mul-r-2 : tie.Need-mul-r-2 Inv-loop μ-loop
 mul-r-2 c = omega (arith, numbered c, c .before .before .pre .0)
+
 array-read-r-2 : tie.Need-array-read-r-2 Inv-loop μ-loop
 array-read-r-2 c = omega (arith, numbered c, c .before .before .pre .0)
+
 mul-r-3 : tie.Need-mul-r-3 Inv-loop μ-loop
 mul-r-3 c = search needs
+
 array-write-r : tie.Need-array-write-r Inv-loop μ-loop
 array-write-r c = search needs
+
 add-k : tie.Need-add-k Inv-loop μ-loop
 add-k c = search needs
+
 loop-less : tie.Need-loop-less Inv-loop μ-loop
 loop-less c = search needs
+
 loop-again : tie.Need-loop-again Inv-loop μ-loop
 loop-again c =
     let s = c .before .before in
@@ -52,8 +65,10 @@ loop-again c =
             (named (s .args .t1) (beside (s .args .t2) (l .k)) (numbered c .0));
       },
     )
+
 returns : tie.Need-returns Inv-loop μ-loop
 returns c = record { at = λ k h. c .before .loop .inv .2 .at k (omega arith) }
+
 pub by-place-spec : {M : Type 1} → statement M
 by-place-spec =
     tie.close
