@@ -1,6 +1,6 @@
 -- Document 02, §8, of the timed planner: its answer and its rows are equal to those of the input-order table. Whatever table they were
 -- gathered from, the times at which something changes are the order's.
-use Prim.Native.Nat.{ℕ, _-_}
+use Prim.Native.Nat.{ℕ, _+_, _*_, _-_}
 use mathlib.Core.Path.{_≡_, refl}
 use mathlib.Core.Bool.{Bool}
 use mathlib.Core.List.{List}
@@ -96,7 +96,11 @@ module _ (o : Order) (ok : Accepted o) (bound : ℤ) (times : TimesTable) where
     abbrev ofInput : LentNumbers
     ofInput = lentTimes (byPlace u) u reach times d
 
-    -- "too tight" is the answer of both tables or of neither
+    -- 9: of both tables as many rows are asked for
+    pub asked-same : c .count * (t .n + t .m - 1) ≡ d .count * (u .n + u .m - 1)
+    asked-same = rw (C .count-is, D .count-is, m .jobs, i .jobs, m .processors, i .processors) refl
+
+    -- 10: "too tight" is the answer of both or of neither
     pub answer-same : (w : List ℕ) (b : Bool) → AnswerFrom (byNumber t) t ofHeld w b ↔ AnswerFrom (byPlace u) u ofInput w b
     answer-same w b = (
       answer-carried o f up t u m i (byNumber t) (byPlace u) (held-read o t m) (input-read o u i) ofHeld ofInput held input w b,
