@@ -1,5 +1,5 @@
 -- Document 02, §8: "rows are equal to those of the input-order table". Rows from a table are the layout of the amounts of the run on its
--- flow, joined. The flow takes the jobs in input order wherever they lie, and so do the rows that come of it.
+-- flow, joined. The flow takes the jobs in input order wherever they lie, so its run, and the rows laid out of it, are the same.
 use Prim.Native.Nat.{ℕ, zero, suc, _-_, _*_, _<_}
 use mathlib.Core.Path.{_≡_, sym, ap, _∙_, subst}
 use mathlib.Core.Bool.{Bool, true}

@@ -35,6 +35,11 @@ owes t k d j =
 unfoldable pub minutesAt : Table → ℕ → ℕ → ℕ
 minutesAt t k d = sum (t .n) (owes t k d)
 
+-- the same by the time of a lead g
+unfoldable pub owesBy : Table → ℕ → ℕ → ℕ
+owesBy t k g =
+    sum (t .n) (λ j. only (eqb (getD (t .classes) j 0) k) (owedBy (getD (t .times) j 0) (getD (t .leads) j 0) g))
+
 -- what the i-th class from 0 on weighs at the due time d: the minutes owed by its jobs, and its processors times the lead
 unfoldable pub weight : Table → ℕ → ℕ → ℕ
 weight t i d = minutesAt t (suc i) d + getD (t .procs) i 0 * getD (t .grid) d 0

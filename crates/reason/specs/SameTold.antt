@@ -1,11 +1,7 @@
 -- Document 02, §8: "For every order the least lateness, reasons .. are equal to those of the input-order table."
 use Prim.Native.Nat.{ℕ}
 use mathlib.Core.Path.{_≡_, sym, ap, _∙_}
-use lib.Dec.{eqb}
 use lib.IntN.{ℤ}
-use lib.ListN.{getD}
-use Rattle.sums.specs.Sum.{sum}
-use Rattle.sums.specs.Lists.{only}
 use Rattle.order.specs.Order.{Order}
 use Rattle.order.specs.Lead.{boundAt, reachAt, lastDue}
 use Rattle.order.specs.Refusals.{Accepted}
@@ -14,17 +10,14 @@ use Rattle.table.specs.Held.{byPlace}
 use Rattle.table.specs.HeldLaws.{input-read}
 use Rattle.table.specs.Tabled.{Tabled, InInputOrder}
 use Rattle.table.specs.declared.Table.{Table}
-use Rattle.reason.specs.Asked.{owedBy, leastReachOf, toldOf, toldInOrder}
+use Rattle.reason.specs.Asked.{owesBy, leastReachOf, toldOf, toldInOrder}
 use Rattle.reason.specs.Matching.{owes-same, reach-same}
 use Rattle.reason.specs.Telling.{told-is, told-from}
 
--- the minutes that the jobs of class k owe by the time of the lead g, along a table
-abbrev pub owedAlong : Table → (k g : ℕ) → ℕ
-owedAlong t k g =
-    sum (t .n) (λ j. only (eqb (getD (t .classes) j 0) k) (owedBy (getD (t .times) j 0) (getD (t .leads) j 0) g))
-
 module _ (o : Order) (t u : Table) (m : Tabled lastDue o t) (i : InInputOrder lastDue o u) where
-  pub owed-same : (k g : ℕ) → owedAlong t k g ≡ owedAlong u k g
+  -- the minutes that the jobs of class k owe by the time of the lead g
+  pub owed-same : (k g : ℕ) → owesBy t k g ≡ owesBy u k g
+  unfolding owesBy
   owed-same k g = sym (owes-same o t m k g) ∙ owes-same o u i k g
 
   pub least-same : boundAt lastDue (leastReachOf t) ≡ boundAt lastDue (leastReachOf u)

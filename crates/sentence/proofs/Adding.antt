@@ -10,7 +10,8 @@ use Rattle.sums.specs.Arrays.{RowOf}
 use Rattle.sums.specs.Sum.{sum, sum-more, sum-cong}
 use Rattle.order.specs.Lead.{lead, lastDue, mostReach}
 use Rattle.table.specs.declared.Table.{Table}
-use Rattle.sentence.specs.Inside.{owesBy, owedTo, handTo}
+use Rattle.reason.specs.Asked.{owesBy}
+use Rattle.sentence.specs.Inside.{owedTo, handTo}
 
 -- one more, and all of them
 pub sum-step : (n x v : ℕ) (f : ℕ → ℕ) → x ≡ sum n f → v ≡ f n → x + v ≡ sum (n + 1) f

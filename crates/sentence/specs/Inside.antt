@@ -8,7 +8,7 @@ use lib.IntN.{ℤ, pos}
 use lib.ListN.{getD}
 use lib.Signed.{_≤ℤ_}
 use Rattle.sums.specs.Sum.{sum}
-use Rattle.sums.specs.Lists.{In, only}
+use Rattle.sums.specs.Lists.{In}
 use Rattle.order.specs.Order.{Order, jobOf}
 use Rattle.order.specs.Sorted.{dueTimes}
 use Rattle.order.specs.Lead.{lead, lastDue}
@@ -16,16 +16,11 @@ use Rattle.order.specs.Refusals.{dueInRange}
 use Rattle.profile.specs.Profile.{minutesOwed, minutesOnHand}
 use Rattle.profile.specs.Reason.{overEnd, stairs, Stands}
 use Rattle.profile.specs.Search.{nothing, found}
-use Rattle.reason.specs.Asked.{owedBy}
+use Rattle.reason.specs.Asked.{owesBy}
 use Rattle.table.specs.declared.Table.{Table}
 use Rattle.sentence.specs.Line.{composed}
 use Rattle.sentence.specs.declared.Weighed.{Weighed}
 use Rattle.sentence.specs.declared.Weighed.the-variants.{Stands as Overfull, Falls}
-
--- what the jobs of class k owe by the time of the lead g
-unfoldable pub owesBy : Table → ℕ → ℕ → ℕ
-owesBy t k g =
-    sum (t .n) (λ j. only (eqb (getD (t .classes) j 0) k) (owedBy (getD (t .times) j 0) (getD (t .leads) j 0) g))
 
 -- the two sums of the first k due times
 abbrev pub owedTo : Table → List ℤ → ℕ → ℕ

@@ -25,10 +25,11 @@ use Rattle.profile.specs.SearchLaws.{in-due, profile-chosen, chosen-profile}
 use Rattle.profile.specs.Weights.{Reached, class-owes}
 use Rattle.table.specs.Tabled.{Tabled}
 use Rattle.table.specs.declared.Table.{Table}
+use Rattle.reason.specs.Asked.{owesBy}
 use Rattle.reason.specs.Matching.{owes-same}
 use Rattle.sentence.specs.declared.Weighed.{Weighed}
 use Rattle.sentence.specs.declared.Weighed.the-variants.{Stands as Overfull, Falls}
-use Rattle.sentence.specs.Inside.{owesBy, owedTo, handTo, StepsReached, StepsFit, SumsTold, WeighedTold}
+use Rattle.sentence.specs.Inside.{owedTo, handTo, StepsReached, StepsFit, SumsTold, WeighedTold}
 use Rattle.sentence.specs.StepLaws.{steps-chosen, chosen-steps}
 
 -- sums over the classes from one on, as sums over places

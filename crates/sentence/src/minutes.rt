@@ -13,7 +13,8 @@ ghost use Rattle.sums.specs.Arrays.{RowOf};
 ghost use Rattle.sums.specs.Lists.{only};
 ghost use Rattle.order.specs.Lead.{lead, lastDue, mostReach};
 ghost use Rattle.table.specs.Tabled.{Fine};
-ghost use Rattle.sentence.specs.Inside.{owesBy, DuesInRange};
+ghost use Rattle.reason.specs.Asked.{owesBy};
+ghost use Rattle.sentence.specs.Inside.{DuesInRange};
 
 // The lead of each of k due times.
 pub fn leads_of(dues: [i32; 16], k: usize) -> [u32; 16]

@@ -17,7 +17,7 @@ use Rattle.order.specs.Table.{orderOf, jobAt, padded}
 use Rattle.order.specs.declared.Order.{Order as OrderTable}
 use Rattle.table.specs.ClassRows.{listed-suffices}
 use Rattle.table.specs.Held.{numberAt, EachOnce, beside}
-use Rattle.table.specs.HeldLaws.{held-once, once-same}
+use Rattle.table.specs.HeldLaws.{held-once, once-same, padded-beside}
 use Rattle.table.specs.Passed.{listing}
 use Rattle.table.specs.declared.Listing.{Listing}
 
@@ -36,7 +36,7 @@ module _ (t : OrderTable) where
 
   module _ (few : t .jobs ≤ 48) (at : List ℕ) (e : at ≡ padded 48 (jobOrder (orderOf t))) where
     number-is : (k : ℕ) → k < t .jobs → getD at k 0 ≡ numberAt (orderOf t) k
-    number-is k l = rw e (getD-tabulate 48 (λ i. getD (jobOrder (orderOf t)) i 0) 0 k (omega arith))
+    number-is k l = padded-beside (orderOf t) (omega (arith, job-count t)) at e k (omega (arith, job-count t))
 
     pub numbers-once : EachOnce (t .jobs) (beside at)
     numbers-once =

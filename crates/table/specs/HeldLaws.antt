@@ -21,6 +21,7 @@ use Rattle.order.specs.Sorted.{jobOrder}
 use Rattle.order.specs.OrderingLaws.{Ordered, jobs-ordered}
 use Rattle.order.specs.Class.{classOf}
 use Rattle.order.specs.Lead.{lead}
+use Rattle.order.specs.Table.{padded}
 use Rattle.table.specs.Held.{numberAt, EachOnce, beside, valueOf, byNumber, byPlace, ReadingOf}
 use Rattle.table.specs.Tabled.{TabledBy, Tabled, InInputOrder}
 use Rattle.table.specs.declared.Table.{Table}
@@ -102,11 +103,14 @@ module _ (numbers : List ℕ) (n : ℕ) (E : EachOnce n (beside numbers)) (value
         ap (λ (b : Bool). only b (getD values k 0)) (eq-eqb (beside numbers k) (beside numbers k) refl),
       )
 
--- the number beside a place
+-- the number beside a place, where an array has the jobs' numbers by falling need
+pub padded-beside : (o : Order) → jobCount o ≤ 48 → (at : List ℕ) → at ≡ padded 48 (jobOrder o) → (k : ℕ) → k < jobCount o →
+    beside at k ≡ numberAt o k
+padded-beside o few at e k l = rw e (getD-tabulate 48 (λ i. getD (jobOrder o) i 0) 0 k (omega arith))
+
 module _ {top : ℤ} {number : ℕ → ℕ} (o : Order) (t : Table) (m : TabledBy number top o t) where
   pub beside-is : (k : ℕ) → k < jobCount o → beside (t .«by_need») k ≡ numberAt o k
-  beside-is k l =
-      rw (m .by-need) (getD-tabulate 48 (λ i. getD (jobOrder o) i 0) 0 k (omega (arith, m .jobs, m .few-jobs)))
+  beside-is = padded-beside o (omega (arith, m .jobs, m .few-jobs)) (t .«by_need») (m .by-need)
 
   pub beside-once : EachOnce (t .n) (beside (t .«by_need»))
   beside-once = once-same (jobCount o) (t .n) (numberAt o) (beside (t .«by_need»)) (m .jobs) beside-is (held-once o)

@@ -21,7 +21,7 @@ use Rattle.sums.specs.Arrays.{RowOf}
 use Rattle.table.specs.ByClass.{held-by-class}
 use Rattle.table.specs.ClassRows.{few-listed}
 use Rattle.table.specs.Held.{numberAt, beside}
-use Rattle.table.specs.HeldLaws.{held-once, beside-once}
+use Rattle.table.specs.HeldLaws.{held-once, padded-beside, beside-once}
 use Rattle.table.specs.Passed.{listing}
 use Rattle.table.specs.Tabled.{Fine, GridOf, Tabled}
 use Rattle.table.specs.declared.Listing.{Listing}
@@ -87,7 +87,7 @@ tabled-made t few-jobs few-processors l g ls ts′ cs′ ls′ ks ms ns c d hl h
     job j l = getD-tabulate (t .jobs) (jobAt t) noJob j (few l)
 
     number : (k : ℕ) → k < jobCount (orderOf t) → beside ns k ≡ numberAt (orderOf t) k
-    number k l = rw hn (getD-tabulate 48 (λ i. getD (jobOrder (orderOf t)) i 0) 0 k (omega (arith, few l)))
+    number = padded-beside (orderOf t) (omega (arith, job-count t)) ns hn
 
     -- what each job has, at the places
     held : (xs xs′ : List ℕ) (value : Job → ℕ) → RowOf (λ k. nth xs (beside ns k) 0) (t .jobs) xs′ →

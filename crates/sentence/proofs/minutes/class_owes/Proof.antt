@@ -2,7 +2,7 @@ use mathlib.Core.Path.{sym, ap, _∙_}
 use Rattle.sums.specs.Sum.{sum-none}
 use Rattle.sentence.proofs.Adding.{sum-step, sum-to}
 use Rattle.sums.specs.Totals.{only-le}
-use Rattle.sentence.specs.Inside.{owesBy}
+use Rattle.reason.specs.Asked.{owesBy}
 use Prim.Native.Nat.{_-_, _*_, _≤_}
 use mathlib.Core.Path.{_≡_}
 use lib.Dec.{eqb}

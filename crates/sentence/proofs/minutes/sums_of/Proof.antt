@@ -3,7 +3,7 @@ use mathlib.Core.Path.{_≡_, refl, sym, ap, _∙_}
 use lib.ListN.{getD}
 use Rattle.sums.specs.Sum.{sum, sum-none}
 use Rattle.order.specs.Lead.{mostReach}
-use Rattle.sentence.specs.Inside.{owesBy}
+use Rattle.reason.specs.Asked.{owesBy}
 use Rattle.sentence.proofs.Adding.{sum-step, sum-to, hand-small}
 use borrow.Author.Needs.{needs}
 use native.Mathlib.Omega.{arith}
