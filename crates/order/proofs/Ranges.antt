@@ -3,7 +3,6 @@ use Prim.Native.Nat.{ℕ, _+_, _≤_, _<_}
 use mathlib.Core.Path.{_≡_, sym}
 use mathlib.Core.Bool.{Bool, true, false}
 use native.Mathlib.Omega.{arith}
-use native.Mathlib.Numerals.{add-one}
 use lib.Dec.{leb}
 use mathlib.Core.List.{List}
 use lib.ListN.{getD}
@@ -11,16 +10,17 @@ use Rattle.sums.specs.Lists.{tabulate}
 use Rattle.order.specs.Order.{Job}
 use Rattle.order.specs.Refusals.{first, fitsSome}
 use Rattle.order.specs.Table.{findingOf, jobAt, orderOf}
-use Rattle.order.specs.RefusalLaws.{first-tabulate, none-tabulate, fitsSome-tabulate, fitsNone-tabulate}
+use Rattle.order.specs.FindingLaws.{walk-found, walk-none}
+use Rattle.order.specs.RefusalLaws.{fitsSome-tabulate, fitsNone-tabulate}
 use Rattle.order.specs.declared.Order.{Order as OrderTable}
 
 -- the first job for which a test holds, found in a walk over a struct's jobs; or none is found
 module _ (test : Job → Bool) (t : OrderTable) (j : ℕ) (before : (e : ℕ) → e < j → test (jobAt t e) ≡ false) where
   pub job-found : j < t .jobs → test (jobAt t j) ≡ true → findingOf (j + 1) ≡ first test (orderOf t .jobs)
-  job-found l here = rw add-one (sym (first-tabulate test (t .jobs) (jobAt t) j l before here))
+  job-found = walk-found test (t .jobs) (jobAt t) j before
 
   pub no-job-found : t .jobs ≤ j → findingOf 0 ≡ first test (orderOf t .jobs)
-  no-job-found l = sym (none-tabulate test (t .jobs) (jobAt t) (λ e b. before e (omega arith)))
+  no-job-found = walk-none test (t .jobs) (jobAt t) j before
 
 -- some one of the first memories suffices; or none does
 module _ (need processors : ℕ) (memories : List ℕ) (i : ℕ) where

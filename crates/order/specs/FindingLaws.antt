@@ -5,10 +5,12 @@ use mathlib.Core.Bool.{Bool, true, false, not, and-false}
 use mathlib.Core.List.{List, [], _∷_}
 use native.Mathlib.Omega.{arith}
 use native.Mathlib.Nat.{le-of-suc-le-suc}
+use native.Mathlib.Numerals.{add-one}
 use borrow.Author.Tests.{le-leb, lt-leb}
 use lib.ListN.{length, getD}
-use Rattle.sums.specs.Lists.{All}
-use Rattle.order.specs.Refusals.{clear, holds, firstAfter, timeInRange}
+use Rattle.sums.specs.Lists.{All, tabulate}
+use Rattle.order.specs.Refusals.{clear, holds, firstAfter, first, timeInRange}
+use Rattle.order.specs.RefusalLaws.{first-tabulate, none-tabulate}
 use Rattle.order.specs.Table.{findingOf}
 
 -- no member passes a test, or the one at the place i does, and none before it
@@ -33,6 +35,26 @@ outcome {A} test d k (x ∷ xs) = go (test x) refl (outcome test d (suc k) xs)
     go false t (none-passes e a) = none-passes (rw t e) (t, a)
     go false t (passes-at i e l f p) =
         passes-at (suc i) (rw t (e ∙ ap (λ (n : ℕ). holds (suc n)) (omega arith))) (omega arith) (earlier i t f) p
+
+-- the first that passes, found in a walk over the places of a list; or none is found
+module _ {A : Type 0} (test : A → Bool) (n : ℕ) (f : ℕ → A) (j : ℕ) (before : (e : ℕ) → e < j → test (f e) ≡ false) where
+  pub walk-found : j < n → test (f j) ≡ true → findingOf (j + 1) ≡ first test (tabulate n f)
+  walk-found l here = rw add-one (sym (first-tabulate test n f j l before here))
+
+  pub walk-none : n ≤ j → findingOf 0 ≡ first test (tabulate n f)
+  walk-none l = sym (none-tabulate test n f (λ e b. before e (omega arith)))
+
+-- two searches through lists as long find the same where their tests agree
+agree-after : {A B : Type 0} (p : A → Bool) (q : B → Bool) (k n : ℕ) (f : ℕ → A) (g : ℕ → B) → ((i : ℕ) → p (f i) ≡ q (g i)) →
+    firstAfter k p (tabulate n f) ≡ firstAfter k q (tabulate n g)
+unfolding firstAfter
+agree-after p q k zero f g agree = refl
+agree-after p q k (suc n) f g agree =
+    rw (agree 0, agree-after p q (suc k) n (λ i. f (suc i)) (λ i. g (suc i)) (λ i. agree (suc i)))
+
+pub first-agree : {A B : Type 0} (p : A → Bool) (q : B → Bool) (n : ℕ) (f : ℕ → A) (g : ℕ → B) → ((i : ℕ) → p (f i) ≡ q (g i)) →
+    first p (tabulate n f) ≡ first q (tabulate n g)
+first-agree p q n f g agree = agree-after p q 0 n f g agree
 
 -- a number that stands for a finding
 pub finding-some : (j : ℕ) → 0 < j → findingOf j ≡ holds j

@@ -24,6 +24,8 @@ use Rattle.order.specs.Whole.{
   cut-less,
   le-cut,
   lt-cut,
+  pos-le,
+  pos-lt,
   le-gap,
   le-add,
   add-swap,
@@ -131,6 +133,24 @@ module _ (top : ℤ) where
             (subst (λ (z : ℤ). (bound +ℤ endAt (pos 0) top) <ℤ z) (sym e)
             (subst (λ (z : ℤ). z <ℤ pos reach) (end-from bound top) (c .1 l))),
       )
+
+  -- bounds are ordered as their reaches are, and a larger reach has the bound so much larger
+  pub bound-le : (a b : ℕ) → (boundAt top a ≤ℤ boundAt top b) ↔ (a ≤ b)
+  bound-le a b =
+      let out = negℤ (endAt (pos 0) top) in (
+        λ l. pos-le a b .0 (add-le-of (pos a) (pos b) out l),
+        λ l. add-le (pos a) (pos b) out (pos-le a b .1 l),
+      )
+
+  pub bound-lt : (a b : ℕ) → (boundAt top a <ℤ boundAt top b) ↔ (a < b)
+  bound-lt a b =
+      let out = negℤ (endAt (pos 0) top) in (
+        λ l. pos-lt a b .0 (add-lt-of (pos a) (pos b) out l),
+        λ l. add-lt (pos a) (pos b) out (pos-lt a b .1 l),
+      )
+
+  pub bound-more : (a n : ℕ) → boundAt top a +ℤ pos n ≡ boundAt top (a + n)
+  bound-more a n = add-swap (pos a) (negℤ (endAt (pos 0) top)) (pos n)
 
 -- Numbers in range ---------------------------------------------------------------------------------------------------------
 

@@ -1,7 +1,7 @@
 -- Document 01, "Order and file": an order is a list of processors and a list of jobs, numbered from 1 in input order.
 -- Times are whole minutes from a common start, minute 0.
 use Prim.Native.Nat.{ℕ, _≤_}
-use mathlib.Core.List.{List}
+use mathlib.Core.List.{List, []}
 use lib.IntN.{ℤ, pos, _+ℤ_}
 use lib.ListN.{length}
 use Rattle.sums.specs.Lists.{nth}
@@ -17,6 +17,10 @@ pub record Job : Type 0 where
 pub record Order : Type 0 where
   pub memories : List ℕ
   pub jobs : List Job
+
+-- the order that has none of either
+abbrev pub noOrder : Order
+noOrder = record { memories = []; jobs = [] }
 
 -- how many processors and jobs there are
 abbrev pub processorCount : Order → ℕ

@@ -24,6 +24,7 @@ use Rattle.order.specs.declared.Refusal.the-variants.{
   BookFull,
   ReadyOutOfRange,
   BadWindow,
+  LowAboveHigh,
 }
 use Rattle.order.specs.declared.Acceptance.{Acceptance}
 use Rattle.order.specs.declared.Acceptance.the-variants.{Accepted, Refused}
@@ -77,6 +78,7 @@ refusalTold BadFile = refused 12 0
 refusalTold BookFull = refused 14 0
 refusalTold (ReadyOutOfRange job) = refused 15 job
 refusalTold (BadWindow processor) = refused 16 processor
+refusalTold (LowAboveHigh job) = refused 19 job
 
 -- the number of a verdict, and what it carries; 0 where nothing is refused
 abbrev pub numberBy : Verdict → ℕ

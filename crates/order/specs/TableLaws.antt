@@ -25,6 +25,7 @@ use Rattle.order.specs.declared.Refusal.the-variants.{
   BookFull,
   ReadyOutOfRange,
   BadWindow,
+  LowAboveHigh,
 }
 
 -- the number of a refusal, and what it carries
@@ -44,6 +45,7 @@ refused-told BadFile = (12, 0, refl)
 refused-told BookFull = (14, 0, refl)
 refused-told (ReadyOutOfRange j) = (15, j, refl)
 refused-told (BadWindow i) = (16, i, refl)
+refused-told (LowAboveHigh j) = (19, j, refl)
 
 -- none of them is 10, which comes with its reason
 pub not-ten : (r : Refusal) → eqb (numberBy (refusalTold r)) 10 ≡ false
@@ -62,6 +64,7 @@ not-ten BadFile = refl
 not-ten BookFull = refl
 not-ten (ReadyOutOfRange j) = refl
 not-ten (BadWindow i) = refl
+not-ten (LowAboveHigh j) = refl
 
 -- where the first rows refuse, so does the whole table, whatever the values are that would have been answered
 pub refused-answer : {A : Type 0} (rows later : List TableRow) (r : Refusal) (a b : A) → refusalTold r ≡ judge rows →
@@ -69,6 +72,10 @@ pub refused-answer : {A : Type 0} (rows later : List TableRow) (r : Refusal) (a 
 refused-answer rows later r a b e =
     let t = refused-told r in
     rw (judge-refused-append rows later (t .0) (t .1) (sym e ∙ t .2), t .2)
+
+-- a refusal answers no value
+pub same-refusal : {A : Type 0} (v : Verdict) (r : Refusal) (a b : A) → v ≡ refusalTold r → answerBy (refusalTold r) a ≡ answerBy v b
+same-refusal v r a b e = let t = refused-told r in rw (e, t .2)
 
 -- what an answer tells of the table's verdict
 module _ {A : Type 0} where

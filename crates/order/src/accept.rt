@@ -1,5 +1,5 @@
 // Acceptance of an order: refusals 1 to 7 and 13, for every entry point. `first_bad_time`, `first_bad_due`, `first_bad_maker` and
-// `first_unfit` serve `accept` alone and have a `requires`.
+// `first_unfit` serve `accept`, the last three the acceptance of an estimate too; all four have a `requires`.
 use super::Acceptance;
 use super::MOST_JOBS;
 use super::MOST_MAKERS;
@@ -55,7 +55,7 @@ fn first_bad_time(order: Order) -> u32
 }
 
 // The first job whose due time is not in range, or 0.
-fn first_bad_due(order: Order) -> u32
+pub fn first_bad_due(order: Order) -> u32
     requires { ⌜ order .jobs ≤ 48 ⌝ }
     ensures { λ r. ⌜ findingOf r ≡ first (λ (job : Job). not (dueInRange (job .due))) (orderOf order .jobs) ⌝ }
 {
@@ -81,7 +81,7 @@ fn due_in_range(due: i32) -> bool
 }
 
 // The first job whose maker number is not in range, or 0.
-fn first_bad_maker(order: Order) -> u32
+pub fn first_bad_maker(order: Order) -> u32
     requires { ⌜ order .jobs ≤ 48 ⌝ }
     ensures { λ r. ⌜ findingOf r ≡ first (λ (job : Job). not (makerInRange (job .maker))) (orderOf order .jobs) ⌝ }
 {
@@ -122,7 +122,7 @@ fn fits_some(memories: [u32; 16], processors: usize, need: u32) -> bool
 }
 
 // The first job that fits no processor, or 0.
-fn first_unfit(order: Order) -> u32
+pub fn first_unfit(order: Order) -> u32
     requires { ⌜ (order .processors ≤ 16) × (order .jobs ≤ 48) ⌝ }
     ensures { λ r. ⌜ findingOf r ≡ first (λ (job : Job). not (fitsSome (job .need) (orderOf order .memories))) (orderOf order .jobs) ⌝ }
 {

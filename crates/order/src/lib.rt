@@ -1,6 +1,7 @@
 // What an order is (document 01, "Order and file"; the maker: document 02, §4), whether it is accepted, and its orderings.
 pub mod accept; // refusals 1 to 7 and 13
 pub mod deadline; // a job's end, and the end cut off at minute 0
+pub mod none; // the order of no processor and no job
 pub mod orderings; // processors by falling memory, jobs by falling need
 pub mod told; // refusals as numbers
 
@@ -41,6 +42,7 @@ pub enum Refusal {
     BookFull,
     ReadyOutOfRange(u32),
     BadWindow(u32),
+    LowAboveHigh(u32),
 }
 
 pub enum Acceptance {

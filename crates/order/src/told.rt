@@ -24,6 +24,7 @@ pub fn number_of(refusal: Refusal) -> u32
         Refusal::BookFull => 14,
         Refusal::ReadyOutOfRange(_) => 15,
         Refusal::BadWindow(_) => 16,
+        Refusal::LowAboveHigh(_) => 19,
     }
 }
 
@@ -47,5 +48,6 @@ pub fn carried_of(refusal: Refusal) -> u32
         Refusal::BookFull => 0,
         Refusal::ReadyOutOfRange(job) => job,
         Refusal::BadWindow(processor) => processor,
+        Refusal::LowAboveHigh(job) => job,
     }
 }
