@@ -1,12 +1,12 @@
 -- How the reader puts its answer together: 12, then the counts, then the whole of acceptance decide.
 use Prim.Native.Nat.{ℕ, _≤_}
-use mathlib.Core.Path.{_≡_, refl, sym, ap, _∙_}
+use mathlib.Core.Path.{_≡_, refl, sym, ap, subst, _∙_}
 use mathlib.Core.Bool.{Bool, true, false}
-use mathlib.Core.List.{List}
+use mathlib.Core.List.{List, _++_}
 use native.Mathlib.Omega.{arith}
 use Rattle.sums.specs.Places.{length-tabulate}
-use Rattle.order.specs.Order.{Order, processorCount, jobCount}
-use Rattle.order.specs.Refusals.{limits, Verdict, refused, judge, answer, answerBy, countRows, jobRows, orderRows}
+use Rattle.order.specs.Order.{Order, noOrder, processorCount, jobCount}
+use Rattle.order.specs.Refusals.{limits, TableRow, Verdict, accepted, refused, judge, answer, answerBy, countRows, jobRows, orderRows}
 use Rattle.order.specs.RefusalLaws.{judge-refused-append, counts-in-limits}
 use Rattle.order.specs.Table.{orderOf, tableOf, acceptanceTold}
 use Rattle.order.specs.TableLaws.{refused-told}
@@ -16,17 +16,14 @@ use Rattle.order.specs.declared.Refusal.{Refusal}
 use Rattle.order.specs.declared.Refusal.the-variants.{BadFile}
 use Rattle.order.specs.declared.Acceptance.{Acceptance}
 use Rattle.order.specs.declared.Acceptance.the-variants.{Accepted, Refused}
-use Rattle.order_file.specs.File.{processorsOf, jobsOf, goodFile, orderIn, readRows, orderBy, noOrder}
-use Rattle.order_file.specs.Told.{readTold}
+use Rattle.order_file.specs.File.{processorsOf, jobsOf, goodFile, orderIn, readRows, orderBy}
+use Rattle.order_file.specs.ReaderLaws.{read-refused, read-accepted}
+use Rattle.order_file.specs.Told.{readTold, ReadBy}
 use Rattle.order_file.specs.Inside.{trailerOf, trailerBy, Within, Placed}
 use Rattle.order_file.specs.declared.Lists.{Lists}
 use Rattle.order_file.specs.declared.OrderRead.{OrderRead}
 use Rattle.order_file.specs.declared.Trailer.{Trailer}
 use Rattle.order_file.specs.declared.Trailer.the-variants.{Good, Bad}
-
--- what the reader answers, by the verdict
-abbrev pub ReadBy : Verdict → Order → OrderRead → Type 0
-ReadBy v o r = (readTold r ≡ answerBy v o) × (r .order ≡ tableOf (orderBy v o))
 
 -- a refusal, with the empty order
 refused-read : (v : Verdict) (o : Order) (r : OrderRead) (number carried : ℕ) → v ≡ refused number carried →
@@ -68,32 +65,34 @@ module _ (f : List ℕ) where
     unfolding orderIn
     jobs-are = length-tabulate (jobsOf f) _ ∙ sym (places t l w good .jobs-are)
 
-    module _ (counts : Acceptance) (e : acceptanceTold counts ≡ judge (countRows limits (l .processors) (l .jobs))) where
-      pub counts-refused : (r : OrderRead) (why : Refusal) → counts ≡ Refused why → r .status ≡ counts →
-          r .order ≡ tableOf noOrder → ReadBy (judge (readRows f)) (orderIn f) r
-      counts-refused r why is-refused s empty =
-          let told = refused-told why in
-          let v : acceptanceTold counts ≡ refused (told .0) (told .1) = ap acceptanceTold is-refused ∙ told .2 in
-          let rows = countRows limits (processorCount (orderIn f)) (jobCount (orderIn f)) in
-          let w : judge rows ≡ refused (told .0) (told .1) = rw (processors-are, jobs-are) (sym e ∙ v) in
-          refused-read (judge (readRows f)) (orderIn f) r (told .0) (told .1)
-          (order-decides ∙ judge-refused-append rows (jobRows (orderIn f)) (told .0) (told .1) w)
-          (ap acceptanceTold s ∙ v) empty
+    counts-are : countRows limits (l .processors) (l .jobs) ≡ countRows limits (processorCount (orderIn f)) (jobCount (orderIn f))
+    counts-are = rw (processors-are, jobs-are)
 
-      module _ (is-accepted : counts ≡ Accepted) where
-        pub counts-few : (l .processors ≤ 16) × (l .jobs ≤ 48)
-        counts-few = let h = counts-in-limits (l .processors) (l .jobs) (sym e ∙ ap acceptanceTold is-accepted) in (h .1, h .3)
+    -- what was read where the counts are judged
+    module _ (c : OrderRead) (e : ReadBy (judge (countRows limits (l .processors) (l .jobs))) (orderIn f) c) where
+      -- the counts are refused, and the whole table answers the same
+      pub counts-refused : (why : Refusal) → c .status ≡ Refused why → ReadBy (judge (readRows f)) (orderIn f) c
+      counts-refused why is-refused =
+          let told = refused-told why in
+          let rows = countRows limits (l .processors) (l .jobs) in
+          let v : judge rows ≡ refused (told .0) (told .1) = read-refused (judge rows) (orderIn f) c (e .0) why is-refused ∙ told .2 in
+          let whole : judge (readRows f) ≡ judge rows
+          = order-decides
+          ∙ (ap (λ (r : List TableRow). judge (r ++ jobRows (orderIn f))) (sym counts-are)
+          ∙ (judge-refused-append rows (jobRows (orderIn f)) (told .0) (told .1) v ∙ sym v)) in
+          subst (λ (w : Verdict). ReadBy w (orderIn f) c) (sym whole) e
+
+      module _ (is-accepted : c .status ≡ Accepted) where
+        was-good : (judge (countRows limits (l .processors) (l .jobs)) ≡ accepted) × (orderOf (c .order) ≡ orderIn f)
+        was-good = read-accepted (judge (countRows limits (l .processors) (l .jobs))) (orderIn f) c (e .0) is-accepted
 
         -- the struct that was read stands for the file's order
-        stands : (order : OrderTable) → order ≡ tableOf (orderIn f) → orderOf order ≡ orderIn f
-        stands order eo =
-            ap orderOf eo
-            ∙ tableOf-orderOf (orderIn f) (omega (arith, counts-few, processors-are)) (omega (arith, counts-few, jobs-are))
+        stands : c .order ≡ tableOf (orderIn f)
+        stands = e .1 ∙ ap (λ (v : Verdict). tableOf (orderBy v (orderIn f))) (was-good .0)
 
-        module _ (order : OrderTable) (status : Acceptance) (eo : order ≡ tableOf (orderIn f))
-            (es : acceptanceTold status ≡ judge (orderRows limits (orderOf order))) where
+        module _ (status : Acceptance) (es : acceptanceTold status ≡ judge (orderRows limits (orderOf (c .order)))) where
           verdict : judge (readRows f) ≡ acceptanceTold status
-          verdict = order-decides ∙ ap (λ (o : Order). judge (orderRows limits o)) (sym (stands order eo)) ∙ sym es
+          verdict = order-decides ∙ ap (λ (o : Order). judge (orderRows limits o)) (sym (was-good .1)) ∙ sym es
 
           pub order-refused : (r : OrderRead) (why : Refusal) → status ≡ Refused why → r .status ≡ status →
               r .order ≡ tableOf noOrder → ReadBy (judge (readRows f)) (orderIn f) r
@@ -103,5 +102,29 @@ module _ (f : List ℕ) where
               refused-read (judge (readRows f)) (orderIn f) r (told .0) (told .1) (verdict ∙ v) (ap acceptanceTold s ∙ v) empty
 
           pub order-accepted : status ≡ Accepted →
-              ReadBy (judge (readRows f)) (orderIn f) (record { status = status; order = order })
-          order-accepted ok = rw (verdict, ap acceptanceTold ok) (ap answer (stands order eo), eo)
+              ReadBy (judge (readRows f)) (orderIn f) (record { status = status; order = c .order })
+          order-accepted ok = rw (verdict, ap acceptanceTold ok) (ap answer (was-good .1), stands)
+
+-- the reader where the counts are judged: the lists l are the file's
+module _ (f : List ℕ) (l : Lists) (p : Placed f (l .«processors_at») (l .«jobs_at») (l .processors) (l .jobs)) (counts : Acceptance)
+    (e : acceptanceTold counts ≡ judge (countRows limits (l .processors) (l .jobs))) where
+  pub few-counted : counts ≡ Accepted → (l .processors ≤ 16) × (l .jobs ≤ 48)
+  few-counted is = let h = counts-in-limits (l .processors) (l .jobs) (sym e ∙ ap acceptanceTold is) in (h .1, h .3)
+
+  pub not-counted : (r : OrderRead) (why : Refusal) → counts ≡ Refused why → r .status ≡ counts → r .order ≡ tableOf noOrder →
+      ReadBy (judge (countRows limits (l .processors) (l .jobs))) (orderIn f) r
+  not-counted r why is s empty =
+      let told = refused-told why in
+      let v : acceptanceTold counts ≡ refused (told .0) (told .1) = ap acceptanceTold is ∙ told .2 in
+      refused-read _ (orderIn f) r (told .0) (told .1) (sym e ∙ v) (ap acceptanceTold s ∙ v) empty
+
+  pub counted : (order : OrderTable) → counts ≡ Accepted → order ≡ tableOf (orderIn f) →
+      ReadBy (judge (countRows limits (l .processors) (l .jobs))) (orderIn f) (record { status = counts; order = order })
+  unfolding orderIn
+  counted order is eo =
+      let few = few-counted is in
+      let m : processorCount (orderIn f) ≡ l .processors = length-tabulate (processorsOf f) _ ∙ sym (p .processors-are) in
+      let n : jobCount (orderIn f) ≡ l .jobs = length-tabulate (jobsOf f) _ ∙ sym (p .jobs-are) in
+      let stands : orderOf order ≡ orderIn f
+      = ap orderOf eo ∙ tableOf-orderOf (orderIn f) (omega (arith, few, m)) (omega (arith, few, n)) in
+      rw (sym e ∙ ap acceptanceTold is, ap acceptanceTold is) (ap answer stands, eo)

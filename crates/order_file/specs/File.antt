@@ -7,7 +7,7 @@ use mathlib.Core.List.{List, [], _∷_, _++_}
 use lib.Dec.{leb, eqb}
 use lib.ListN.{length, take, drop}
 use Rattle.sums.specs.Lists.{tabulate}
-use Rattle.order.specs.Order.{Job, Order, processorCount, jobCount}
+use Rattle.order.specs.Order.{Job, Order, noOrder, processorCount, jobCount}
 use Rattle.order.specs.Refusals.{
   limits,
   shortestFile,
@@ -79,9 +79,6 @@ unfoldable pub readRows : List ℕ → List TableRow
 readRows f = fileRow (goodFile f) ∷ orderRows limits (orderIn f)
 
 -- the order that the reader answers; none where it refuses
-abbrev pub noOrder : Order
-noOrder = record { memories = []; jobs = [] }
-
 abbrev pub orderBy : Verdict → Order → Order
 orderBy accepted o = o
 orderBy (refused number carried) o = noOrder

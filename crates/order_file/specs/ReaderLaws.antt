@@ -3,7 +3,8 @@
 use Prim.Native.Nat.{ℕ}
 use mathlib.Core.Path.{_≡_, sym, ap, _∙_}
 use mathlib.Core.List.{List, [], _∷_, _++_}
-use Rattle.order.specs.Refusals.{limits, TableRow, accepted, judge, answerBy, orderRows, fileRow, Accepted}
+use Rattle.order.specs.Order.{Order}
+use Rattle.order.specs.Refusals.{limits, TableRow, Verdict, accepted, judge, answerBy, orderRows, fileRow, Accepted}
 use Rattle.order.specs.RefusalLaws.{judge-accepted, judge-clear, judge-refused-append}
 use Rattle.order.specs.Table.{orderOf, refusalTold, acceptanceTold}
 use Rattle.order.specs.TableLaws.{refused-told, verdict-refused, verdict-accepted}
@@ -14,18 +15,26 @@ use Rattle.order_file.specs.File.{goodFile, orderIn, readRows}
 use Rattle.order_file.specs.Told.{readTold}
 use Rattle.order_file.specs.declared.OrderRead.{OrderRead}
 
+-- what a status tells of the verdict, whichever rows were judged
+module _ (v : Verdict) (o : Order) (r : OrderRead) (e : readTold r ≡ answerBy v o) where
+  pub read-refused : (why : Refusal) → r .status ≡ Refuses why → v ≡ refusalTold why
+  read-refused why is =
+      verdict-refused v why (orderOf (r .order)) o
+      (sym (ap (λ (a : Acceptance). answerBy (acceptanceTold a) (orderOf (r .order))) is) ∙ e)
+
+  pub read-accepted : r .status ≡ Accepts → (v ≡ accepted) × (orderOf (r .order) ≡ o)
+  read-accepted is =
+      verdict-accepted v (orderOf (r .order)) o
+      (sym (ap (λ (a : Acceptance). answerBy (acceptanceTold a) (orderOf (r .order))) is) ∙ e)
+
 module _ (f : List ℕ) (r : OrderRead) (e : readTold r ≡ answerBy (judge (readRows f)) (orderIn f)) where
   -- the reader refuses
   pub reader-refused : (why : Refusal) → r .status ≡ Refuses why → judge (readRows f) ≡ refusalTold why
-  reader-refused why is =
-      verdict-refused (judge (readRows f)) why (orderOf (r .order)) (orderIn f)
-      (sym (ap (λ (a : Acceptance). answerBy (acceptanceTold a) (orderOf (r .order))) is) ∙ e)
+  reader-refused = read-refused (judge (readRows f)) (orderIn f) r e
 
   -- the reader accepts
   reader-accepted : r .status ≡ Accepts → (judge (readRows f) ≡ accepted) × (orderOf (r .order) ≡ orderIn f)
-  reader-accepted is =
-      verdict-accepted (judge (readRows f)) (orderOf (r .order)) (orderIn f)
-      (sym (ap (λ (a : Acceptance). answerBy (acceptanceTold a) (orderOf (r .order))) is) ∙ e)
+  reader-accepted = read-accepted (judge (readRows f)) (orderIn f) r e
 
   pub order-is : r .status ≡ Accepts → orderOf (r .order) ≡ orderIn f
   order-is is = reader-accepted is .1

@@ -1,5 +1,5 @@
-// The reader: refusal 12, then 1 to 7 with 13 after 6. Only `read_order` is a public entry point; the others serve it, `read_trailer` the
-// crates above too.
+// The reader: refusal 12, then 1 to 7 with 13 after 6. Only `read_order` is a public entry point; the others serve it, `read_trailer` and
+// `read_counted`, which has a `requires`, the crates above too.
 use super::JOB_WIDTH;
 use super::LONGEST_FILE;
 use super::Lists;
@@ -12,15 +12,17 @@ use super::bytes::to_signed;
 use order::Acceptance;
 use order::Order;
 use order::Refusal;
+use order::none::no_order;
 ghost use mathlib.Core.Path.{_≡_};
 ghost use Prim.Native.Nat.{ℕ, _+_, _*_, _<_, _≤_};
 ghost use lib.ListN.{length};
 ghost use lib.IntN.{pos};
-ghost use Rattle.order.specs.Refusals.{judge, answerBy};
+ghost use Rattle.order.specs.Order.{noOrder};
+ghost use Rattle.order.specs.Refusals.{limits, judge, answerBy, countRows};
 ghost use Rattle.order.specs.Table.{tableOf};
 ghost use Rattle.order_file.specs.Bytes.{number4, signed};
-ghost use Rattle.order_file.specs.File.{jobWidth, listsAgree, orderIn, readRows, orderBy, noOrder};
-ghost use Rattle.order_file.specs.Told.{readTold};
+ghost use Rattle.order_file.specs.File.{jobWidth, listsAgree, orderIn, readRows, orderBy};
+ghost use Rattle.order_file.specs.Told.{readTold, ReadBy};
 ghost use Rattle.order_file.specs.Inside.{trailerOf, Within, paddedTo, Placed};
 
 // Whether the lists lie one after the other from byte 0.
@@ -143,15 +145,26 @@ fn read_lists(
 fn refuse(status: Acceptance) -> OrderRead
     ensures { λ r. ⌜ (r .status ≡ status) × (r .order ≡ tableOf noOrder) ⌝ }
 {
-    let order = Order {
-        processors: 0,
-        memories: [0u32; 16],
-        jobs: 0,
-        times: [0u32; 48],
-        dues: [0i32; 48],
-        needs: [0u32; 48],
-        makers: [0u32; 48],
+    let order = no_order();
+    OrderRead { status, order }
+}
+
+// The order of a file's lists as it stands: of its table the rows of the counts alone are judged.
+pub fn read_counted(file: &[u8], lists: Lists) -> OrderRead
+    requires { ⌜ Placed (now file) (lists .«processors_at») (lists .«jobs_at») (lists .processors) (lists .jobs) ⌝ }
+    ensures { λ r. ⌜ ReadBy (judge (countRows limits (lists .processors) (lists .jobs))) (orderIn (now (file .entry))) r ⌝ }
+{
+    let status = order::accept::accept_counts(lists.processors as u32, lists.jobs as u32);
+    let Acceptance::Accepted = status else {
+        return refuse(status);
     };
+    let order = read_lists(
+        file,
+        lists.processors_at,
+        lists.jobs_at,
+        lists.processors,
+        lists.jobs,
+    );
     OrderRead { status, order }
 }
 
@@ -163,17 +176,12 @@ pub fn read_order(file: &[u8]) -> OrderRead
     let Trailer::Good(lists) = read_trailer(file) else {
         return refuse(Acceptance::Refused(Refusal::BadFile));
     };
-    let counts = order::accept::accept_counts(lists.processors as u32, lists.jobs as u32);
+    let counted = read_counted(file, lists);
+    let counts = counted.status;
     let Acceptance::Accepted = counts else {
-        return refuse(counts);
+        return counted;
     };
-    let order = read_lists(
-        file,
-        lists.processors_at,
-        lists.jobs_at,
-        lists.processors,
-        lists.jobs,
-    );
+    let order = counted.order;
     let status = order::accept::accept(order);
     let Acceptance::Accepted = status else {
         return refuse(status);

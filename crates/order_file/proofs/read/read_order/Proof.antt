@@ -1,12 +1,5 @@
 -- `read_order`: the file, the counts and the whole order are judged one after the other, as the refusal table has them.
-use Rattle.order_file.proofs.Reading.{
-  bad-file,
-  places,
-  counts-refused,
-  counts-few,
-  order-refused,
-  order-accepted,
-}
+use Rattle.order_file.proofs.Reading.{bad-file, places, counts-refused, order-refused, order-accepted}
 use borrow.Author.Needs.{needs}
 use Rattle.order_file.proofs.read.read_order.Statement.{statement}
 use Rattle.order_file.proofs.read.read_order.Tie as tie
@@ -30,22 +23,12 @@ returns c =
     bad-file f _ _ (t .read-trailer .ensures .0) (c .before .enum-told .given .1)
     (c .refuse .ensures .0) (c .refuse .ensures .1)
 
-cast-accept-counts : tie.Need-cast-accept-counts
-cast-accept-counts c =
-    let l = c .before .before in
+read-counted-requires : tie.Need-read-counted-requires
+read-counted-requires c κs =
+    let l = c .before in
     let t = l .before .before in
     let f = t .before .before .args .file .now in
-    let p = places f _ _ (t .read-trailer .ensures .1) (l .lists .given .1) in search needs
-
-cast-accept-counts-2 : tie.Need-cast-accept-counts-2
-cast-accept-counts-2 c =
-    let l = c .before .before .before in
-    let t = l .before .before in
-    let f = t .before .before .args .file .now in
-    let p = places f _ _ (t .read-trailer .ensures .1) (l .lists .given .1) in search needs
-
-accept-counts-requires : tie.Need-accept-counts-requires
-accept-counts-requires c κs = search needs
+    places f _ _ (t .read-trailer .ensures .1) (l .lists .given .1)
 
 enum-told-2 : tie.Need-enum-told-2
 enum-told-2 c = search needs
@@ -53,27 +36,13 @@ enum-told-2 c = search needs
 enum-told-3 : tie.Need-enum-told-3
 enum-told-3 c = search needs
 
-refuse-requires-2 : tie.Need-refuse-requires-2
-refuse-requires-2 c κs = search needs
-
 returns-2 : tie.Need-returns-2
 returns-2 c =
-    let l = c .before .before .before .before .before .before .before in
+    let l = c .before .before .before .before in
     let t = l .before .before in
     let f = t .before .before .args .file .now in
     counts-refused f _ _ (t .read-trailer .ensures .0) (t .read-trailer .ensures .1) (l .lists .given .1)
-    _ (c .before .before .before .accept-counts .ensures)
-    _ _ (c .before .enum-told3 .given .1) (c .refuse2 .ensures .0) (c .refuse2 .ensures .1)
-
-read-lists-requires : tie.Need-read-lists-requires
-read-lists-requires c κs =
-    let l = c .before .before .before .before .before .before in
-    let t = l .before .before in
-    let f = t .before .before .args .file .now in (
-      counts-few f _ _ (t .read-trailer .ensures .0) (t .read-trailer .ensures .1) (l .lists .given .1)
-          _ (c .before .before .accept-counts .ensures) (c .enum-told2 .given .1),
-      places f _ _ (t .read-trailer .ensures .1) (l .lists .given .1),
-    )
+    _ (c .before .before .read-counted .ensures) _ (c .enum-told3 .given .1)
 
 accept-requires : tie.Need-accept-requires
 accept-requires c κs = search needs
@@ -84,29 +53,29 @@ enum-told-4 c = search needs
 enum-told-5 : tie.Need-enum-told-5
 enum-told-5 c = search needs
 
-refuse-requires-3 : tie.Need-refuse-requires-3
-refuse-requires-3 c κs = search needs
+refuse-requires-2 : tie.Need-refuse-requires-2
+refuse-requires-2 c κs = search needs
 
 returns-3 : tie.Need-returns-3
 returns-3 c =
-    let l = c .before .before .before .before .before .before .before .before .before .before .before in
+    let n = c .before .before .before .before .before .before .before in
+    let l = n .before .before in
     let t = l .before .before in
     let f = t .before .before .args .file .now in
-    let o = c .before .before .before .before in
     order-refused f _ _ (t .read-trailer .ensures .0) (t .read-trailer .ensures .1) (l .lists .given .1)
-    _ (o .before .before .before .accept-counts .ensures) (o .before .enum-told2 .given .1)
-    _ _ (o .read-lists .ensures) (c .before .before .before .accept .ensures)
-    _ _ (c .before .enum-told5 .given .1) (c .refuse3 .ensures .0) (c .refuse3 .ensures .1)
+    _ (n .read-counted .ensures) (c .before .before .before .before .before .enum-told2 .given .1)
+    _ (c .before .before .before .accept .ensures)
+    _ _ (c .before .enum-told5 .given .1) (c .refuse2 .ensures .0) (c .refuse2 .ensures .1)
 
 returns-4 : tie.Need-returns-4
 returns-4 c =
-    let l = c .before .before .before .before .before .before .before .before .before .before in
+    let n = c .before .before .before .before .before .before in
+    let l = n .before .before in
     let t = l .before .before in
     let f = t .before .before .args .file .now in
-    let o = c .before .before .before in
     order-accepted f _ _ (t .read-trailer .ensures .0) (t .read-trailer .ensures .1) (l .lists .given .1)
-    _ (o .before .before .before .accept-counts .ensures) (o .before .enum-told2 .given .1)
-    _ _ (o .read-lists .ensures) (c .before .before .accept .ensures) (c .enum-told4 .given .1)
+    _ (n .read-counted .ensures) (c .before .before .before .before .enum-told2 .given .1)
+    _ (c .before .before .accept .ensures) (c .enum-told4 .given .1)
 
 pub read-order-spec : {M : Type 1} → statement M
 read-order-spec =
@@ -117,17 +86,13 @@ read-order-spec =
     enum-told
     refuse-requires
     returns
-    cast-accept-counts
-    cast-accept-counts-2
-    accept-counts-requires
+    read-counted-requires
     enum-told-2
     enum-told-3
-    refuse-requires-2
     returns-2
-    read-lists-requires
     accept-requires
     enum-told-4
     enum-told-5
-    refuse-requires-3
+    refuse-requires-2
     returns-3
     returns-4)
