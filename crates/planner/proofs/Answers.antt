@@ -64,7 +64,7 @@ use Rattle.planner.specs.Told.{plannedTold, rowsOf, reasonCarried, tight
 use Rattle.planner.specs.Judged.{judgedTold, tightnessJudged, whyJudged, JudgedAt, JudgedLeast}
 use Rattle.planner.specs.Written.{Written, BufferBy}
 use Rattle.planner.specs.Making.{MadeOf}
-use Rattle.planner.specs.LeastRead.{read-least}
+use Rattle.profile.specs.LeastRead.{read-least}
 use Rattle.order.specs.LeadLaws.{workable}
 use Rattle.profile.specs.LeastRange.{least-in-range}
 use Rattle.profile.specs.Threshold.{no-reason-from}

@@ -6,7 +6,6 @@ pub mod JoinedPlan
 pub mod Told
 pub mod Judged
 pub mod RowLaws
-pub mod LeastRead
 pub mod Demand
 pub mod DemandMet
 pub mod AnswerLaws

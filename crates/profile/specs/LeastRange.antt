@@ -14,7 +14,6 @@ use Rattle.sums.specs.Sum.{sum}
 use Rattle.sums.specs.Lists.{All, In, only}
 use Rattle.sums.specs.Members.{All-map, All-both, All-at}
 use Rattle.sums.specs.Totals.{only-le, total-most}
-use Rattle.sums.specs.Most.{ceiling, largest-le, most-le, ceiling-le}
 use Rattle.order.specs.Order.{Job, Order, jobCount, Numbers, noJob, jobOf, endAt}
 use Rattle.order.specs.Sorted.{dueTimes}
 use Rattle.order.specs.Class.{classes, classOf, processorsIn, processorsTo}
@@ -24,11 +23,11 @@ use Rattle.order.specs.Refusals.{Accepted, boundInRange}
 use Rattle.order.specs.RefusalLaws.{Acceptable, accepted-iff, dues-in-range}
 use Rattle.order.specs.Whole.{subℕ-pos, subℕ-neg}
 use Rattle.profile.specs.Search.{choices}
-use Rattle.profile.specs.Least.{owedAt, weightAt, weightFrom, heaviest, leastReach, leastLateness}
+use Rattle.profile.specs.Least.{owedAt, weightAt, weightFrom, leastReach, leastLateness}
 use Rattle.profile.specs.Ranking.{choices-in}
 use Rattle.profile.specs.SearchLaws.{dueTimes-fall, in-due}
-use Rattle.order.specs.ClassLaws.{processorsIn-some, processorsTo-some}
-use Rattle.profile.specs.LeastLaws.{heaviest-le}
+use Rattle.order.specs.ClassLaws.{processorsIn-some}
+use Rattle.profile.specs.LeastLaws.{reach-le}
 
 module _ (o : Order) (a : Acceptable o) where
   due-lead-most : (d : ℤ) → In d (dueTimes o) → lead lastDue d ≤ 2000000
@@ -69,17 +68,10 @@ module _ (o : Order) (a : Acceptable o) where
       )
 
   leastReach-most : leastReach lastDue o ≤ 6800000
-  unfolding leastReach
   leastReach-most =
-      omega (
-        arith,
-        largest-le (λ (job : Job). job .time + lead lastDue (job .due)) (o .jobs) 6800000
-            (All-map _ _ (o .jobs) (λ (job : Job) x. omega (arith, x .0 .1, lead-most (job .due) (x .1)))
-            (All-both _ _ (o .jobs) (a .times) (dues-in-range o a))),
-        most-le (length (classes o)) 6800000 (λ k. ceiling (heaviest lastDue o (suc k)) (processorsTo o (suc k))) (λ k l.
-            ceiling-le (heaviest lastDue o (suc k)) (processorsTo o (suc k)) 6800000 (processorsTo-some o k l)
-            (heaviest-le o lastDue (suc k) (processorsTo o (suc k) * 6800000) (each k l))),
-      )
+      reach-le o lastDue 6800000
+      (All-map _ _ (o .jobs) (λ (job : Job) x. omega (arith, x .0 .1, lead-most (job .due) (x .1)))
+      (All-both _ _ (o .jobs) (a .times) (dues-in-range o a))) each
     where
       each : (k : ℕ) → k < length (classes o) → (es : List ℤ) → In es (choices (suc k) (dueTimes o)) →
           weightFrom lastDue o 1 es ≤ processorsTo o (suc k) * 6800000

@@ -10,5 +10,7 @@ pub mod StandingLaws
 pub mod MinutesLaws
 pub mod Weights
 pub mod LeastLaws
+pub mod RiseLaws
 pub mod Threshold
 pub mod LeastRange
+pub mod LeastRead

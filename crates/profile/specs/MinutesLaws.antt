@@ -47,12 +47,12 @@ owed-most bound T job =
     either false h = h
 
 -- what is at most another is so behind a test
-only-most : (b : Bool) {x y : ℕ} → x ≤ y → only b x ≤ only b y
+pub only-most : (b : Bool) {x y : ℕ} → x ≤ y → only b x ≤ only b y
 only-most true h = h
 only-most false h = omega arith
 
 -- a class, and those behind it, are those from it on
-only-from : (c k x : ℕ) → only (eqb c k) x + only (leb (suc k) c) x ≡ only (leb k c) x
+pub only-from : (c k x : ℕ) → only (eqb c k) x + only (leb (suc k) c) x ≡ only (leb k c) x
 only-from c k x =
     elim (ℕ-discrete c k) [
       | yes e ↦ rw (eq-eqb c k e, lt-leb (suc k) c (omega arith), le-leb k c (omega arith)) (omega arith)

@@ -1,15 +1,16 @@
 -- The search by trying finds document 01's staircase: "in that order the search stops at the first overfull staircase". For
 -- every order and every whole number as the bound.
-use Prim.Native.Nat.{ℕ, zero, suc, _≤_}
+use Prim.Native.Nat.{ℕ, zero, suc, _≤_, _<_}
 use mathlib.Core.Path.{_≡_, refl, sym, ap, _∙_, subst}
 use mathlib.Core.Bool.{Bool, true, false, cond}
 use mathlib.Core.List.{List, [], _∷_, map}
 use mathlib.Core.Logic.{_⊎_, inl, inr, _↔_}
 use native.Mathlib.Omega.{arith}
+use native.Mathlib.Nat.{le-of-suc-le-suc}
 use lib.IntN.{ℤ}
 use lib.ListN.{length}
 use lib.Signed.{ltZ, <ℤ-irrefl}
-use Rattle.sums.specs.Lists.{In, Pairwise}
+use Rattle.sums.specs.Lists.{In, Pairwise, tabulate}
 use Rattle.sums.specs.Members.{All-map, All-in, in-at, at-in, in-map, map-in}
 use Rattle.sums.specs.Pairs.{Pairwise-map}
 use Rattle.order.specs.Order.{Job, Order, jobCount, Numbers, noJob, jobOf, endAt, endOf}
@@ -57,6 +58,26 @@ module _ {A : Type 0} (test : A → Bool) where
       go true t e i f = let w : _≡_ {A = ℕ} 0 1 = cc in absurd (omega arith)
       go false t e (inl q) f = ap test q ∙ t
       go false t e (inr m) f = f e x m
+
+-- a search through a list given by its places: the first that passes, or that none does
+pub data Searched {A : Type 0} (test : A → Bool) (n : ℕ) (f : ℕ → A) : Type 0 where
+  stops-at : (k : ℕ) → k < n → firstSuch test (tabulate n f) ≡ found (f k) → test (f k) ≡ true →
+      ((i : ℕ) → i < k → test (f i) ≡ false) → Searched test n f
+  stops-nowhere : firstSuch test (tabulate n f) ≡ nothing → ((i : ℕ) → i < n → test (f i) ≡ false) → Searched test n f
+
+pub searched : {A : Type 0} (test : A → Bool) (n : ℕ) (f : ℕ → A) → Searched test n f
+unfolding firstSuch
+searched test zero f = stops-nowhere refl (λ i l. absurd (omega arith))
+searched test (suc n) f = go (test (f 0)) refl (searched test n (λ i. f (suc i)))
+  where
+    before : (m : ℕ) → test (f 0) ≡ false → ((i : ℕ) → i < m → test (f (suc i)) ≡ false) → (i : ℕ) → i < suc m → test (f i) ≡ false
+    before m t h zero l = t
+    before m t h (suc i) l = h i (le-of-suc-le-suc l)
+
+    go : (b : Bool) → test (f 0) ≡ b → Searched test n (λ i. f (suc i)) → Searched test (suc n) f
+    go true t r = stops-at 0 (omega arith) (rw t refl) t (λ i l. absurd (omega arith))
+    go false t (stops-at k l e p h) = stops-at (suc k) (omega arith) (rw t e) p (before k t h)
+    go false t (stops-nowhere e h) = stops-nowhere (rw t e) (before n t h)
 
 -- the due times fall, and they are those of the jobs
 pub dueTimes-fall : (o : Order) → Falls (dueTimes o)

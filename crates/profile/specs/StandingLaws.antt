@@ -43,7 +43,7 @@ stands-exceeds o bound (overEnd j) h = h .1
 stands-exceeds o bound (stairs dues) h = h .1 .exceeds
 
 -- the tests tell what is equal
-z-tells : Tells sameZ
+pub z-tells : Tells sameZ
 z-tells (pos m) (pos n) = (λ e. ap pos (eqb-true m n e), λ e. eq-eqb m n (cc))
 z-tells (pos m) (negsuc n) = (
   λ e. let z : _≡_ {A = ℕ} 0 1 = cc in absurd (omega arith),

@@ -9,11 +9,10 @@ use native.Mathlib.Omega.{arith}
 use native.Mathlib.Decide.{decLe}
 use lib.IntN.{ℤ, pos}
 use lib.Dec.{ltb}
-use lib.ListN.{length, getD}
+use lib.ListN.{length}
 use lib.Signed.{_≤ℤ_, _<ℤ_, clashℤ}
 use Rattle.sums.specs.Lists.{All, In}
-use Rattle.sums.specs.Members.{All-map, All-both, All-at, at-in, in-All}
-use Rattle.sums.specs.Most.{ceiling, largest-le, le-largest, most-le, most-ge, ceiling-le, le-ceiling}
+use Rattle.sums.specs.Members.{All-map, All-both, All-at}
 use Rattle.order.specs.Order.{Job, Order, jobCount, Numbers, noJob, jobOf, endAt, endOf}
 use Rattle.order.specs.Sorted.{dueTimes}
 use Rattle.order.specs.Class.{classes, processorsTo}
@@ -23,12 +22,11 @@ use Rattle.order.specs.Whole.{le-or-lt, pos-cut}
 use Rattle.profile.specs.Profile.{minutesOwed, minutesOnHand, Overfull}
 use Rattle.profile.specs.Reason.{Reason, InTime, IsReason}
 use Rattle.profile.specs.Search.{choices, Found, nothing, found, isOverfull, reasonOf}
-use Rattle.profile.specs.Least.{weightFrom, heaviest, leastReach, leastFrom}
+use Rattle.profile.specs.Least.{weightFrom, leastReach, leastFrom}
 use Rattle.profile.specs.Ranking.{choices-in}
 use Rattle.profile.specs.SearchLaws.{dueTimes-fall, in-due, profile-chosen, chosen-profile, overfull-some}
 use Rattle.profile.specs.ReasonLaws.{NoReason, in-time-all, reason-found, reason-none}
-use Rattle.order.specs.ClassLaws.{processorsTo-some}
-use Rattle.profile.specs.LeastLaws.{heaviest-le, le-heaviest}
+use Rattle.profile.specs.LeastLaws.{reach-le, times-reached, weights-reached}
 use Rattle.profile.specs.Weights.{Reached, exceeds-weight, overfull-weighs}
 
 module _ (top : ℤ) (o : Order) (a : Workable top o) (bound : ℤ) where
@@ -78,15 +76,7 @@ module _ (top : ℤ) (o : Order) (a : Workable top o) (bound : ℤ) where
 
   -- there is no reason exactly from the least reach on
   no-reason-reach : NoReason o bound → leastReach top o ≤ reachAt top bound
-  unfolding leastReach
-  no-reason-reach h =
-      omega (
-        arith,
-        largest-le (λ (job : Job). job .time + lead top (job .due)) (o .jobs) (reachAt top bound) t,
-        most-le (length (classes o)) (reachAt top bound) (λ k. ceiling (heaviest top o (suc k)) (processorsTo o (suc k))) (λ k l.
-            ceiling-le (heaviest top o (suc k)) (processorsTo o (suc k)) (reachAt top bound) (processorsTo-some o k l)
-            (heaviest-le o top (suc k) (processorsTo o (suc k) * reachAt top bound) (not-heavier k l))),
-      )
+  no-reason-reach h = reach-le o top (reachAt top bound) t not-heavier
     where
       t : All (λ (job : Job). job .time + lead top (job .due) ≤ reachAt top bound) (o .jobs)
       t = all-reach .0 (in-time-all o bound .0 (h .0))
@@ -106,18 +96,10 @@ module _ (top : ℤ) (o : Order) (a : Workable top o) (bound : ℤ) where
           ]
 
   reach-no-reason : leastReach top o ≤ reachAt top bound → NoReason o bound
-  unfolding leastReach
   reach-no-reason h = (in-time-all o bound .1 (all-reach .1 t), none)
     where
       t : All (λ (job : Job). job .time + lead top (job .due) ≤ reachAt top bound) (o .jobs)
-      t =
-          in-All _ (o .jobs) (λ (job : Job) i.
-          omega (arith, le-largest (λ (job : Job). job .time + lead top (job .due)) (o .jobs) job i))
-
-      room : (k : ℕ) → k < length (classes o) → heaviest top o (suc k) ≤ processorsTo o (suc k) * reachAt top bound
-      room k l =
-          le-ceiling (heaviest top o (suc k)) (processorsTo o (suc k)) (reachAt top bound) (processorsTo-some o k l)
-          (omega (arith, most-ge (length (classes o)) k (λ k. ceiling (heaviest top o (suc k)) (processorsTo o (suc k))) l))
+      t = times-reached o top (reachAt top bound) h
 
       none : (dues : List ℤ) → ¬ Overfull o bound dues
       none [] f = omega (arith, overfull-some o bound [] f)
@@ -127,19 +109,16 @@ module _ (top : ℤ) (o : Order) (a : Workable top o) (bound : ℤ) where
           omega (
             arith,
             exceeds-reach t (d ∷ ds) (c .members) .0 (f .exceeds),
-            room (length ds) (f .profile .of-classes),
-            le-heaviest o top (suc (length ds)) (d ∷ ds) i,
+            weights-reached o top (reachAt top bound) h (length ds) (f .profile .of-classes) (d ∷ ds) i,
           )
 
   -- some job takes a minute
   some-reach : 1 ≤ leastReach top o
-  unfolding leastReach
   some-reach =
       omega (
         arith,
         All-at _ (o .jobs) noJob (a .times) 0 (a .some-job),
-        le-largest (λ (job : Job). job .time + lead top (job .due)) (o .jobs) (getD (o .jobs) 0 noJob)
-            (at-in (o .jobs) noJob 0 (a .some-job)),
+        All-at _ (o .jobs) noJob (times-reached o top (leastReach top o) (omega arith)) 0 (a .some-job),
       )
 
   -- a bound is below the least lateness exactly if its reach is below the least reach

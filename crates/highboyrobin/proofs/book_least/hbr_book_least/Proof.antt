@@ -8,7 +8,7 @@ use Rattle.order_file.specs.File.{orderIn}
 use Rattle.order_file.specs.ReaderLaws.{reader-refused, order-is, order-accepted}
 use Rattle.planner.specs.RowLaws.{written-few}
 use Rattle.planner.specs.AnswerLaws.{booked-least-begins}
-use Rattle.planner.specs.LeastRead.{read-least}
+use Rattle.profile.specs.LeastRead.{read-least}
 use Rattle.profile.specs.LeastRange.{least-in-range}
 use Rattle.highboyrobin.specs.BookCalls.{countsIn}
 use Rattle.highboyrobin.proofs.Answering.{book-refused, book-told, book-done}

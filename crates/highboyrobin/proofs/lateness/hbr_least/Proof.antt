@@ -1,5 +1,5 @@
 use Rattle.profile.specs.LeastRange.{least-in-range}
-use Rattle.planner.specs.LeastRead.{read-least}
+use Rattle.profile.specs.LeastRead.{read-least}
 use mathlib.Core.Path.{refl, ap, _∙_}
 use mathlib.Core.List.{_∷_}
 use lib.IntN.{ℤ, pos}

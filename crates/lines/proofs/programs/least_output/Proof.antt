@@ -2,7 +2,7 @@ use native.Mathlib.Omega.{arith}
 use borrow.Author.Needs.{needs}
 use Rattle.profile.specs.Least.{leastLateness}
 use Rattle.profile.specs.LeastRange.{least-in-range}
-use Rattle.planner.specs.LeastRead.{read-least}
+use Rattle.profile.specs.LeastRead.{read-least}
 use Rattle.order.specs.Table.{orderOf}
 use Rattle.planner.specs.RowLaws.{written-few}
 use Rattle.lines.proofs.Told.{

@@ -6,7 +6,7 @@ use Rattle.profile.specs.Least.{leastLateness}
 use Rattle.profile.specs.LeastRange.{least-in-range}
 use Rattle.table.specs.Making.{fine-of}
 use Rattle.feasible.specs.Least.{is-least}
-use Rattle.planner.specs.LeastRead.{read-least}
+use Rattle.profile.specs.LeastRead.{read-least}
 use Rattle.planner.proofs.Answers.{
   least-refused,
   least-order-good,
