@@ -1,0 +1,4 @@
+mod Judging
+mod Filling
+mod Ordered
+mod Answers
