@@ -3,23 +3,21 @@
 use Prim.Native.Nat.{ℕ, _≤_, _<_}
 use mathlib.Core.Path.{_≡_, refl, sym, ap, _∙_, subst, subst₂}
 use mathlib.Core.Bool.{true, false}
-use mathlib.Core.List.{List}
 use lib.IntN.{ℤ}
 use lib.Signed.{ltZ, _≤ℤ_, _<ℤ_}
 use mir.Val.{toZ, ofZ}
 use mir.Syntax.{w32}
 use Rattle.order.specs.Order.{noOrder}
-use Rattle.order.specs.Refusals.{limits, Verdict, accepted, refused, judge, answer, answerBy}
+use Rattle.order.specs.Refusals.{limits, Verdict, accepted, judge, answer, answerBy}
 use Rattle.order.specs.Table.{tableOf, orderOf, refusalTold, acceptanceTold}
 use Rattle.order.specs.TableLaws.{refused-told, same-refusal}
 use Rattle.order.specs.Whole.{ltZ-true, ltZ-false}
 use Rattle.order.specs.declared.Acceptance.{Acceptance}
 use Rattle.order.specs.declared.Acceptance.the-variants.{Accepted, Refused}
-use Rattle.order.specs.declared.Order.{Order as OrderTable}
 use Rattle.order.specs.declared.Refusal.{Refusal}
 use Rattle.profile.specs.LeastRange.{least-in-range}
 use Rattle.profile.specs.LeastRead.{read-least}
-use Rattle.profile.specs.Search.{Found, nothing, found}
+use Rattle.profile.specs.Search.{nothing, found}
 use Rattle.estimate.specs.AcceptLaws.{uncrossed, between-accepted}
 use Rattle.estimate.specs.Estimate.{
   Estimate,
@@ -29,7 +27,6 @@ use Rattle.estimate.specs.Estimate.{
   pathAt,
   pathLength,
   firstMet,
-  orderFound,
   orderMet,
   estimateRows,
 }
@@ -38,7 +35,6 @@ use Rattle.estimate.specs.Request.{leastAlong, along-first, along-last, 
 use Rattle.estimate.specs.StructLaws.{order-is}
 use Rattle.estimate.specs.Told.{estimateOf, leastsTold, metTold, withTimes, handedOut}
 use Rattle.estimate.specs.declared.Estimate.{Estimate as EstimateTable}
-use Rattle.estimate.specs.declared.Leasts.{Leasts}
 use Rattle.estimate.specs.declared.Leasts.the-variants.{Between, Refused as LeastsRefused}
 use Rattle.estimate.specs.declared.Meeting.the-variants.{Met, Nowhere, Refused as MeetingRefused}
 use Rattle.estimate.specs.declared.OrderMet.{OrderMet}

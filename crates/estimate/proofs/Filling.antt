@@ -1,5 +1,5 @@
 -- The array of times after k minutes, filled job by job.
-use Prim.Native.Nat.{ℕ, zero, suc, _+_, _-_, _≤_, _<_, min}
+use Prim.Native.Nat.{ℕ, _+_, _-_, _<_}
 use mathlib.Core.Path.{_≡_, refl, sym, ap, _∙_}
 use mathlib.Core.Bool.{Bool}
 use mathlib.Core.List.{List}
@@ -8,11 +8,10 @@ use native.Mathlib.Omega.{arith}
 use native.Mathlib.Decide.{decLt}
 use borrow.Author.Tests.{lt-ltb, le-ltb}
 use lib.Dec.{ltb}
-use lib.ListN.{getD, set, replicate}
-use Rattle.sums.specs.Sum.{sum}
-use Rattle.sums.specs.Lists.{only, tabulate}
+use lib.ListN.{set, replicate}
+use Rattle.sums.specs.Lists.{only}
 use Rattle.sums.specs.Places.{tabulate-cong, set-tabulate, replicate-tabulate}
-use Rattle.estimate.specs.Inside.{widthAt, timeAfter, arrayAfter}
+use Rattle.estimate.specs.Inside.{timeAfter, arrayAfter}
 
 -- before the first job there are zeros
 pub none-after : (lows highs : List ℕ) (k : ℕ) → replicate 48 0 ≡ arrayAfter lows highs 0 k

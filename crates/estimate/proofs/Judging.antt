@@ -70,7 +70,8 @@ module _ (t : EstimateTable) where
     unfolding judge
     ends-refused h = rw (sym five ∙ finding-some ends h)
 
-    module _ (good-ends : ends ≤ 0) (ed : findingOf due ≡ first (λ (job : Job). not (dueInRange (job .due))) (orderOf (t .order) .jobs)) where
+    module _ (good-ends : ends ≤ 0)
+        (ed : findingOf due ≡ first (λ (job : Job). not (dueInRange (job .due))) (orderOf (t .order) .jobs)) where
       six : findingOf due ≡ first (λ (job : EstimatedJob). not (dueInRange (job .due))) (estimateOf t .jobs)
       six = ed ∙ first-agree _ _ (t .order .jobs) (jobAt (t .order)) (jobBetween t) (λ i. refl)
 
@@ -107,7 +108,8 @@ module _ (t : EstimateTable) where
           module _ (good-crossed : crossed ≤ 0)
               (en : findingOf need ≡ first (λ (job : Job). not (fitsSome (job .need) (orderOf (t .order) .memories)))
               (orderOf (t .order) .jobs)) where
-            seven : findingOf need ≡ first (λ (job : EstimatedJob). not (fitsSome (job .need) (estimateOf t .memories))) (estimateOf t .jobs)
+            seven : findingOf need ≡ first (λ (job : EstimatedJob). not (fitsSome (job .need) (estimateOf t .memories)))
+                (estimateOf t .jobs)
             seven = en ∙ first-agree _ _ (t .order .jobs) (jobAt (t .order)) (jobBetween t) (λ i. refl)
 
             pub need-refused : 0 < need → judge (estimatedRows (estimateOf t)) ≡ refused 7 need

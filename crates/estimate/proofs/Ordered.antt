@@ -4,7 +4,6 @@ use mathlib.Core.Path.{_≡_, sym, ap, _∙_, subst}
 use mathlib.Core.List.{List}
 use lib.IntN.{ℤ}
 use Rattle.order.specs.Lead.{boundAt, lastDue}
-use Rattle.order.specs.Order.{Order}
 use Rattle.order.specs.Refusals.{limits, accepted, judge, Accepted}
 use Rattle.order.specs.RefusalLaws.{accepted-iff}
 use Rattle.order.specs.Table.{orderOf, padded}

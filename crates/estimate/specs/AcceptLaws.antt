@@ -8,22 +8,13 @@ use native.Mathlib.Omega.{arith}
 use borrow.Author.Tests.{not-false, leb-true, ltb-false, eqb-false}
 use lib.Dec.{leb}
 use lib.IntN.{pos, negsuc}
-use lib.ListN.{length, getD}
-use lib.Signed.{leZ, _≤ℤ_}
-use Rattle.sums.specs.Lists.{All, nth}
+use lib.ListN.{length}
+use lib.Signed.{leZ}
+use Rattle.sums.specs.Lists.{All}
 use Rattle.sums.specs.Members.{All-map}
-use Rattle.order.specs.Order.{Job, Numbers}
+use Rattle.order.specs.Order.{Job}
 use Rattle.order.specs.Refusals.{limits, accepted, judge, mostMakers, timeInRange, Accepted}
-use Rattle.order.specs.RefusalLaws.{
-  judge-accepted,
-  whole-clear,
-  first-clear,
-  both-true,
-  leZ-true,
-  fitsSome-true,
-  Acceptable,
-  accepted-iff,
-}
+use Rattle.order.specs.RefusalLaws.{judge-accepted, whole-clear, first-clear, both-true, leZ-true, fitsSome-true, accepted-iff}
 use Rattle.estimate.specs.Estimate.{EstimatedJob, Estimate, jobWith, jobsWith, orderWith, Between, estimateRows}
 use Rattle.estimate.specs.PathLaws.{Uncrossed}
 

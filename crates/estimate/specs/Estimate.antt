@@ -31,6 +31,7 @@ pub record EstimatedJob : Type 0 where
   pub need : ℕ
   pub maker : ℕ
 
+-- an order whose times are known only between two numbers
 pub record Estimate : Type 0 where
   pub memories : List ℕ
   pub jobs : List EstimatedJob

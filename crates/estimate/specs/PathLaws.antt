@@ -1,6 +1,6 @@
 -- The path in closed form, as it is found without walking it; all of it lies between, a minute of it makes one job one minute longer or
 -- none, and it ends at all highs.
-use Prim.Native.Nat.{ℕ, zero, suc, _+_, _-_, _≤_, _<_, min}
+use Prim.Native.Nat.{ℕ, zero, suc, _+_, _-_, _≤_, min}
 use mathlib.Core.Path.{_≡_, refl, sym, ap, _∙_}
 use mathlib.Core.Bool.{Bool, true, false, cond}
 use mathlib.Core.List.{List, [], _∷_, map}
@@ -12,17 +12,7 @@ use lib.ListN.{length}
 use Rattle.sums.specs.Lists.{All, total}
 use Rattle.order.specs.Order.{Job}
 use Rattle.profile.specs.RiseLaws.{Longer, minutesOf}
-use Rattle.estimate.specs.Estimate.{
-  EstimatedJob,
-  Estimate,
-  jobsWith,
-  Between,
-  lows,
-  highs,
-  nextTimes,
-  pathAt,
-  pathLength,
-}
+use Rattle.estimate.specs.Estimate.{EstimatedJob, Estimate, jobsWith, Between, highs, nextTimes, pathAt, pathLength}
 
 -- how far a job goes
 abbrev pub widthOf : EstimatedJob → ℕ
@@ -73,7 +63,8 @@ length-after (job ∷ jobs) k = ap suc (length-after jobs (k - widthOf job))
 abbrev pub Uncrossed : List EstimatedJob → Type 0
 Uncrossed jobs = All (λ (job : EstimatedJob). job .low ≤ job .high) jobs
 
-after-all : (jobs : List EstimatedJob) → Uncrossed jobs → timesAfter jobs (total jobs widthOf) ≡ map (λ (job : EstimatedJob). job .high) jobs
+after-all : (jobs : List EstimatedJob) → Uncrossed jobs →
+    timesAfter jobs (total jobs widthOf) ≡ map (λ (job : EstimatedJob). job .high) jobs
 unfolding timesAfter
 after-all [] h = refl
 after-all (job ∷ jobs) h =
@@ -85,12 +76,18 @@ after-all (job ∷ jobs) h =
 pub path-ends : (e : Estimate) → Uncrossed (e .jobs) → pathAt e (pathLength e) ≡ highs e
 path-ends e h = path-is e (pathLength e) ∙ after-all (e .jobs) h
 
--- Between --------------------------------------------------------------------------------------------------------------------
+-- What lies between --------------------------------------------------------------------------------------------------------------------
 
-lows-between : (jobs : List EstimatedJob) → Uncrossed jobs → Between jobs (map (λ (job : EstimatedJob). job .low) jobs)
+-- all lows and all highs do
+pub lows-between : (jobs : List EstimatedJob) → Uncrossed jobs → Between jobs (map (λ (job : EstimatedJob). job .low) jobs)
 lows-between [] h = tt
 lows-between (job ∷ jobs) h = ((omega arith, h .0), lows-between jobs (h .1))
 
+pub highs-between : (jobs : List EstimatedJob) → Uncrossed jobs → Between jobs (map (λ (job : EstimatedJob). job .high) jobs)
+highs-between [] h = tt
+highs-between (job ∷ jobs) h = ((h .0, omega arith), highs-between jobs (h .1))
+
+-- and what follows on times that do
 next-between : (jobs : List EstimatedJob) (times : List ℕ) → Between jobs times → Between jobs (nextTimes jobs times)
 unfolding nextTimes
 next-between [] [] b = tt

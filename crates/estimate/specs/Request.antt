@@ -7,18 +7,17 @@ use mathlib.Core.List.{List}
 use mathlib.Core.Logic.{_↔_, _⊎_, inl, inr}
 use native.Mathlib.Omega.{arith}
 use native.Mathlib.Decide.{decLt}
-use lib.IntN.{ℤ, pos, _+ℤ_}
+use lib.IntN.{ℤ}
 use lib.Signed.{_≤ℤ_, _<ℤ_, clashℤ, <ℤ-irrefl}
-use Rattle.order.specs.Order.{Order}
 use Rattle.order.specs.Lead.{boundAt, lastDue}
 use Rattle.order.specs.LeadLaws.{bound-le, bound-lt, bound-more}
-use Rattle.order.specs.Refusals.{limits, accepted, judge, Accepted}
-use Rattle.order.specs.Whole.{le-or-lt, le-gap, <ℤ-≤ℤ, ≤ℤ-trans, ≤ℤ-<ℤ-trans}
+use Rattle.order.specs.Refusals.{limits, accepted, judge}
+use Rattle.order.specs.Whole.{le-or-lt, le-gap, ≤ℤ-trans}
 use Rattle.plan.specs.IsLeast.{IsLeast}
 use Rattle.feasible.specs.Least.{is-least}
 use Rattle.profile.specs.Least.{leastReach, leastLateness}
 use Rattle.profile.specs.RiseLaws.{reach-rises, reach-rises-by}
-use Rattle.profile.specs.Search.{Found, nothing, found}
+use Rattle.profile.specs.Search.{nothing, found}
 use Rattle.profile.specs.SearchLaws.{Searched, stops-at, stops-nowhere, searched}
 use Rattle.profile.specs.Standing.{sameZ}
 use Rattle.profile.specs.StandingLaws.{z-tells}
@@ -202,6 +201,12 @@ module _ (e : Estimate) (ok : judge (estimateRows limits e) ≡ accepted) where
         none-before = λ i b eq. <ℤ-irrefl (subst (λ (z : ℤ). z <ℤ number) eq (before i b));
       })
 
+  -- what is met lies between
+  pub met-between : (number : ℤ) (times : List ℕ) → firstMet e number ≡ found times → Between (e .jobs) times
+  met-between number times h =
+      let f = found-is-first e number times h in
+      subst (Between (e .jobs)) (sym (f .times-are)) (path-between e (uncrossed e ok) (f .minutes))
+
   -- "each whole number between them is reached by some such order": by the one that is produced
   pub every-number : (number : ℤ) → leastAtLows e ≤ℤ number → number ≤ℤ leastAtHighs e →
       (times : List ℕ) × (firstMet e number ≡ found times) × Between (e .jobs) times × (leastLateness (orderWith e times) ≡ number)
@@ -250,3 +255,14 @@ module _ (e : Estimate) (ok : judge (estimateRows limits e) ≡ accepted) where
       go n (inr l) h = inl l
       go n (inl l) (inr h) = inr h
       go n (inl l) (inl h) = let z : _≡_ {A = ℕ} 0 1 = cc (n, every-number number l h .1) in absurd (omega arith)
+
+  -- and then no order with times between has it, whether on the path or not
+  pub none-at-all : (number : ℤ) → firstMet e number ≡ nothing → (times : List ℕ) → Between (e .jobs) times →
+      (least : ℤ) → IsLeast (orderWith e times) least → ¬ (least ≡ number)
+  none-at-all number n times b least h eq =
+      let t = is-least-between times b least h in
+      outside (met-none number .0 n) (subst (λ (z : ℤ). leastAtLows e ≤ℤ z) eq (t .0)) (subst (λ (z : ℤ). z ≤ℤ leastAtHighs e) eq (t .1))
+    where
+      outside : (number <ℤ leastAtLows e) ⊎ (leastAtHighs e <ℤ number) → leastAtLows e ≤ℤ number → number ≤ℤ leastAtHighs e → ⊥
+      outside (inl l) low high = clashℤ l low
+      outside (inr l) low high = clashℤ l high

@@ -1,5 +1,5 @@
 -- The struct of an estimate that is not refused: its arrays of lows and highs, and the struct of an order on the path, which stands for it.
-use Prim.Native.Nat.{ℕ, zero, suc, _+_, _-_, _*_, _≤_, _<_, min}
+use Prim.Native.Nat.{ℕ, zero, suc, _+_, _-_, _≤_, _<_, min}
 use mathlib.Core.Path.{_≡_, refl, sym, ap, _∙_, subst}
 use mathlib.Core.Bool.{Bool}
 use mathlib.Core.List.{List, [], _∷_}
@@ -8,7 +8,6 @@ use native.Mathlib.Decide.{decLt}
 use native.Mathlib.Nat.{le-of-suc-le-suc}
 use borrow.Author.Tests.{lt-ltb, le-ltb}
 use lib.Dec.{ltb}
-use lib.IntN.{pos}
 use lib.ListN.{length, getD, List·getD-eq-default}
 use Rattle.sums.specs.Sum.{sum, sum-most, sum-none}
 use Rattle.sums.specs.Lists.{All, only, tabulate}
@@ -17,7 +16,7 @@ use Rattle.sums.specs.Places.{length-tabulate, getD-tabulate, tabulate-cong}
 use Rattle.sums.specs.Totals.{sum-first, total-tabulate}
 use Rattle.order.specs.Refusals.{limits, accepted, judge, Accepted}
 use Rattle.order.specs.StructLaws.{same-order, same-job}
-use Rattle.order.specs.Table.{orderOf, jobAt, padded}
+use Rattle.order.specs.Table.{orderOf, padded}
 use Rattle.estimate.specs.Estimate.{EstimatedJob, jobWith, jobsWith, orderWith, pathAt, pathLength, estimateRows}
 use Rattle.estimate.specs.AcceptLaws.{few-estimated, ends-in-range, uncrossed, between-accepted}
 use Rattle.estimate.specs.Inside.{widthAt, Spans, timeAfter, arrayAfter}

@@ -16,7 +16,7 @@ ghost use lib.Signed.{_≤ℤ_, _<ℤ_};
 ghost use Rattle.order.specs.Order.{noOrder};
 ghost use Rattle.order.specs.Refusals.{judge, accepted, answerBy, limits};
 ghost use Rattle.order.specs.Table.{tableOf};
-ghost use Rattle.estimate.specs.Estimate.{estimateRows, pathLength, firstMet, orderMet};
+ghost use Rattle.estimate.specs.Estimate.{estimateRows, firstMet, orderMet};
 ghost use Rattle.estimate.specs.Request.{leastAlong};
 ghost use Rattle.estimate.specs.Told.{estimateOf, metTold, handedOut};
 

@@ -1,5 +1,5 @@
 -- Document 01's refusal table, with document 02's rows. Each entry point judges by the rows that it uses, in the table's order, 12
--- before all, 13 right after 6, 14 last of all:
+-- before all, 13 right after 6, 19 right after 13, 14 last of all:
 -- "Each is returned if its condition holds and that of no earlier one does, otherwise never."
 use Prim.Native.Nat.{ℕ, suc, _+_, _/_}
 use mathlib.Core.Path.{_≡_}

@@ -34,94 +34,105 @@ cast-n c = search needs
 
 first-bad-end-requires : tie.Need-first-bad-end-requires
 first-bad-end-requires c κs =
-    let counts = c .before .before .before .before .before in
+    let told = c .before .before .before in
+    let counts = told .before .before in
     let t = counts .before .before .args .estimate in
-    counts-few t _ (counts .accept-counts .ensures) (c .before .before .before .enum-told .given .1) .1
+    counts-few t _ (counts .accept-counts .ensures) (told .enum-told .given .1) .1
 
 returns-2 : tie.Need-returns-2
 returns-2 c =
-    let counts = c .before .before .before .before .before .before .before in
+    let told = c .before .before .before .before .before in
+    let counts = told .before .before in
     let t = counts .before .before .args .estimate in
-    sym (jobs-decide t _ (counts .accept-counts .ensures) (c .before .before .before .before .before .enum-told .given .1)
+    sym (jobs-decide t _ (counts .accept-counts .ensures) (told .enum-told .given .1)
     ∙ ends-refused t _ 0 0 0 0 (c .before .first-bad-end .ensures) (c .if1 .taken))
 
 first-bad-due-requires : tie.Need-first-bad-due-requires
 first-bad-due-requires c κs =
-    let counts = c .before .before .before .before .before .before .before in
+    let told = c .before .before .before .before .before in
+    let counts = told .before .before in
     let t = counts .before .before .args .estimate in
-    counts-few t _ (counts .accept-counts .ensures) (c .before .before .before .before .before .enum-told .given .1) .1
+    counts-few t _ (counts .accept-counts .ensures) (told .enum-told .given .1) .1
 
 returns-3 : tie.Need-returns-3
 returns-3 c =
-    let counts = c .before .before .before .before .before .before .before .before .before in
+    let told = c .before .before .before .before .before .before .before in
+    let counts = told .before .before in
     let t = counts .before .before .args .estimate in
     let ends = c .before .before in
-    sym (jobs-decide t _ (counts .accept-counts .ensures) (c .before .before .before .before .before .before .before .enum-told .given .1)
+    sym (jobs-decide t _ (counts .accept-counts .ensures) (told .enum-told .given .1)
     ∙ due-refused t _ _ 0 0 0 (ends .before .first-bad-end .ensures) (ends .if1 .left) (c .before .first-bad-due .ensures)
     (c .if2 .taken))
 
 first-bad-maker-requires : tie.Need-first-bad-maker-requires
 first-bad-maker-requires c κs =
-    let counts = c .before .before .before .before .before .before .before .before .before in
+    let told = c .before .before .before .before .before .before .before in
+    let counts = told .before .before in
     let t = counts .before .before .args .estimate in
-    counts-few t _ (counts .accept-counts .ensures) (c .before .before .before .before .before .before .before .enum-told .given .1) .1
+    counts-few t _ (counts .accept-counts .ensures) (told .enum-told .given .1) .1
 
 returns-4 : tie.Need-returns-4
 returns-4 c =
-    let counts = c .before .before .before .before .before .before .before .before .before .before .before in
+    let told = c .before .before .before .before .before .before .before .before .before in
+    let counts = told .before .before in
     let t = counts .before .before .args .estimate in
     let due = c .before .before in
     let ends = due .before .before in
-    sym (jobs-decide t _ (counts .accept-counts .ensures) (c .before .before .before .before .before .before .before .before .before .enum-told .given .1)
+    sym (jobs-decide t _ (counts .accept-counts .ensures) (told .enum-told .given .1)
     ∙ maker-refused t _ _ _ 0 0 (ends .before .first-bad-end .ensures) (ends .if1 .left) (due .before .first-bad-due .ensures)
     (due .if2 .left) (c .before .first-bad-maker .ensures) (c .if3 .taken))
 
 first-crossed-requires : tie.Need-first-crossed-requires
 first-crossed-requires c κs =
-    let counts = c .before .before .before .before .before .before .before .before .before .before .before in
+    let told = c .before .before .before .before .before .before .before .before .before in
+    let counts = told .before .before in
     let t = counts .before .before .args .estimate in
-    counts-few t _ (counts .accept-counts .ensures) (c .before .before .before .before .before .before .before .before .before .enum-told .given .1) .1
+    counts-few t _ (counts .accept-counts .ensures) (told .enum-told .given .1) .1
 
 returns-5 : tie.Need-returns-5
 returns-5 c =
-    let counts = c .before .before .before .before .before .before .before .before .before .before .before .before .before in
+    let told = c .before .before .before .before .before .before .before .before .before .before .before in
+    let counts = told .before .before in
     let t = counts .before .before .args .estimate in
     let maker = c .before .before in
     let due = maker .before .before in
     let ends = due .before .before in
-    sym (jobs-decide t _ (counts .accept-counts .ensures) (c .before .before .before .before .before .before .before .before .before .before .before .enum-told .given .1)
+    sym (jobs-decide t _ (counts .accept-counts .ensures) (told .enum-told .given .1)
     ∙ crossed-refused t _ _ _ _ 0 (ends .before .first-bad-end .ensures) (ends .if1 .left) (due .before .first-bad-due .ensures)
     (due .if2 .left) (maker .before .first-bad-maker .ensures) (maker .if3 .left) (c .before .first-crossed .ensures)
     (c .if4 .taken))
 
 first-unfit-requires : tie.Need-first-unfit-requires
 first-unfit-requires c κs =
-    let counts = c .before .before .before .before .before .before .before .before .before .before .before .before .before in
+    let told = c .before .before .before .before .before .before .before .before .before .before .before in
+    let counts = told .before .before in
     let t = counts .before .before .args .estimate in
-    counts-few t _ (counts .accept-counts .ensures) (c .before .before .before .before .before .before .before .before .before .before .before .enum-told .given .1)
+    counts-few t _ (counts .accept-counts .ensures) (told .enum-told .given .1)
 
 returns-6 : tie.Need-returns-6
 returns-6 c =
-    let counts = c .before .before .before .before .before .before .before .before .before .before .before .before .before .before .before in
+    let told = c .before .before .before .before .before .before .before .before .before .before .before .before .before in
+    let counts = told .before .before in
     let t = counts .before .before .args .estimate in
     let crossed = c .before .before in
     let maker = crossed .before .before in
     let due = maker .before .before in
     let ends = due .before .before in
-    sym (jobs-decide t _ (counts .accept-counts .ensures) (c .before .before .before .before .before .before .before .before .before .before .before .before .before .enum-told .given .1)
+    sym (jobs-decide t _ (counts .accept-counts .ensures) (told .enum-told .given .1)
     ∙ need-refused t _ _ _ _ _ (ends .before .first-bad-end .ensures) (ends .if1 .left) (due .before .first-bad-due .ensures)
     (due .if2 .left) (maker .before .first-bad-maker .ensures) (maker .if3 .left) (crossed .before .first-crossed .ensures)
     (crossed .if4 .left) (c .before .first-unfit .ensures) (c .if5 .taken))
 
 returns-7 : tie.Need-returns-7
 returns-7 c =
-    let counts = c .before .before .before .before .before .before .before .before .before .before .before .before .before .before .before in
+    let told = c .before .before .before .before .before .before .before .before .before .before .before .before .before in
+    let counts = told .before .before in
     let t = counts .before .before .args .estimate in
     let crossed = c .before .before in
     let maker = crossed .before .before in
     let due = maker .before .before in
     let ends = due .before .before in
-    sym (jobs-decide t _ (counts .accept-counts .ensures) (c .before .before .before .before .before .before .before .before .before .before .before .before .before .enum-told .given .1)
+    sym (jobs-decide t _ (counts .accept-counts .ensures) (told .enum-told .given .1)
     ∙ all-accepted t _ _ _ _ _ (ends .before .first-bad-end .ensures) (ends .if1 .left) (due .before .first-bad-due .ensures)
     (due .if2 .left) (maker .before .first-bad-maker .ensures) (maker .if3 .left) (crossed .before .first-crossed .ensures)
     (crossed .if4 .left) (c .before .first-unfit .ensures) (c .if5 .left))

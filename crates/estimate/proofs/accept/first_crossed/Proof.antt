@@ -42,7 +42,8 @@ returns : tie.Need-returns Inv-loop μ-loop
 returns c =
     let l = c .before .before .loop in
     let s = c .before .before .before in
-    walk-found (λ (j : ℕ). ltb (getD (s .args .t2) j 0) (getD (s .args .t1) j 0)) (s .args .n) (λ (j : ℕ). j) (l .j) (l .inv .2) (omega arith)
+    walk-found (λ (j : ℕ). ltb (getD (s .args .t2) j 0) (getD (s .args .t1) j 0)) (s .args .n) (λ (j : ℕ). j) (l .j) (l .inv .2)
+    (omega arith)
     (lt-ltb _ _ (c .if1 .taken))
 
 loop-less : tie.Need-loop-less Inv-loop μ-loop
@@ -57,7 +58,8 @@ returns-2 : tie.Need-returns-2 Inv-loop μ-loop
 returns-2 c =
     let l = c .before .loop in
     let s = c .before .before in
-    walk-none (λ (j : ℕ). ltb (getD (s .args .t2) j 0) (getD (s .args .t1) j 0)) (s .args .n) (λ (j : ℕ). j) (l .j) (l .inv .2) (omega arith)
+    walk-none (λ (j : ℕ). ltb (getD (s .args .t2) j 0) (getD (s .args .t1) j 0)) (s .args .n) (λ (j : ℕ). j) (l .j) (l .inv .2)
+    (omega arith)
 
 pub first-crossed-spec : {M : Type 1} → statement M
 first-crossed-spec =

@@ -1,6 +1,5 @@
 use mathlib.Core.Path.{sym}
 use borrow.Author.Tests.{le-leb, lt-leb}
-use borrow.Author.Needs.{needs}
 use Rattle.estimate.proofs.accept.time_in_range.Statement.{statement}
 use Rattle.estimate.proofs.accept.time_in_range.Tie as tie
 

@@ -1,4 +1,3 @@
-use Rattle.estimate.specs.Told.{estimateOf}
 use Rattle.estimate.proofs.Answers.{estimate-good, leasts-refused, leasts-told}
 use borrow.Author.Needs.{needs}
 use Rattle.estimate.proofs.between.least_between.Statement.{statement}

@@ -34,7 +34,8 @@ loop-holds c = (
   omega arith,
   omega arith,
   c .pre .1 .0,
-  subst (λ (z : ℤ). z ≤ℤ leastAlong (estimateOf (c .args .estimate)) (c .args .length)) (sym (toZ-ofZ w32 (c .args .number) (c .fits .number)))
+  subst (λ (z : ℤ). z ≤ℤ leastAlong (estimateOf (c .args .estimate)) (c .args .length))
+      (sym (toZ-ofZ w32 (c .args .number) (c .fits .number)))
       (c .pre .1 .1),
   λ i l. absurd (omega arith),
 )

@@ -30,7 +30,8 @@ returns : tie.Need-returns
 returns c =
     let a = c .before .before .before .before in
     let t = a .before .args .estimate in
-    met-refused t _ (a .accept-estimate .ensures) (a .before .args .number) _ refl _ _ (c .before .before .refusal .given .1) (c .no-order-met .ensures .0)
+    met-refused t _ (a .accept-estimate .ensures) (a .before .args .number) _ refl _ _ (c .before .before .refusal .given .1)
+    (c .no-order-met .ensures .0)
     (c .no-order-met .ensures .1)
 
 enum-told : tie.Need-enum-told

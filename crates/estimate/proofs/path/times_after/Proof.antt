@@ -19,7 +19,12 @@ abbrev μ-loop : tie.MeasureT-loop
 μ-loop n k lows highs out₀ left₀ j₀ out left j = n - j
 
 loop-holds : tie.Need-loop-holds Inv-loop μ-loop
-loop-holds c = (search needs, omega (arith, sum-none (widthAt (c .args .t1) (c .args .t2))), none-after (c .args .t1) (c .args .t2) (c .args .k), c .pre)
+loop-holds c = (
+  search needs,
+  omega (arith, sum-none (widthAt (c .args .t1) (c .args .t2))),
+  none-after (c .args .t1) (c .args .t2) (c .args .k),
+  c .pre,
+)
 
 mul-low : tie.Need-mul-low Inv-loop μ-loop
 mul-low c = search needs
