@@ -39,6 +39,7 @@ use Rattle.sentence.specs.Told.{composeRows, readRows as lineRows}
 use Rattle.book.specs.Book.{overBooked}
 use Rattle.needs.specs.NeedTable.{everyLength, tableRows, needRows}
 use Rattle.needs.specs.SmallestLaws.{every-length}
+use Rattle.estimate.specs.Estimate.{Estimate, estimatedRows, estimateRows}
 use Rattle.sums.specs.Lists.{tabulate}
 use Rattle.sums.specs.Places.{length-tabulate}
 use Rattle.wrap.specs.FrameAt.{Times}
@@ -83,7 +84,7 @@ none-carries : carriedBy (judge []) ≤ 48
 unfolding judge
 none-carries = omega arith
 
-count-carries : (processors jobs : ℕ) → carriedBy (judge (countRows limits processors jobs)) ≤ 48
+pub count-carries : (processors jobs : ℕ) → carriedBy (judge (countRows limits processors jobs)) ≤ 48
 count-carries processors jobs =
     whole-carries 1 48 (eqb processors 0) _ (whole-carries 2 48 (ltb 16 processors) _
     (whole-carries 3 48 (eqb jobs 0) _ (whole-carries 4 48 (ltb 48 jobs) [] none-carries)))
@@ -207,3 +208,26 @@ needs-carries table listed lent h =
     (first-carries 18 0 mostLengths _ everyLength _ (omega (arith, every-length))
     (first-carries 5 0 mostLengths _ listed _ (omega arith)
     (whole-carries 9 mostLengths (ltb lent (length listed)) [] (omega arith))))
+
+estimated-carries : (e : Estimate) → length (e .jobs) ≤ 48 → carriedBy (judge (estimatedRows e)) ≤ 48
+unfolding judge
+estimated-carries e h =
+    first-carries 5 0 48 _ (e .jobs) _ (omega arith)
+    (first-carries 6 0 48 _ (e .jobs) _ (omega arith)
+    (first-carries 13 0 48 _ (e .jobs) _ (omega arith)
+    (first-carries 19 0 48 _ (e .jobs) _ (omega arith) (first-carries 7 0 48 _ (e .jobs) _ (omega arith) (omega arith)))))
+
+-- an estimate's rows carry a job of it
+pub estimate-carries : (e : Estimate) → carriedBy (judge (estimateRows limits e)) ≤ 48
+unfolding estimateRows
+estimate-carries e = decided (judge counts) refl
+  where
+    counts : List TableRow
+    counts = countRows limits (length (e .memories)) (length (e .jobs))
+
+    decided : (v : Verdict) → judge counts ≡ v → carriedBy (judge (counts ++ estimatedRows e)) ≤ 48
+    decided accepted h =
+        rw (judge-accepted-append counts (estimatedRows e) h)
+        (estimated-carries e (counts-in-limits (length (e .memories)) (length (e .jobs)) h .3))
+    decided (refused n j) h =
+        rw (judge-refused-append counts (estimatedRows e) n j h) (rw h at (count-carries (length (e .memories)) (length (e .jobs))))

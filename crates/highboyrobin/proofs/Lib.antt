@@ -16,3 +16,6 @@ mod TimesTold
 mod TimesRead
 mod ClassesTold
 mod NeedsTold
+mod BetweenRead
+mod BetweenCalling
+mod BetweenTold

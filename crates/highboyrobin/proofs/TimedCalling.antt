@@ -25,11 +25,11 @@ use Rattle.timed.specs.Times.{timesOf}
 use Rattle.highboyrobin.specs.Results.{resultOf, answerRow}
 use Rattle.highboyrobin.specs.TimedCalls.{timesFrom, timesIn, wrongTimesRow, timedCall, ReadBy}
 use Rattle.highboyrobin.specs.declared.TimedRead.{TimedRead}
-use Rattle.highboyrobin.specs.declared.TimedStatus.{TimedStatus}
-use Rattle.highboyrobin.specs.declared.TimedStatus.the-variants.{Refused, Read}
+use Rattle.highboyrobin.specs.declared.ReadStatus.{ReadStatus}
+use Rattle.highboyrobin.specs.declared.ReadStatus.the-variants.{Refused, Read}
 
 -- one more than the result, 0 where there is none
-abbrev resultIn : TimedStatus → ℕ
+abbrev resultIn : ReadStatus → ℕ
 resultIn (Refused result) = suc result
 resultIn Read = 0
 

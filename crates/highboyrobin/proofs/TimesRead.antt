@@ -1,22 +1,21 @@
 -- How a call with times comes to its verdict: the answer's room, the file, the lengths of the lists, then the reader.
 use Prim.Native.Nat.{ℕ, _*_, _≤_, _<_}
-use mathlib.Core.Path.{_≡_, refl, sym, ap, subst, _∙_}
-use mathlib.Core.Bool.{Bool, true, false}
+use mathlib.Core.Path.{_≡_, sym, ap, subst, _∙_}
+use mathlib.Core.Bool.{true}
 use mathlib.Core.List.{List}
 use mathlib.Core.Logic.{_≢_}
 use borrow.Author.Tests.{lt-ltb, le-ltb, eq-eqb, ne-eqb}
 use lib.ListN.{length}
-use Rattle.sums.specs.Places.{length-tabulate}
-use Rattle.order.specs.Order.{processorCount, jobCount}
-use Rattle.order.specs.Refusals.{limits, Verdict, accepted, refused, judge, answerBy, orderRows}
+use Rattle.order.specs.Refusals.{limits, Verdict, refused, judge, answerBy, orderRows}
 use Rattle.order.specs.Table.{orderOf, refusalTold}
 use Rattle.order.specs.TableLaws.{refused-told}
 use Rattle.order.specs.declared.Acceptance.the-variants.{Accepted as Accepts, Refused as Refuses}
 use Rattle.order.specs.declared.Refusal.{Refusal}
-use Rattle.order_file.specs.File.{processorsOf, jobsOf, goodFile, orderIn, readRows}
-use Rattle.order_file.specs.Inside.{trailerOf, trailerBy, Within, Placed}
+use Rattle.order_file.specs.File.{goodFile, orderIn, readRows}
+use Rattle.order_file.specs.Inside.{trailerOf, Within}
 use Rattle.order_file.specs.ReaderLaws.{reader-refused, order-is, order-accepted}
 use Rattle.order_file.specs.Told.{readTold}
+use Rattle.order_file.specs.TrailerLaws.{trailer-bad, trailer-good, processors-are, jobs-are}
 use Rattle.order_file.specs.declared.Lists.{Lists}
 use Rattle.order_file.specs.declared.OrderRead.{OrderRead}
 use Rattle.order_file.specs.declared.Trailer.{Trailer}
@@ -24,21 +23,7 @@ use Rattle.order_file.specs.declared.Trailer.the-variants.{Good, Bad}
 use Rattle.highboyrobin.specs.Results.{resultOf}
 use Rattle.highboyrobin.specs.TimedCalls.{timesFrom, timedCall, ReadBy}
 use Rattle.highboyrobin.specs.declared.TimedRead.{TimedRead}
-use Rattle.highboyrobin.specs.declared.TimedStatus.the-variants.{Refused, Read}
-
--- the trailer tells whether the file is good
-good-of : (t : Bool) (l m : Lists) → trailerBy t l ≡ Good m → t ≡ true
-good-of true l m e = refl
-good-of false l m e = cc
-
-bad-of : (t : Bool) (l : Lists) → trailerBy t l ≡ Bad → t ≡ false
-bad-of true l e = cc
-bad-of false l e = refl
-
--- the lists that a trailer gives are the file's
-pub lists-placed : (f : List ℕ) (t : Trailer) (l : Lists) → Within f t → t ≡ Good l →
-    Placed f (l .«processors_at») (l .«jobs_at») (l .processors) (l .jobs)
-lists-placed f t l w e = rw e at w
+use Rattle.highboyrobin.specs.declared.ReadStatus.the-variants.{Refused, Read}
 
 -- what is read, by the verdict
 read-refused : (v : Verdict) (f ready windows : List ℕ) (r : TimedRead) (number carried : ℕ) → v ≡ refused number carried →
@@ -63,8 +48,8 @@ module _ (lent : ℕ) (f ready windows : List ℕ) where
   module _ (room : 1 ≤ lent) (t : Trailer) (is : t ≡ trailerOf f) where
     -- the file is bad
     bad : t ≡ Bad → verdict ≡ refused 12 0
-    unfolding judge timedCall trailerOf
-    bad e = rw (le-ltb lent 1 room, bad-of (goodFile f) _ (sym is ∙ e))
+    unfolding judge timedCall
+    bad e = rw (le-ltb lent 1 room, trailer-bad f t is e)
 
     pub bad-file : (r : TimedRead) → t ≡ Bad → r .status ≡ Refused 12 → ReadBy verdict f ready windows r
     bad-file r e s =
@@ -73,21 +58,12 @@ module _ (lent : ℕ) (f ready windows : List ℕ) where
     -- the file is good, and its trailer gives the lists l
     module _ (l : Lists) (w : Within f t) (good : t ≡ Good l) where
       is-good : goodFile f ≡ true
-      unfolding trailerOf
-      is-good = good-of (goodFile f) _ l (sym is ∙ good)
-
-      processors-are : processorCount (orderIn f) ≡ l .processors
-      unfolding orderIn
-      processors-are = length-tabulate (processorsOf f) _ ∙ sym (lists-placed f t l w good .processors-are)
-
-      jobs-are : jobCount (orderIn f) ≡ l .jobs
-      unfolding orderIn
-      jobs-are = length-tabulate (jobsOf f) _ ∙ sym (lists-placed f t l w good .jobs-are)
+      is-good = trailer-good f t is l good
 
       -- a list is not as long as the file's counts
       jobs-differ : length ready ≢ l .jobs → verdict ≡ refused 253 0
       unfolding judge timedCall
-      jobs-differ d = rw (le-ltb lent 1 room, is-good, jobs-are, ne-eqb (length ready) (l .jobs) d)
+      jobs-differ d = rw (le-ltb lent 1 room, is-good, jobs-are f t l w good, ne-eqb (length ready) (l .jobs) d)
 
       windows-differ : length ready ≡ l .jobs → length windows ≢ 2 * l .processors → verdict ≡ refused 253 0
       unfolding judge timedCall
@@ -95,8 +71,8 @@ module _ (lent : ℕ) (f ready windows : List ℕ) where
           rw (
             le-ltb lent 1 room,
             is-good,
-            jobs-are,
-            processors-are,
+            jobs-are f t l w good,
+            processors-are f t l w good,
             eq-eqb (length ready) (l .jobs) e,
             ne-eqb (length windows) (2 * l .processors) d,
           )
@@ -122,8 +98,8 @@ module _ (lent : ℕ) (f ready windows : List ℕ) where
               rw (
                 le-ltb lent 1 room,
                 is-good,
-                jobs-are,
-                processors-are,
+                jobs-are f t l w good,
+                processors-are f t l w good,
                 eq-eqb (length ready) (l .jobs) ej,
                 eq-eqb (length windows) (2 * l .processors) ew,
               )

@@ -5,10 +5,12 @@ pub mod TimedCalls
 pub mod BookCalls
 pub mod ClassCalls
 pub mod NeedCalls
+pub mod BetweenCalls
 pub mod CallLaws
 pub mod BookCallLaws
 pub mod ClassCallLaws
 pub mod NeedCallLaws
 pub mod TimedCallLaws
+pub mod BetweenCallLaws
 pub mod LineCallLaws
 pub mod Inside

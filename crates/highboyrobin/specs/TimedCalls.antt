@@ -22,7 +22,7 @@ use Rattle.timed.specs.declared.Times.{Times as TimesTable}
 use Rattle.highboyrobin.specs.Calls.{yesOrNo}
 use Rattle.highboyrobin.specs.Results.{resultOf, answerRow}
 use Rattle.highboyrobin.specs.declared.TimedRead.{TimedRead}
-use Rattle.highboyrobin.specs.declared.TimedStatus.the-variants.{Refused, Read}
+use Rattle.highboyrobin.specs.declared.ReadStatus.the-variants.{Refused, Read}
 
 -- the times of lent lists, as the struct that they are handed over in: 0 where a list has no number
 abbrev pub timesFrom : (ready windows : List ℕ) → TimesTable

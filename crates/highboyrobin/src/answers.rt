@@ -30,6 +30,15 @@ pub fn put_count(answer: &mut [i32], n: u32)
     answer[0] = count_of(n);
 }
 
+// Two latenesses.
+pub fn put_two(answer: &mut [i32], low: i32, high: i32)
+    requires { ⌜ 2 ≤ length (now answer) ⌝ }
+    ensures { λ r. ⌜ now (answer .exit) ≡ low ∷ high ∷ drop 2 (now (answer .entry)) ⌝ }
+{
+    answer[0] = low;
+    answer[1] = high;
+}
+
 // A lateness and a count.
 pub fn put_least(answer: &mut [i32], lateness: i32, n: u32)
     requires { ⌜ (n < 2147483648) × (2 ≤ length (now answer)) ⌝ }

@@ -1,5 +1,5 @@
 // hbr_timed_check: whether lent rows are a right plan at a bound that keeps the ready minutes and windows, for the order of a file.
-use super::TimedStatus;
+use super::ReadStatus;
 use super::answers::put_count;
 use super::results::result_of;
 use super::timing::read_timed;
@@ -27,7 +27,7 @@ pub extern "C" fn hbr_timed_check(
 {
     let got = read_timed(file, ready, windows, answer.len());
     let status = got.status;
-    if let TimedStatus::Refused(result) = status {
+    if let ReadStatus::Refused(result) = status {
         return result;
     }
     let order = got.order;

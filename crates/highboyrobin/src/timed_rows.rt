@@ -1,5 +1,5 @@
 // hbr_timed_rows: how many rows hbr_timed_plan asks to be lent at a bound.
-use super::TimedStatus;
+use super::ReadStatus;
 use super::answers::put_count;
 use super::results::result_of;
 use super::timing::read_timed;
@@ -26,7 +26,7 @@ pub extern "C" fn hbr_timed_rows(
 {
     let got = read_timed(file, ready, windows, answer.len());
     let status = got.status;
-    if let TimedStatus::Refused(result) = status {
+    if let ReadStatus::Refused(result) = status {
         return result;
     }
     let order = got.order;

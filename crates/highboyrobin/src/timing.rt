@@ -1,12 +1,14 @@
 // The order of a file and the times lent beside it, for the calls with ready minutes and windows. All serve this crate alone.
+use super::ReadStatus;
 use super::TimedRead;
-use super::TimedStatus;
+use super::lists::by_job;
+use super::lists::number_at;
 use super::results::BAD_FILE;
 use super::results::SHORT_ANSWER;
 use super::results::WRONG_TIMES;
 use super::results::result_of;
 use order::Acceptance;
-use order::Order;
+use order::none::no_order;
 use order_file::Trailer;
 use order_file::read::read_order;
 use order_file::read::read_trailer;
@@ -18,29 +20,6 @@ ghost use Rattle.sums.specs.Lists.{tabulate};
 ghost use Rattle.order.specs.Refusals.{limits, judge, orderRows};
 ghost use Rattle.order_file.specs.File.{orderIn};
 ghost use Rattle.highboyrobin.specs.TimedCalls.{timesFrom, timedCall, ReadBy};
-
-// The number at a place, 0 where the list has none.
-fn number_at(list: &[u32], at: usize) -> u32
-    ensures { λ r. ⌜ r ≡ getD (now (list .entry)) at 0 ⌝ }
-{
-    if at < list.len() {
-        return list[at];
-    }
-    0
-}
-
-// The first 48 numbers.
-fn ready_from(ready: &[u32]) -> [u32; 48]
-    ensures { λ r. ⌜ r ≡ tabulate 48 (λ (j : ℕ). getD (now (ready .entry)) j 0) ⌝ }
-{
-    let mut out = [0u32; 48];
-    let mut j: usize = 0;
-    while j < 48 {
-        out[j] = number_at(ready, j);
-        j += 1;
-    }
-    out
-}
 
 // Of the first 16 pairs, the numbers at this place in each.
 fn side_from(windows: &[u32], side: usize) -> [u32; 16]
@@ -61,7 +40,7 @@ fn times_from(ready: &[u32], windows: &[u32]) -> Times
     ensures { λ r. ⌜ r ≡ timesFrom (now (ready .entry)) (now (windows .entry)) ⌝ }
 {
     Times {
-        ready: ready_from(ready),
+        ready: by_job(ready),
         opens: side_from(windows, 0),
         closes: side_from(windows, 1),
     }
@@ -69,19 +48,11 @@ fn times_from(ready: &[u32], windows: &[u32]) -> Times
 
 // A result, with no order.
 fn refuse(result: u32) -> TimedRead
-    ensures { λ r. ⌜ r .status ≡ TimedStatus.Refused result ⌝ }
+    ensures { λ r. ⌜ r .status ≡ ReadStatus.Refused result ⌝ }
 {
     TimedRead {
-        status: TimedStatus::Refused(result),
-        order: Order {
-            processors: 0,
-            memories: [0u32; 16],
-            jobs: 0,
-            times: [0u32; 48],
-            dues: [0i32; 48],
-            needs: [0u32; 48],
-            makers: [0u32; 48],
-        },
+        status: ReadStatus::Refused(result),
+        order: no_order(),
         times: Times {
             ready: [0u32; 48],
             opens: [0u32; 16],
@@ -115,7 +86,7 @@ pub fn read_timed(file: &[u8], ready: &[u32], windows: &[u32], lent: usize) -> T
     }
     let order = got.order;
     TimedRead {
-        status: TimedStatus::Read,
+        status: ReadStatus::Read,
         order,
         times: times_from(ready, windows),
     }

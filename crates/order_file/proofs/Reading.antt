@@ -1,12 +1,11 @@
 -- How the reader puts its answer together: 12, then the counts, then the whole of acceptance decide.
 use Prim.Native.Nat.{ℕ, _≤_}
 use mathlib.Core.Path.{_≡_, refl, sym, ap, subst, _∙_}
-use mathlib.Core.Bool.{Bool, true, false}
 use mathlib.Core.List.{List, _++_}
 use native.Mathlib.Omega.{arith}
 use Rattle.sums.specs.Places.{length-tabulate}
 use Rattle.order.specs.Order.{Order, noOrder, processorCount, jobCount}
-use Rattle.order.specs.Refusals.{limits, TableRow, Verdict, accepted, refused, judge, answer, answerBy, countRows, jobRows, orderRows}
+use Rattle.order.specs.Refusals.{limits, TableRow, Verdict, accepted, refused, judge, answer, countRows, jobRows, orderRows}
 use Rattle.order.specs.RefusalLaws.{judge-refused-append, counts-in-limits}
 use Rattle.order.specs.Table.{orderOf, tableOf, acceptanceTold}
 use Rattle.order.specs.TableLaws.{refused-told}
@@ -16,10 +15,11 @@ use Rattle.order.specs.declared.Refusal.{Refusal}
 use Rattle.order.specs.declared.Refusal.the-variants.{BadFile}
 use Rattle.order.specs.declared.Acceptance.{Acceptance}
 use Rattle.order.specs.declared.Acceptance.the-variants.{Accepted, Refused}
-use Rattle.order_file.specs.File.{processorsOf, jobsOf, goodFile, orderIn, readRows, orderBy}
+use Rattle.order_file.specs.File.{processorsOf, jobsOf, orderIn, readRows, orderBy}
 use Rattle.order_file.specs.ReaderLaws.{read-refused, read-accepted}
-use Rattle.order_file.specs.Told.{readTold, ReadBy}
-use Rattle.order_file.specs.Inside.{trailerOf, trailerBy, Within, Placed}
+use Rattle.order_file.specs.Told.{ReadBy}
+use Rattle.order_file.specs.TrailerLaws.{trailer-bad, trailer-good, processors-are, jobs-are}
+use Rattle.order_file.specs.Inside.{trailerOf, Within, Placed}
 use Rattle.order_file.specs.declared.Lists.{Lists}
 use Rattle.order_file.specs.declared.OrderRead.{OrderRead}
 use Rattle.order_file.specs.declared.Trailer.{Trailer}
@@ -30,43 +30,22 @@ refused-read : (v : Verdict) (o : Order) (r : OrderRead) (number carried : ℕ) 
     acceptanceTold (r .status) ≡ refused number carried → r .order ≡ tableOf noOrder → ReadBy v o r
 refused-read v o r number carried e s empty = rw (e, s) (refl, empty)
 
--- the trailer tells whether the file is good
-good-of : (t : Bool) (l m : Lists) → trailerBy t l ≡ Good m → t ≡ true
-good-of true l m e = refl
-good-of false l m e = cc
-
-bad-of : (t : Bool) (l : Lists) → trailerBy t l ≡ Bad → t ≡ false
-bad-of true l e = cc
-bad-of false l e = refl
-
 module _ (f : List ℕ) where
   pub bad-file : (t : Trailer) (r : OrderRead) → t ≡ trailerOf f → t ≡ Bad → r .status ≡ Refused BadFile →
       r .order ≡ tableOf noOrder → ReadBy (judge (readRows f)) (orderIn f) r
-  unfolding trailerOf readRows judge
+  unfolding readRows judge
   bad-file t r is bad s empty =
-      let row : judge (readRows f) ≡ refused 12 0 = rw (bad-of (goodFile f) _ (sym is ∙ bad)) in
+      let row : judge (readRows f) ≡ refused 12 0 = rw (trailer-bad f t is bad) in
       refused-read (judge (readRows f)) (orderIn f) r 12 0 row (ap acceptanceTold s) empty
-
-  pub places : (t : Trailer) (l : Lists) → Within f t → t ≡ Good l →
-      Placed f (l .«processors_at») (l .«jobs_at») (l .processors) (l .jobs)
-  places t l w e = rw e at w
 
   -- in a good file the trailer's lists l are judged
   module _ (t : Trailer) (l : Lists) (is : t ≡ trailerOf f) (w : Within f t) (good : t ≡ Good l) where
     order-decides : judge (readRows f) ≡ judge (orderRows limits (orderIn f))
-    unfolding trailerOf readRows judge
-    order-decides = rw (good-of (goodFile f) _ l (sym is ∙ good))
-
-    processors-are : processorCount (orderIn f) ≡ l .processors
-    unfolding orderIn
-    processors-are = length-tabulate (processorsOf f) _ ∙ sym (places t l w good .processors-are)
-
-    jobs-are : jobCount (orderIn f) ≡ l .jobs
-    unfolding orderIn
-    jobs-are = length-tabulate (jobsOf f) _ ∙ sym (places t l w good .jobs-are)
+    unfolding readRows judge
+    order-decides = rw (trailer-good f t is l good)
 
     counts-are : countRows limits (l .processors) (l .jobs) ≡ countRows limits (processorCount (orderIn f)) (jobCount (orderIn f))
-    counts-are = rw (processors-are, jobs-are)
+    counts-are = rw (processors-are f t l w good, jobs-are f t l w good)
 
     -- what was read where the counts are judged
     module _ (c : OrderRead) (e : ReadBy (judge (countRows limits (l .processors) (l .jobs))) (orderIn f) c) where

@@ -7,3 +7,4 @@ pub mod ByteLaws
 pub mod FileLaws
 pub mod RoundTrip
 pub mod ReaderLaws
+pub mod TrailerLaws

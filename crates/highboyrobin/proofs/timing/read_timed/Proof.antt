@@ -2,8 +2,8 @@
 use mathlib.Core.Path.{refl}
 use Rattle.order_file.specs.ReaderLaws.{reader-refused}
 use Rattle.highboyrobin.proofs.Carried.{carried-few, read-carries}
+use Rattle.order_file.specs.TrailerLaws.{lists-placed}
 use Rattle.highboyrobin.proofs.TimesRead.{
-  lists-placed,
   no-room,
   bad-file,
   other-jobs,

@@ -11,7 +11,7 @@ use Rattle.highboyrobin.proofs.timing.side_from.Statement.{statement}
 use Rattle.highboyrobin.proofs.timing.side_from.Tie as tie
 use Rattle.highboyrobin.proofs.timing.side_from.Reads as reads
 use Rattle.highboyrobin.proofs.timing.side_from.Lts as lts
-use Rattle.highboyrobin.proofs.timing.number_at.Reads as number-at-reads
+use Rattle.highboyrobin.proofs.lists.number_at.Reads as number-at-reads
 
 abbrev Inv-loop : tie.InvT-loop
 Inv-loop windows side out₀ i₀ out i = (i ≤ 16) × (out ≡ paddedTo 16 i 0 (λ (k : ℕ). getD windows (2 * k + side) 0))

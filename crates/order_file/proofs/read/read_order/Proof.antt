@@ -1,5 +1,6 @@
 -- `read_order`: the file, the counts and the whole order are judged one after the other, as the refusal table has them.
-use Rattle.order_file.proofs.Reading.{bad-file, places, counts-refused, order-refused, order-accepted}
+use Rattle.order_file.specs.TrailerLaws.{lists-placed}
+use Rattle.order_file.proofs.Reading.{bad-file, counts-refused, order-refused, order-accepted}
 use borrow.Author.Needs.{needs}
 use Rattle.order_file.proofs.read.read_order.Statement.{statement}
 use Rattle.order_file.proofs.read.read_order.Tie as tie
@@ -28,7 +29,7 @@ read-counted-requires c κs =
     let l = c .before in
     let t = l .before .before in
     let f = t .before .before .args .file .now in
-    places f _ _ (t .read-trailer .ensures .1) (l .lists .given .1)
+    lists-placed f _ _ (t .read-trailer .ensures .1) (l .lists .given .1)
 
 enum-told-2 : tie.Need-enum-told-2
 enum-told-2 c = search needs

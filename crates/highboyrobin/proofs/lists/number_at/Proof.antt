@@ -1,9 +1,9 @@
 use Rattle.highboyrobin.proofs.TimesTold.{none-beyond}
 use borrow.Author.Needs.{needs}
-use Rattle.highboyrobin.proofs.timing.number_at.Statement.{statement}
-use Rattle.highboyrobin.proofs.timing.number_at.Tie as tie
-use Rattle.highboyrobin.proofs.timing.number_at.Reads as reads
-use Rattle.highboyrobin.proofs.timing.number_at.Lts as lts
+use Rattle.highboyrobin.proofs.lists.number_at.Statement.{statement}
+use Rattle.highboyrobin.proofs.lists.number_at.Tie as tie
+use Rattle.highboyrobin.proofs.lists.number_at.Reads as reads
+use Rattle.highboyrobin.proofs.lists.number_at.Lts as lts
 
 mul-result : tie.Need-mul-result
 mul-result c = search needs

@@ -1,4 +1,4 @@
--- `ready_from`: the invariant is that the places before j hold the lent numbers, the others 0.
+-- `by_job`: the invariant is that the places before j hold the lent numbers, the others 0.
 use Prim.Native.Nat.{ℕ, _-_, _≤_}
 use mathlib.Core.Path.{_≡_, _∙_}
 use lib.ListN.{getD}
@@ -7,17 +7,17 @@ use Rattle.order_file.specs.PaddedLaws.{padded-none, padded-more}
 use Rattle.highboyrobin.proofs.TimesTold.{all-padded}
 use borrow.Author.Needs.{needs}
 use native.Mathlib.Omega.{arith}
-use Rattle.highboyrobin.proofs.timing.ready_from.Statement.{statement}
-use Rattle.highboyrobin.proofs.timing.ready_from.Tie as tie
-use Rattle.highboyrobin.proofs.timing.ready_from.Reads as reads
-use Rattle.highboyrobin.proofs.timing.ready_from.Lts as lts
-use Rattle.highboyrobin.proofs.timing.number_at.Reads as number-at-reads
+use Rattle.highboyrobin.proofs.lists.by_job.Statement.{statement}
+use Rattle.highboyrobin.proofs.lists.by_job.Tie as tie
+use Rattle.highboyrobin.proofs.lists.by_job.Reads as reads
+use Rattle.highboyrobin.proofs.lists.by_job.Lts as lts
+use Rattle.highboyrobin.proofs.lists.number_at.Reads as number-at-reads
 
 abbrev Inv-loop : tie.InvT-loop
-Inv-loop ready out₀ j₀ out j = (j ≤ 48) × (out ≡ paddedTo 48 j 0 (λ (k : ℕ). getD ready k 0))
+Inv-loop list out₀ j₀ out j = (j ≤ 48) × (out ≡ paddedTo 48 j 0 (λ (k : ℕ). getD list k 0))
 
 abbrev μ-loop : tie.MeasureT-loop
-μ-loop ready out₀ j₀ out j = 48 - j
+μ-loop list out₀ j₀ out j = 48 - j
 
 loop-holds : tie.Need-loop-holds Inv-loop μ-loop
 loop-holds c = (omega arith, padded-none 48 0 _)
@@ -43,12 +43,12 @@ loop-again c = (omega arith, padded-more 48 _ 0 _ _ _ (omega arith) (c .before .
 returns : tie.Need-returns Inv-loop μ-loop
 returns c =
     let l = c .before .loop in
-    let lent = c .before .before .before .args .ready .now in
+    let lent = c .before .before .before .args .list .now in
     let e : l .j ≡ 48 = omega arith in
     l .inv .1 ∙ all-padded 48 (l .j) 0 (λ (k : ℕ). getD lent k 0) e
 
-pub ready-from-spec : {M : Type 1} → statement M
-ready-from-spec =
+pub by-job-spec : {M : Type 1} → statement M
+by-job-spec =
     tie.close
     (tie.spec
     Inv-loop
