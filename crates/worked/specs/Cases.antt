@@ -1,5 +1,6 @@
 -- Document 01's cases with a ●, the lines of document 02, §1, joined rows of §2, ends of §3, makers and books of §4, ready minutes and
--- windows of §5, classes passed of §6, needs of §7, jobs as they lie of §8, and more: one table, and one theorem that every case holds of the definitions.
+-- windows of §5, classes passed of §6, needs of §7, jobs as they lie of §8, times between of §9, and more: one table, and one theorem
+-- that every case holds of the definitions.
 use Prim.Native.Nat.{ℕ, zero, suc, _+_, _*_, _-_, _≤_}
 use Prim.Native.String.{String}
 use mathlib.Core.Path.{_≡_, refl, sym, ap, _∙_, subst}
@@ -15,7 +16,7 @@ use Rattle.sums.specs.Gate.{gate, gate-in, gate-out}
 use lib.ListN.{length, getD}
 use Rattle.sums.specs.Lists.{All, keep, nth, only, tabulate}
 use Rattle.sums.specs.Same.{sameList}
-use Rattle.order.specs.Order.{Order, processorCount, jobCount, endAt, endOf}
+use Rattle.order.specs.Order.{Order, processorCount, jobCount, noJob, endAt, endOf}
 use Rattle.order.specs.Sorted.{insert, distinct, dueTimes, placeByKey, byFalling, processorOrder, jobOrder}
 use Rattle.order.specs.Class.{classes, lastThatSuffices, classFor, classOf, processorsIn, processorsTo}
 use Rattle.order.specs.Refusals.{limits, Verdict, accepted, refused, judge, leftBy, firstAfter, fitsSome, orderRows, Accepted}
@@ -35,7 +36,7 @@ use Rattle.plan.specs.CheckLaws.{isRight-iff}
 use Rattle.plan.specs.NumberLaws.{rows-of-numbers}
 use Rattle.profile.specs.Profile.{owed, classOwes, owedFrom, onHandFrom}
 use Rattle.profile.specs.Reason.{Reason, overEnd, stairs, IsReason, Stands, owedOf, onHandOf}
-use Rattle.profile.specs.Search.{Found, found, choices, ranked, firstSuch, firstOverfull, reasonOf}
+use Rattle.profile.specs.Search.{Found, nothing, found, choices, ranked, firstSuch, firstOverfull, reasonOf}
 use Rattle.profile.specs.ReasonLaws.{reason-found}
 use Rattle.profile.specs.Standing.{jobsOverEnd, overfullStairs, reasonsAt, isOneOf, isStanding}
 use Rattle.profile.specs.StandingLaws.{standing-is}
@@ -61,7 +62,31 @@ use Rattle.timed.specs.Rows.{askedRows, earlierTimed}
 use Rattle.timed.specs.Check.{isRightTimed}
 use Rattle.timed.specs.CheckLaws.{timed-yes}
 use Rattle.feasible.specs.Least.{is-least}
-use Rattle.worked.specs.Orders.{A, B, C, D, needZero, overdue, twoOverfull, twoLate, onTop, chain, wraps, shared, ofMaker, nineJobs, twoEarly, ties, twoAndTwo, oneClass, lateLast}
+use Rattle.estimate.specs.Estimate.{Estimate, leastAtLows, leastAtHighs, nextTimes, pathAt, pathLength, firstMet, estimateRows}
+use Rattle.estimate.specs.Request.{leastAlong}
+use Rattle.worked.specs.Orders.{
+  A,
+  B,
+  C,
+  D,
+  needZero,
+  overdue,
+  twoOverfull,
+  twoLate,
+  onTop,
+  chain,
+  wraps,
+  shared,
+  ofMaker,
+  nineJobs,
+  twoEarly,
+  ties,
+  twoAndTwo,
+  oneClass,
+  lateLast,
+  twoApart,
+  tooLarge,
+}
 
 -- amounts by job, and for each job by stretch
 abbrev pub amountsOf : List (List ℕ) → ℕ → ℕ → ℕ
@@ -89,7 +114,8 @@ sevens lent = tabulate lent (λ _. 7)
 -- of the rows asked for, what is refused before 10 with a buffer of so many numbers, a plan that keeps the times and one that does not,
 -- amounts with their joined rows, and that there is no plan, by what each stretch's classes have at most; the classes and the processors
 -- of each after each processor passed; a table of needs with a list and room for so many needs, what it is judged as, and what the room
--- holds then; the numbers of the jobs as they lie
+-- holds then; the numbers of the jobs as they lie; of an estimate the least lateness at all lows and at all highs with those along the
+-- path, the times first met with a number or that none are, and what it is judged as
 pub data Case : Type 0 where
   leastIs : Order → ℤ → Case
   reasonIs : Order → ℤ → Reason → ℕ → ℤ → Case
@@ -113,6 +139,9 @@ pub data Case : Type 0 where
   passesAs : Order → List (List ℕ × List ℕ) → Case
   needsAre : (table listed : List ℕ) → (lent : ℕ) → Verdict → List ℕ → Case
   lieAs : Order → List ℕ → Case
+  betweenIs : Estimate → ℤ → ℤ → List ℤ → Case
+  metIs : Estimate → ℤ → Found (List ℕ) → Case
+  estimateIs : Estimate → Verdict → Case
 
 -- what a case says, in the words of the definitions
 abbrev pub Holds : Case → Type 0
@@ -144,6 +173,13 @@ Holds (needsAre table listed lent verdict needs) =
     (judge (needRows table listed lent) ≡ verdict)
     × (leftBy (judge (needRows table listed lent)) (needsOf table listed) (sevens lent) ≡ needs)
 Holds (lieAs o numbers) = tabulate (jobCount o) (numberAt o) ≡ numbers
+Holds (betweenIs e low high along) =
+    (judge (estimateRows limits e) ≡ accepted)
+    × (leastAtLows e ≡ low)
+    × (leastAtHighs e ≡ high)
+    × (tabulate (suc (pathLength e)) (leastAlong e) ≡ along)
+Holds (metIs e number times) = (judge (estimateRows limits e) ≡ accepted) × (firstMet e number ≡ times)
+Holds (estimateIs e verdict) = judge (estimateRows limits e) ≡ verdict
 
 -- a row: job, processor, from, to; and a row of job 1 on processor 1
 abbrev row : ℕ → ℕ → ℕ → ℕ → Row
@@ -176,6 +212,20 @@ partsAfter k (suc n) size = line (k * size + 1) (suc k * size) (suc k) ++ partsA
 
 abbrev parts : ℕ → ℕ → List ℕ
 parts n size = partsAfter 0 n size
+
+-- an order with a low and a high in place of each time
+abbrev between : Order → (lows highs : List ℕ) → Estimate
+between o lows highs =
+    record {
+      memories = o .memories;
+      jobs = tabulate (jobCount o) (λ j. record {
+        low = getD lows j 0;
+        high = getD highs j 0;
+        due = getD (o .jobs) j noJob .due;
+        need = getD (o .jobs) j noJob .need;
+        maker = getD (o .jobs) j noJob .maker;
+      });
+    }
 
 -- minus 8 is -8
 abbrev minus : ℕ → ℤ
@@ -324,6 +374,34 @@ cases =
     ∷ lieAs oneClass (2 ∷ 1 ∷ 3 ∷ [])
     ∷ lieAs lateLast (2 ∷ 3 ∷ 1 ∷ [])
     ∷ reasonIs lateLast (minus 1) (overEnd 1) 3 (pos 1)
+    -- document 02, §9: the leasts along the path of A, of one order, of C and of two jobs with a plateau; the first met with each number,
+    -- and none outside
+    ∷ betweenIs (between A (1 ∷ 1 ∷ 1 ∷ []) (3 ∷ 3 ∷ 2 ∷ [])) (minus 3) (pos 0)
+    (minus 3 ∷ minus 2 ∷ minus 1 ∷ minus 1 ∷ minus 1 ∷ pos 0 ∷ [])
+    ∷ metIs (between A (1 ∷ 1 ∷ 1 ∷ []) (3 ∷ 3 ∷ 2 ∷ [])) (minus 4) nothing
+    ∷ metIs (between A (1 ∷ 1 ∷ 1 ∷ []) (3 ∷ 3 ∷ 2 ∷ [])) (minus 3) (found (1 ∷ 1 ∷ 1 ∷ []))
+    ∷ metIs (between A (1 ∷ 1 ∷ 1 ∷ []) (3 ∷ 3 ∷ 2 ∷ [])) (minus 1) (found (3 ∷ 1 ∷ 1 ∷ []))
+    ∷ metIs (between A (1 ∷ 1 ∷ 1 ∷ []) (3 ∷ 3 ∷ 2 ∷ [])) (pos 0) (found (3 ∷ 3 ∷ 2 ∷ []))
+    ∷ metIs (between A (1 ∷ 1 ∷ 1 ∷ []) (3 ∷ 3 ∷ 2 ∷ [])) (pos 1) nothing
+    ∷ betweenIs (between A (1 ∷ 2 ∷ 1 ∷ []) (3 ∷ 6 ∷ 2 ∷ [])) (minus 2) (pos 2)
+    (minus 2 ∷ minus 2 ∷ minus 1 ∷ minus 1 ∷ pos 0 ∷ pos 1 ∷ pos 2 ∷ pos 2 ∷ [])
+    ∷ metIs (between A (1 ∷ 2 ∷ 1 ∷ []) (3 ∷ 6 ∷ 2 ∷ [])) (minus 2) (found (1 ∷ 2 ∷ 1 ∷ []))
+    ∷ metIs (between A (1 ∷ 2 ∷ 1 ∷ []) (3 ∷ 6 ∷ 2 ∷ [])) (pos 2) (found (3 ∷ 6 ∷ 1 ∷ []))
+    ∷ metIs (between B (1 ∷ 1 ∷ 1 ∷ 1 ∷ []) (3 ∷ 3 ∷ 3 ∷ 3 ∷ [])) (pos 1) (found (3 ∷ 3 ∷ 1 ∷ 1 ∷ []))
+    ∷ metIs (between B (1 ∷ 1 ∷ 1 ∷ 1 ∷ []) (3 ∷ 3 ∷ 3 ∷ 3 ∷ [])) (pos 2) (found (3 ∷ 3 ∷ 3 ∷ 2 ∷ []))
+    ∷ betweenIs (between C (3 ∷ []) (3 ∷ [])) (minus 8) (minus 8) (minus 8 ∷ [])
+    ∷ metIs (between C (3 ∷ []) (3 ∷ [])) (minus 8) (found (3 ∷ []))
+    ∷ betweenIs (between twoApart (1 ∷ 2 ∷ []) (12 ∷ 4 ∷ [])) (pos 1) (pos 6)
+    (pos 1 ∷ pos 1 ∷ pos 1 ∷ pos 1 ∷ pos 1 ∷ pos 1 ∷ pos 1 ∷ pos 1 ∷ pos 1 ∷ pos 2 ∷ pos 3 ∷ pos 4 ∷ pos 5 ∷ pos 6 ∷ [])
+    ∷ metIs (between twoApart (1 ∷ 2 ∷ []) (12 ∷ 4 ∷ [])) (pos 2) (found (10 ∷ 2 ∷ []))
+    -- 19 before 7 and after 5 and 13; equal is good; a bad high at job 1 before a bad low at job 3
+    ∷ estimateIs (between tooLarge (5 ∷ []) (4 ∷ [])) (refused 19 1)
+    ∷ estimateIs (between tooLarge (5 ∷ []) (5 ∷ [])) (refused 7 1)
+    ∷ estimateIs (between tooLarge (200000 ∷ []) (5 ∷ [])) (refused 5 1)
+    ∷ estimateIs (between (ofMaker 17) (5 ∷ []) (4 ∷ [])) (refused 13 1)
+    ∷ estimateIs (between A (1 ∷ 1 ∷ 0 ∷ []) (100001 ∷ 1 ∷ 1 ∷ [])) (refused 5 1)
+    ∷ estimateIs (between A (1 ∷ 4 ∷ 1 ∷ []) (1 ∷ 3 ∷ 0 ∷ [])) (refused 5 3)
+    ∷ estimateIs (between A (1 ∷ 4 ∷ 5 ∷ []) (1 ∷ 3 ∷ 4 ∷ [])) (refused 19 2)
     -- beyond document 01's: of two overfull staircases, the one that ranks first
     ∷ reasonIs twoOverfull (minus 1) (stairs (pos 4 ∷ pos 2 ∷ [])) 8 (pos 6)
     -- an empty row, and one that goes backwards, beside a right plan
@@ -363,6 +441,8 @@ data Value : Type 0 where
   listings : List (List ℕ × List ℕ) → Value
   needsLeft : Bool → Verdict → List ℕ → Value
   lying : List ℕ → Value
+  spread : Verdict → ℤ → ℤ → List ℤ → Value
+  meeting : Verdict → Found (List ℕ) → Value
 
 -- whether the jobs must have more inside a cut of classes, one for each stretch, than there is room: each its time less what it can have
 -- outside, in the stretches whose class is below its own
@@ -405,6 +485,10 @@ computed (needsAre table listed lent verdict needs) =
     needsLeft (stopped mostLines (counted table)) (decide mostLines table listed lent)
     (leftBy (decide mostLines table listed lent) (needsOf table listed) (sevens lent))
 computed (lieAs o numbers) = lying (tabulate (jobCount o) (numberAt o))
+computed (betweenIs e low high along) =
+    spread (judge (estimateRows limits e)) (leastAtLows e) (leastAtHighs e) (tabulate (suc (pathLength e)) (leastAlong e))
+computed (metIs e number times) = meeting (judge (estimateRows limits e)) (firstMet e number)
+computed (estimateIs e verdict) = judged (judge (estimateRows limits e))
 
 abbrev stated : Case → Value
 stated (leastIs o least) = leastOf accepted least
@@ -429,6 +513,9 @@ stated (timedTightIs o bound t cut) = checked true
 stated (passesAs o told) = listings told
 stated (needsAre table listed lent verdict needs) = needsLeft true verdict needs
 stated (lieAs o numbers) = lying numbers
+stated (betweenIs e low high along) = spread accepted low high along
+stated (metIs e number times) = meeting accepted times
+stated (estimateIs e verdict) = judged verdict
 
 right-rows : (o : Order) (bound : ℤ) (rows : List Row) → isRight o bound (numbersOf rows) ≡ true → Right o bound rows
 right-rows o bound rows e =
@@ -513,6 +600,9 @@ case-holds (needsAre table listed lent verdict needs) e =
     let stops : stopped mostLines (counted table) ≡ true = cc in
     rw (decided mostLines table listed lent stops) (cc, cc)
 case-holds (lieAs o numbers) e = cc
+case-holds (betweenIs e low high along) q = (cc, cc, cc, cc)
+case-holds (metIs e number times) q = (cc, cc)
+case-holds (estimateIs e verdict) q = cc
 
 all-hold : (cs : List Case) → map computed cs ≡ map stated cs → All Holds cs
 all-hold [] e = tt
@@ -529,6 +619,7 @@ unfolding sum endAt endOf insert distinct dueTimes classes lastThatSuffices clas
     fill sharesOf stretchRows rowsUpTo layout jobWhere joinRow joinRows processorBytes jobBytes fileOf orderIn minutesBy added someOver
     bookAfter leastRows earlierRows planRows changes changeTimes markAt askedRows earlierTimed isRightTimed lies openOrder openTo
     stretchRowsIn inTurn layoutIn deadlineOf right meets linesIn counted metBy needFor behind climbed firstTwice
+    estimateRows nextTimes pathAt firstMet
 all-computed = refl
 
 -- every case holds

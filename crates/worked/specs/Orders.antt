@@ -86,3 +86,10 @@ oneClass = order (8 ∷ 2 ∷ []) (job 1 (pos 9) 3 ∷ job 2 (pos 9) 7 ∷ job 3
 
 abbrev pub lateLast : Order
 lateLast = order (8 ∷ []) (job 3 (pos 1) 2 ∷ job 5 (pos 2) 8 ∷ job 1 (pos 9) 4 ∷ [])
+
+-- document 02, §9: two jobs of one processor, the second due at once; a job that fits no processor
+abbrev pub twoApart : Order
+twoApart = order (4 ∷ []) (job 1 (pos 9) 4 ∷ job 2 (pos 0) 4 ∷ [])
+
+abbrev pub tooLarge : Order
+tooLarge = order (8 ∷ []) (job 5 (pos 1) 9 ∷ [])
