@@ -23,14 +23,18 @@ def refused(refusal):
     return [f"refused {refusal.number} {refusal.carried}"]
 
 
+def order_lines(order):
+    return [f"order {order.m} {order.n}",
+            *(f"processor {memory}" for memory in order.memories),
+            *(f"job {job.time} {job.due} {job.need} {job.maker}"
+              for job in order.jobs)]
+
+
 def read(data):
     answer = order_file.read(data)
     if isinstance(answer, orders.Refusal):
         return refused(answer)
-    return [f"order {answer.m} {answer.n}",
-            *(f"processor {memory}" for memory in answer.memories),
-            *(f"job {job.time} {job.due} {job.need} {job.maker}"
-              for job in answer.jobs)]
+    return order_lines(answer)
 
 
 def check(order, bound, numbers):

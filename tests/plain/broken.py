@@ -5,8 +5,8 @@ document 02's sentences of the reason give those of its lines, those of fewer
 hand-overs those of joined rows, those of the due minute those of ends; makers and
 the book stand in broken_makers.py, ready minutes and windows in broken_timed.py,
 classes and their processors in broken_classes.py, needs from a table in
-broken_needs.py, jobs held by falling need in broken_held.py. Each variant replaces one
-name of one module while one test runs.
+broken_needs.py, jobs held by falling need in broken_held.py, times between two numbers
+in broken_estimate.py. Each variant replaces one name of one module while one test runs.
 
     broken.py          runs all variants; exits 1 if one of them is not caught
 """
@@ -21,6 +21,7 @@ from collections import namedtuple
 
 import answers
 import broken_classes
+import broken_estimate
 import broken_held
 import broken_makers
 import broken_needs
@@ -914,8 +915,10 @@ TIMED = [Variant(*variant) for variant in broken_timed.VARIANTS]
 CLASSES = [Variant(*variant) for variant in broken_classes.VARIANTS]
 NEEDS = [Variant(*variant) for variant in broken_needs.VARIANTS]
 HELD = [Variant(*variant) for variant in broken_held.VARIANTS]
+ESTIMATE = [Variant(*variant) for variant in broken_estimate.VARIANTS]
 VARIANTS = (LATENESS + REASONS + REFUSALS + PLANS + LAYOUTS + JOININGS + SEARCHES
-            + FILES + SENTENCES + ENDS + MAKERS + TIMED + CLASSES + NEEDS + HELD)
+            + FILES + SENTENCES + ENDS + MAKERS + TIMED + CLASSES + NEEDS + HELD
+            + ESTIMATE)
 
 
 def caught(variant):

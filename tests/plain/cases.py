@@ -16,6 +16,7 @@ import book
 import cases_book
 import cases_check
 import cases_classes
+import cases_estimate
 import cases_held
 import cases_join
 import cases_needs
@@ -26,6 +27,7 @@ import cases_timed
 import cases_timed_check
 import cases_write
 import classes
+import estimate
 import flow
 import needs
 import stream_form
@@ -35,7 +37,7 @@ HERE = pathlib.Path(__file__).resolve().parent
 PROGRAM = HERE.parent.parent / "crates" / "cases"
 PARTS = (cases_read, cases_check, cases_write, cases_planner, cases_sentence,
          cases_join, cases_book, cases_timed, cases_timed_check, cases_classes,
-         cases_needs, cases_held)
+         cases_needs, cases_held, cases_estimate)
 # What the program reads, what it has to print, and what each case shows.
 STORED = {"stdin": PROGRAM / "stdin", "stdout": PROGRAM / "stdout",
           "list": HERE / "streams" / "cases.list"}
@@ -44,8 +46,21 @@ ANSWER = {"read": answers.read, "check": answers.check, "write": answers.write,
           "compose": answers.compose, "parse": answers.parse, "book": book.told,
           "asked": timed_answers.asked, "timed": timed_answers.planned,
           "watch": timed_answers.checked, "classes": classes.told,
-          "needs": needs.told}
-BYTES_MOST = 2000000
+          "needs": needs.told, "between": estimate.told}
+BYTES_MOST = 2200000
+
+
+def between(record, lines):
+    """The orders at the lows, at the highs and met, each with its least lateness."""
+    order, highs, number = record.values
+    word, below, above = lines[0].split()
+    if word == "refused":
+        return
+    yield order, int(below)
+    yield estimate.with_times(order, highs), int(above)
+    if lines[1] != "nowhere":
+        yield estimate.with_times(order, [
+            int(line.split()[1]) for line in lines[2 + order.m:]]), number
 
 
 def planned(record, lines):
@@ -57,11 +72,16 @@ def planned(record, lines):
         for call, line in zip(record.values[1], lines[::2]):
             if call.which == stream_form.PLAN:
                 yield call.order, call.bound, line
+    elif record.kind == "between":
+        for order, number in between(record, lines):
+            yield order, number, "meets"
+            yield order, number - 1, "tight"
 
 
 def expected(record):
-    """The lines of one case. A planner's answer is given by the staircases and
-    has to agree with the flow."""
+    """The lines of one case. A planner's answer, and the least lateness of many
+    minutes between a low and a high, is given by the staircases and has to agree with
+    the flow."""
     lines = ANSWER[record.kind](*record.values)
     for order, bound, line in planned(record, lines):
         if (not line.startswith("refused")

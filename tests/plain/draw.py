@@ -8,7 +8,7 @@ ready minute [..] for each job and one window [..] for each processor": times of
 orders, many of them equal, windows that touch and windows that are long. §6: "distinct
 memories and the processors of each": up to 16 processors of few distinct memories. §8:
 "by falling need, ties in input order": jobs of few needs, in an input order that is
-another one.
+another one. §9: "a low and a high": highs of small orders, some of them just the low.
 """
 
 import orders
@@ -197,3 +197,16 @@ def wide_open(order):
     """Every job is ready at minute 0, every window as long as may be."""
     return timed.times([0] * len(order.jobs[:orders.JOBS_MOST]),
                        [(0, 1000000)] * len(order.memories[:orders.PROCESSORS_MOST]))
+
+
+def highs(draw, order, most):
+    """A high for each job, up to so many minutes above its time, which is the low."""
+    form = draw.below(4)
+    if form == 0:
+        span = draw.between(1, most)
+        return tuple(job.time + span for job in order.jobs)
+    if form == 1:
+        spans = (0, 0, 1, most)
+    else:
+        spans = range(most + 1)
+    return tuple(job.time + draw.one_of(spans) for job in order.jobs)

@@ -17,6 +17,7 @@ A stream is a sequence of records; every number takes 4 bytes, little-endian
     11 watch    ORDER, bound, TIMES, R, then R numbers (the lent rows)
     12 classes  ORDER
     13 needs    T, then T numbers (the table), L, then L lengths, room (needs)
+    14 between  ORDER, HIGHS, number (two's complement)
 
 ORDER is m, n, then min(m, 16) memories, then min(n, 48) jobs as time, due, need,
 maker. A count beyond its array stands for the list of that many: the given ones,
@@ -39,6 +40,9 @@ to closing minute in the same range, for each processor"; they are unsigned.
 A table has three numbers to a line. Document 02, §7: "from length, to length (both
 included, in minutes), need". Every number of the buffer that is lent for the needs is
 7 before the call.
+
+HIGHS is min(n, 48) numbers, unsigned; the order's times are the lows. Document 02, §9:
+"its working time is an estimate: a low and a high".
 """
 
 import struct
@@ -49,7 +53,7 @@ import timed
 
 KINDS = {"read": 1, "check": 2, "least": 3, "plan": 4, "write": 5, "compose": 6,
          "parse": 7, "book": 8, "asked": 9, "timed": 10, "watch": 11, "classes": 12,
-         "needs": 13}
+         "needs": 13, "between": 14}
 # The kinds that are given times.
 TIMED = ("asked", "timed", "watch")
 # One for each class that there can be.
@@ -60,7 +64,8 @@ WORD_COUNT = 4294967296
 
 # `values` are the arguments of the entry point, as answers.py takes them; of
 # `book` they are the book and its calls, as book.told takes them, of `needs` the
-# table, the lengths and the room, as needs.told takes them.
+# table, the lengths and the room, as needs.told takes them, of `between` the order, the
+# highs and the number, as estimate.told takes them.
 Record = namedtuple("Record", "kind values")
 Call = namedtuple("Call", "which order bound room")
 LEAST, PLAN = 1, 2
@@ -83,6 +88,12 @@ def pack_times(order, given):
     assert len(given.ready) == min(order.n, orders.JOBS_MOST)
     assert len(given.windows) == min(order.m, orders.PROCESSORS_MOST)
     return words(*given.ready, *(x for window in given.windows for x in window))
+
+
+def pack_highs(order, highs):
+    highs = highs[:orders.JOBS_MOST]
+    assert len(highs) == min(order.n, orders.JOBS_MOST)
+    return words(*highs)
 
 
 def pack_timed(order, bound, given, *rest):
@@ -126,6 +137,9 @@ def pack(record):
     elif record.kind == "parse":
         bound, data = numbers
         return head + pack_order(order) + words(bound, len(data)) + data
+    elif record.kind == "between":
+        highs, number = numbers
+        return head + pack_order(order) + pack_highs(order, highs) + words(number)
     return head + pack_order(order) + words(*numbers)
 
 
@@ -203,6 +217,8 @@ class Source:
             return order, bound, kind, which, time, dues, self.word()
         if kind == "parse":
             return order, self.signed(), self.data_of_length()
+        if kind == "between":
+            return order, tuple(self.word() for _ in order.jobs), self.signed()
         return order, self.word()
 
 

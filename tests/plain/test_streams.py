@@ -1,9 +1,11 @@
 """The stored streams: their form, and their tiny cases by search over all plans."""
 
 import functools
+import itertools
 import unittest
 
 import cases
+import estimate
 import held
 import least
 import orders
@@ -15,13 +17,22 @@ import timed_search
 BOUNDS_NEAR = 60
 
 
-def lines_told(record, first):
-    """How many lines a case tells, by its first line."""
+def of_answer(first):
+    """How many lines an answer has, by its first line."""
     if first.startswith("order "):
         return 1 + sum(map(int, first.split()[1:]))
+    return 1
+
+
+def lines_told(record, first, *second):
+    """How many lines a case tells, by its first two lines."""
+    if record.kind == "between":
+        return 1 + of_answer(*second)
     if record.kind == "book":
         return 2 * len(record.values[1])
-    return 2 if record.kind == "timed" and first == "meets" else 1
+    if record.kind == "timed" and first == "meets":
+        return 2
+    return of_answer(first)
 
 
 @functools.cache
@@ -31,7 +42,7 @@ def stored():
     lines = cases.STORED["stdout"].read_text().splitlines()
     told, at = [], 0
     for record in stream_form.unpack(data):
-        count = lines_told(record, lines[at])
+        count = lines_told(record, *lines[at:at + 2])
         told.append((record, lines[at:at + count]))
         at += count
     assert at == len(lines)
@@ -52,6 +63,15 @@ def first_met_twice(lines):
     return min((begin for begin, _, _ in lines
                 if sum(first <= begin <= last for first, last, _ in lines) > 1),
                default=100001)
+
+
+def a_minute_before(lows, times):
+    """The times one minute before these on the path, None at its beginning: the last
+    job above its low goes back."""
+    above = [place for place, low in enumerate(lows) if times[place] > low]
+    if not above:
+        return None
+    return [time - (place == above[-1]) for place, time in enumerate(times)]
 
 
 def small(order):
@@ -148,6 +168,27 @@ class Form(unittest.TestCase):
             self.assertEqual(data.hex(" ", 4), wanted)
             self.assertEqual(stream_form.unpack(data + bytes(4)), [record])
 
+    def test_between_by_hand(self):
+        order = orders.order([8, 4], [(3, -1, 8, 16), (1, 5, 0)])
+        for values, wanted in (
+                ((order, (7, 4294967295), -2), (
+                    "0e000000 02000000 02000000 08000000 04000000 03000000 ffffffff "
+                    "08000000 10000000 01000000 05000000 00000000 01000000 07000000 "
+                    "ffffffff feffffff")),
+                ((orders.order([], []), (), 2147483647),
+                 "0e000000 00000000 00000000 ffffff7f")):
+            record = stream_form.Record("between", values)
+            data = stream_form.pack(record)
+            self.assertEqual(data.hex(" ", 4), wanted)
+            self.assertEqual(stream_form.unpack(data + bytes(4)), [record])
+
+    def test_highs_beyond_the_array(self):
+        many = orders.order([4] * 16, [(1, 1, 1)] * 48, 16, 65537)
+        for count in (48, 49):
+            data = stream_form.pack(stream_form.Record(
+                "between", (many, (5,) * count, 0)))
+            self.assertEqual(len(data), 4 * (3 + 16 + 4 * 48 + 48 + 1))
+
     def test_sizes(self):
         data = cases.STORED["stdin"].read_bytes()
         self.assertLess(len(data), cases.BYTES_MOST)
@@ -171,7 +212,7 @@ class Stored(unittest.TestCase):
             "parse": {*of_order, 8}, "book": {*of_order, 8, 9, 14},
             "asked": {*of_order, 8, 15, 16}, "timed": {*of_order, 8, 9, 15, 16},
             "watch": {*of_order, 8, 11, 15, 16}, "classes": of_order,
-            "needs": {17, 18, 5, 9}})
+            "needs": {17, 18, 5, 9}, "between": {*of_order, 19}})
 
     def test_a_file_of_over_844_bytes(self):
         lengths = {len(record.values[0]) for record, _ in stored()
@@ -363,6 +404,42 @@ class Stored(unittest.TestCase):
                 [need for first, last, need in lines if first <= length <= last]
                 for length in lengths])
 
+    def test_between(self):
+        # Both answers refuse alike; an order is met just where the number lies between.
+        told = {"order": 0, "nowhere": 0, "refused": 0}
+        for record, (first, *rest) in stored():
+            if record.kind == "between":
+                word = rest[0].split()[0]
+                if word == "refused":
+                    self.assertEqual(rest, [first])
+                else:
+                    below, above = map(int, first.split()[1:])
+                    self.assertEqual(word == "order",
+                                     below <= record.values[2] <= above)
+                if word == "order":
+                    self.is_first_met(*record.values, below, rest)
+                told[word] += 1
+        self.assertGreater(min(told.values()), 80)
+
+    def is_first_met(self, order, highs, number, below, lines):
+        """It is one of the path, and a minute before the least lateness is one less."""
+        lows = [job.time for job in order.jobs]
+        times = [int(line.split()[1]) for line in lines[1 + order.m:]]
+        self.assertEqual(lines, cases.answers.order_lines(
+            estimate.with_times(order, times)))
+        behind = list(itertools.dropwhile(lambda ends: ends[1] == ends[2],
+                                          zip(lows, times, highs)))
+        for low, time, high in behind[:1]:
+            self.assertTrue(low <= time < high)
+        for low, time, _ in behind[1:]:
+            self.assertEqual(time, low)
+        before = a_minute_before(lows, times)
+        self.assertEqual(before is None, number == below)
+        for at, wanted in ((times, number), (before, number - 1)):
+            if at:
+                self.assertEqual(wanted, held.least_lateness(
+                    estimate.with_times(order, at)))
+
     def test_rooms_and_lengths_in_reach(self):
         for record, _ in stored():
             if record.kind in ("read", "parse"):
@@ -384,7 +461,7 @@ class Stored(unittest.TestCase):
                 self.assertLessEqual(len(table), 120)
                 self.assertLessEqual(len(lengths), 80)
                 self.assertTrue(0 <= room <= 80)
-            elif record.kind in ("asked", "classes"):
+            elif record.kind in ("asked", "classes", "between"):
                 continue
             else:
                 self.assertLessEqual(record.values[-1], 12104)

@@ -1,11 +1,12 @@
 // Runs cases through the entry points and prints what they answer. The cases and the expected lines are made by tests/plain,
 // which says the form of the stream (stream_form.py).
 mod books; // booked calls, one after the other
+mod estimating; // times known only between a low and a high
 mod filling; // needs from a table
 mod listing; // the classes of an order
 mod print; // words, numbers and answers on standard output
 mod sentences; // the cases of a reason's line, composed and read back
-mod stream; // numbers, orders, reasons, books, times and files of the stream
+mod stream; // numbers, orders, reasons, books, times, highs and files of the stream
 mod timing; // the cases with ready minutes and windows
 
 use libc::STDOUT_FILENO;
@@ -169,6 +170,7 @@ fn main() {
             11 => timing::watch_case(),
             12 => listing::classes_case(),
             13 => filling::needs_case(),
+            14 => estimating::between_case(),
             _ => return,
         }
     }

@@ -1,4 +1,5 @@
-// What the stream of cases holds: numbers of four bytes, orders, reasons, books, times, files, rows. At its end every number reads 0.
+// What the stream of cases holds: numbers of four bytes, orders, reasons, books, times, highs, files, rows. At its end every number
+// reads 0.
 use book::Book;
 use libc::STDIN_FILENO;
 use order::Order;
@@ -92,8 +93,8 @@ pub fn book() -> Book {
     Book { counts }
 }
 
-// The ready minutes of so many jobs.
-fn ready_minutes(jobs: u32) -> [u32; 48] {
+// A number for each of so many jobs: ready minutes, highs.
+pub fn of_jobs(jobs: u32) -> [u32; 48] {
     let mut out = [0u32; 48];
     for j in 0..48usize {
         out[j] = number_if((j as u32) < jobs);
@@ -103,7 +104,7 @@ fn ready_minutes(jobs: u32) -> [u32; 48] {
 
 // Ready minutes of so many jobs, and windows of so many processors.
 pub fn times(jobs: u32, processors: u32) -> Times {
-    let ready = ready_minutes(jobs);
+    let ready = of_jobs(jobs);
     let mut opens = [0u32; 16];
     let mut closes = [0u32; 16];
     for i in 0..16usize {

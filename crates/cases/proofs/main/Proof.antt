@@ -54,6 +54,9 @@ classes-case-requires c κs = search needs
 needs-case-requires : tie.Need-needs-case-requires Inv-loop μ-loop
 needs-case-requires c κs = search needs
 
+between-case-requires : tie.Need-between-case-requires Inv-loop μ-loop
+between-case-requires c κs = search needs
+
 returns : tie.Need-returns Inv-loop μ-loop
 returns c = search needs
 
@@ -90,6 +93,7 @@ main-spec =
     watch-case-requires
     classes-case-requires
     needs-case-requires
+    between-case-requires
     returns
     add-k
     loop-less

@@ -11,8 +11,8 @@ Inv-loop jobs processors ready opens₀ closes₀ i₀ opens closes i = (i ≤ 1
 abbrev μ-loop : tie.MeasureT-loop
 μ-loop jobs processors ready opens₀ closes₀ i₀ opens closes i = 16 - i
 
-ready-minutes-requires : tie.Need-ready-minutes-requires Inv-loop μ-loop
-ready-minutes-requires c κs = search needs
+of-jobs-requires : tie.Need-of-jobs-requires Inv-loop μ-loop
+of-jobs-requires c κs = search needs
 
 loop-holds : tie.Need-loop-holds Inv-loop μ-loop
 loop-holds c = search needs
@@ -56,7 +56,7 @@ times-spec =
     (tie.spec
     Inv-loop
     μ-loop
-    ready-minutes-requires
+    of-jobs-requires
     loop-holds
     cast-wanted
     number-if-requires

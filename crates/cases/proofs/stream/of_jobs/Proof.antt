@@ -2,8 +2,8 @@ use borrow.Author.Needs.{needs}
 use Prim.Native.Nat.{_≤_, _-_}
 use mathlib.Core.Path.{_≡_}
 use lib.ListN.{length}
-use Rattle.cases.proofs.stream.ready_minutes.Statement.{statement}
-use Rattle.cases.proofs.stream.ready_minutes.Tie as tie
+use Rattle.cases.proofs.stream.of_jobs.Statement.{statement}
+use Rattle.cases.proofs.stream.of_jobs.Tie as tie
 
 abbrev Inv-loop : tie.InvT-loop
 Inv-loop jobs out₀ j₀ out j = (j ≤ 48) × (length out ≡ 48)
@@ -38,8 +38,8 @@ loop-again c = search needs
 returns : tie.Need-returns Inv-loop μ-loop
 returns c = search needs
 
-pub ready-minutes-spec : {M : Type 1} → statement M
-ready-minutes-spec =
+pub of-jobs-spec : {M : Type 1} → statement M
+of-jobs-spec =
     tie.close
     (tie.spec
     Inv-loop
