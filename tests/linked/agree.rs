@@ -4,10 +4,11 @@
 //! laid out, its files against their reader, its two readers of lines against each other, its books
 //! against the orders, its two ways to list classes against each other, its plans with ready minutes
 //! and windows against a search with them, its tables of needs against their ends, all that it finds
-//! against the same with the jobs by falling need.
+//! against the same with the jobs by falling need, its walks from lows to highs against the same halved.
 
 mod books;
 mod classes;
+mod estimates;
 mod held;
 mod joins;
 pub mod needs;
@@ -57,7 +58,13 @@ pub fn run(small: u64, large: u64) -> Result<u64, String> {
         let order = family(&mut random);
         held::agree(&mut random, &order)?;
     }
-    Ok(2 * (small + small / 2) + large + small / 10)
+    for seed in 0..small / 4 {
+        let mut random = Random::new(seed);
+        let (_, family) = SMALL_FAMILIES[seed as usize % SMALL_FAMILIES.len()];
+        let order = family(&mut random);
+        estimates::agree(&mut random, &order)?;
+    }
+    Ok(2 * (small + small / 2) + large + small / 10 + small / 4)
 }
 
 fn agrees(order: &Order) -> Result<(), String> {

@@ -48,6 +48,10 @@ pub fn wrong(
             should.needs.put(needs);
             should.answer.put(&[needs.len() as i32]);
         }
+        Expected::Order(bytes) => {
+            should.order.put(bytes);
+            should.answer.put(&[bytes.len() as i32]);
+        }
         Expected::Plan {
             bound,
             times,
@@ -158,6 +162,8 @@ fn unequal(should: &Call, is: &Call) -> Option<String> {
         ("table", is.table.unequal_at(&should.table)),
         ("lengths", is.lengths.unequal_at(&should.lengths)),
         ("needs", is.needs.unequal_at(&should.needs)),
+        ("highs", is.highs.unequal_at(&should.highs)),
+        ("order", is.order.unequal_at(&should.order)),
         ("answer", is.answer.unequal_at(&should.answer)),
     ];
     let (name, place) = buffers.iter().find(|(_, place)| place.is_some())?;

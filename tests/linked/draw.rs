@@ -1,9 +1,10 @@
 //! Seeded draws: the same seed gives the same memories, orders, files, row lists, reasons, lines,
-//! books, times, tables of needs and buffers on every machine.
+//! books, times, tables of needs, estimates and buffers on every machine.
 
 pub mod books;
 pub mod bounds;
 pub mod damage;
+pub mod estimates;
 pub mod files;
 pub mod held;
 pub mod keeping;

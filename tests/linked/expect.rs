@@ -1,14 +1,17 @@
 //! What a call must answer, wholly by the independent implementation. "Of several refusals that
-//! apply the first is told": 255, 254 or 253, 12, then 1 to 11 upwards with 13 right after 6, 15 and 16
-//! right before 8, and 14 last of all; but 253 of ready minutes and windows comes after 12, and 17 and 18
-//! of a table of needs before 5.
+//! apply the first is told": 255, 254 or 253, 12, then 1 to 11 upwards with 13 right after 6, 19 after it, 15
+//! and 16 right before 8, and 14 last of all; but 253 of ready minutes and windows and of highs comes after
+//! 12, and 17 and 18 of a table of needs before 5.
 
-use crate::independent::{
-    self, Job, Order, Reason, Refusal, Times, MAKERS, MOST_ROWS, MOST_TIMED_ROWS,
-};
+mod estimates;
+mod times;
+
+use crate::independent::{self, Job, Order, Reason, Refusal, Times, MAKERS, MOST_ROWS};
 use crate::lent::Call;
 use crate::library::{Function, CLASS_NUMBERS, MOST_LENGTHS, REASON_NUMBERS};
+use estimates::{estimated, Estimated};
 use std::ops::RangeInclusive;
+use times::timed;
 
 const BOUNDS: RangeInclusive<i32> = -10_000_000..=10_000_000;
 
@@ -33,13 +36,17 @@ pub enum Expected {
     Line(String),
     /// These needs, and their count in the answer.
     Needs(Vec<u32>),
+    /// These bytes in the order, none where no order is met, and their count in the answer.
+    Order(Vec<u8>),
 }
 
-/// The order of the file that was read last, and its least lateness once that was asked for.
+/// The order of the file that was read last, its least lateness once that was asked for, and what was
+/// found of the highs that were lent with it last.
 pub struct Known {
     file: Vec<u8>,
     order: Result<Order, Refusal>,
     least: Option<i32>,
+    estimated: Option<Estimated>,
 }
 
 impl Known {
@@ -48,6 +55,7 @@ impl Known {
             file: file.to_vec(),
             order: independent::read(file),
             least: None,
+            estimated: None,
         }
     }
 
@@ -94,6 +102,9 @@ pub fn expected(function: Function, call: &Call, known: &mut Known) -> Expected 
     }
     if function.takes_times() {
         return timed(function, call, known);
+    }
+    if function.takes_highs() {
+        return estimated(function, call, known);
     }
     known.turn_to(call.file.content());
     match refusal(function, call, known) {
@@ -211,52 +222,7 @@ fn answer(function: Function, call: &Call, known: &mut Known) -> Expected {
         Function::TimedRows | Function::TimedPlan | Function::TimedCheck => {
             timed(function, call, known)
         }
-    }
-}
-
-/// What a function with ready minutes and windows must do: "judged right after 12 and before 1" is
-/// whether these are as many as the file's jobs and processors.
-fn timed(function: Function, call: &Call, known: &mut Known) -> Expected {
-    let file = call.file.content();
-    let Some(listed) = independent::lists(file) else {
-        return refused(12, 0);
-    };
-    let Some(times) = Times::of(&listed, call.ready.content(), call.windows.content()) else {
-        return refused(253, 0);
-    };
-    known.turn_to(file);
-    let order = match &known.order {
-        Err(refusal) => return Expected::Refused(*refusal),
-        Ok(order) => order,
-    };
-    if let Some(refusal) = independent::judge_times(&times) {
-        return Expected::Refused(refusal);
-    }
-    if !BOUNDS.contains(&call.bound) {
-        return refused(8, 0);
-    }
-    timed_answer(function, call, order, times)
-}
-
-/// The answer at a bound in range, or 9, 10 or 11.
-fn timed_answer(function: Function, call: &Call, order: &Order, times: Times) -> Expected {
-    let (bound, rows) = (i64::from(call.bound), &call.rows);
-    let asked = independent::timed_rows_asked(order, &times, bound);
-    match function {
-        Function::TimedRows => Expected::Answer(vec![asked as i32]),
-        Function::TimedPlan if rows.len() / 4 < asked => refused(9, 0),
-        Function::TimedPlan if !independent::timed_meets(order, &times, bound) => refused(10, 0),
-        Function::TimedPlan => Expected::Plan {
-            bound: call.bound,
-            times: Some(times),
-            lateness: None,
-            book: None,
-        },
-        _ if rows.len().div_ceil(4) > MOST_TIMED_ROWS => refused(11, 0),
-        _ => {
-            let right = independent::timed_right(order, &times, bound, rows.content());
-            Expected::Answer(vec![right.into()])
-        }
+        Function::Between | Function::BetweenOrder => estimated(function, call, known),
     }
 }
 

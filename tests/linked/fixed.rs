@@ -1,13 +1,15 @@
 //! Document 01's "Orders to try", the small examples of its refusal table and its order file of C,
 //! with the values that stand there, the leasts and the bounds one lower as document 02's §3 has
 //! them, each job of maker 1 as its §4 has it; the lines, the joined rows, the ends, the makers, the
-//! books, the classes, the ready minutes and windows, the needs, and the jobs held by need of document 02
-//! in `fixed/`.
+//! books, the classes, the ready minutes and windows, the needs, the jobs held by need, and the lows and
+//! highs of document 02 in `fixed/`.
 
 mod books;
 mod classes;
 mod ends;
+mod estimates;
 mod held;
+mod highs;
 mod joins;
 mod kept;
 mod lines;
@@ -68,7 +70,7 @@ fn d() -> Order {
 }
 
 /// Puts all fixed cases before the library, but those with ready minutes and windows, those with a table
-/// of needs and those of jobs that lie elsewhere than they are given.
+/// of needs, those of jobs that lie elsewhere than they are given and those of lows and highs.
 pub fn run(trial: &mut Trial) {
     trial.begin("document 01", 0);
     lateness(trial);
@@ -111,8 +113,15 @@ pub fn run_held(trial: &mut Trial) {
     held::run(trial);
 }
 
+/// Puts the cases of lows and highs before the library.
+pub fn run_estimates(trial: &mut Trial) {
+    trial.begin("document 02, lows and highs", 0);
+    estimates::run(trial);
+    highs::run(trial);
+}
+
 /// A call on the order's file, all of whose buffers are long enough, with a book just opened; jobs are
-/// there from the start on, and processors always open.
+/// there from the start on, processors always open, and times known.
 fn on(random: &mut Random, order: &Order) -> Call {
     on_with_room(random, order, ENOUGH)
 }
@@ -124,12 +133,15 @@ fn on_few(random: &mut Random, order: &Order) -> Call {
 
 fn on_with_room(random: &mut Random, order: &Order, numbers: usize) -> Call {
     let windows = [0, times::MOST].repeat(order.memories.len());
+    let known: Vec<u32> = order.jobs.iter().map(|job| job.time).collect();
     Call::with_file(random, &write(order), 19)
         .with_class_room(random, CLASS_NUMBERS)
         .with_room(random, numbers)
         .with_book(random, &[0; MAKERS])
         .with_times(random, &vec![0; order.jobs.len()], &windows)
         .with_reason(random, &[0; REASON_NUMBERS])
+        .with_highs(random, &known)
+        .with_order_room(random, 0, MOST_BYTES)
 }
 
 /// Compares a call with the result and the first numbers of the answer that the document gives.

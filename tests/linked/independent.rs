@@ -1,8 +1,8 @@
 //! Documents 01 and 02 in plain Rust, made apart from the proved code and from their text alone:
 //! orders, order files, classes, right plans and their joining, the least lateness, reasons and their
-//! lines, books, plans with ready minutes and windows, needs from a table, jobs by falling need. Whether a
-//! bound is met is decided by a maximum flow, never by the staircase sums, so that each of the two can be
-//! held against the other.
+//! lines, books, plans with ready minutes and windows, needs from a table, jobs by falling need, times known
+//! only between two numbers. Whether a bound is met is decided by a maximum flow, never by the staircase
+//! sums, so that each of the two can be held against the other.
 
 // a program that takes this module in may use only a part of it
 #![allow(dead_code, unused_imports)]
@@ -17,6 +17,8 @@ mod book;
 mod classes;
 #[path = "independent/clip.rs"]
 mod clip;
+#[path = "independent/estimate.rs"]
+mod estimate;
 #[path = "independent/flow.rs"]
 mod flow;
 #[path = "independent/held.rs"]
@@ -44,11 +46,12 @@ mod times;
 #[path = "independent/wrap.rs"]
 mod wrap;
 
-pub use accept::judge;
+pub use accept::{fits, is_due, is_made, is_time, judge, judge_counts};
 pub use amounts::{amounts, least, least_between, meets, plan};
 pub use book::{booked, minutes_of, MAKERS, MOST_BOOKED};
 pub use classes::{class_list, Classes};
 pub use clip::{clipped, clipped_to, joins, joins_over};
+pub use estimate::{first_met, judge_estimate, leasts, met_by_halving, walk, Estimate};
 pub use held::{held, order_of, times_of, Held};
 pub use join::{join, joined};
 pub use needs::{

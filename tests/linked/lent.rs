@@ -103,6 +103,9 @@ pub struct Call {
     pub table: Lent<u32>,
     pub lengths: Lent<u32>,
     pub needs: Lent<u32>,
+    pub highs: Lent<u32>,
+    pub number: i32,
+    pub order: Lent<u8>,
     pub answer: Lent<i32>,
 }
 
@@ -124,6 +127,9 @@ impl Call {
             table: Lent::none(),
             lengths: Lent::none(),
             needs: Lent::none(),
+            highs: Lent::none(),
+            number: 0,
+            order: Lent::none(),
             answer: Lent::filled(answer, random, signed),
         }
     }
@@ -178,6 +184,22 @@ impl Call {
         Call {
             ready,
             windows,
+            ..self
+        }
+    }
+
+    /// The same with these highs.
+    pub fn with_highs(self, random: &mut Random, highs: &[u32]) -> Call {
+        let highs = Lent::holding(highs, random, number);
+        Call { highs, ..self }
+    }
+
+    /// The same with this number for a least lateness, and with room for an order of so many bytes.
+    pub fn with_order_room(self, random: &mut Random, number: i32, bytes: usize) -> Call {
+        let order = Lent::filled(bytes, random, byte);
+        Call {
+            number,
+            order,
             ..self
         }
     }

@@ -1,5 +1,5 @@
-//! The fifteen functions of the header: what they are called, how long their answers are, which
-//! refusals each can give, and a library as fifteen entries of one form.
+//! The seventeen functions of the header: what they are called, how long their answers are, which
+//! refusals each can give, and a library as seventeen entries of one form.
 
 use crate::lent::Call;
 
@@ -19,10 +19,12 @@ pub enum Function {
     TimedPlan,
     TimedCheck,
     Needs,
+    Between,
+    BetweenOrder,
     Write,
 }
 
-pub const FUNCTIONS: [Function; 15] = [
+pub const FUNCTIONS: [Function; 17] = [
     Function::Judge,
     Function::Classes,
     Function::Least,
@@ -37,11 +39,13 @@ pub const FUNCTIONS: [Function; 15] = [
     Function::TimedPlan,
     Function::TimedCheck,
     Function::Needs,
+    Function::Between,
+    Function::BetweenOrder,
     Function::Write,
 ];
 
 /// Those that read an order file.
-pub const READERS: [Function; 13] = [
+pub const READERS: [Function; 15] = [
     Function::Judge,
     Function::Classes,
     Function::Least,
@@ -55,6 +59,8 @@ pub const READERS: [Function; 13] = [
     Function::TimedRows,
     Function::TimedPlan,
     Function::TimedCheck,
+    Function::Between,
+    Function::BetweenOrder,
 ];
 
 /// Those that take ready minutes and windows.
@@ -63,6 +69,9 @@ pub const TIMED: [Function; 3] = [
     Function::TimedPlan,
     Function::TimedCheck,
 ];
+
+/// Those that take highs.
+pub const ESTIMATED: [Function; 2] = [Function::Between, Function::BetweenOrder];
 
 /// The numbers of a reason.
 pub const REASON_NUMBERS: usize = 19;
@@ -90,6 +99,8 @@ impl Function {
             Function::TimedPlan => "hbr_timed_plan",
             Function::TimedCheck => "hbr_timed_check",
             Function::Needs => "hbr_needs",
+            Function::Between => "hbr_between",
+            Function::BetweenOrder => "hbr_between_order",
             Function::Write => "hbr_write",
         }
     }
@@ -98,7 +109,7 @@ impl Function {
     pub fn answer_length(self) -> usize {
         match self {
             Function::Judge => 3,
-            Function::Least | Function::BookLeast => 2,
+            Function::Least | Function::BookLeast | Function::Between => 2,
             Function::Reason | Function::Parse => REASON_NUMBERS,
             _ => 1,
         }
@@ -120,6 +131,8 @@ impl Function {
             Function::TimedPlan => &[1, 2, 3, 4, 5, 6, 13, 7, 15, 16, 8, 9, 10, 12, 253, 255],
             Function::TimedCheck => &[1, 2, 3, 4, 5, 6, 13, 7, 15, 16, 8, 11, 12, 253, 255],
             Function::Needs => &[17, 18, 5, 9, 253, 255],
+            Function::Between => &[1, 2, 3, 4, 5, 6, 13, 19, 7, 12, 253, 255],
+            Function::BetweenOrder => &[1, 2, 3, 4, 5, 6, 13, 19, 7, 9, 12, 253, 255],
             Function::Write => &[1, 2, 3, 4, 5, 6, 13, 7, 9, 254, 255],
         }
     }
@@ -132,6 +145,11 @@ impl Function {
     /// Whether it takes ready minutes and windows: then lists of a wrong length are refused.
     pub fn takes_times(self) -> bool {
         TIMED.contains(&self)
+    }
+
+    /// Whether it takes highs: then a list of a wrong length is refused.
+    pub fn takes_highs(self) -> bool {
+        ESTIMATED.contains(&self)
     }
 
     /// Whether it books what it plans: then a short book and a full one are refused.
@@ -156,7 +174,7 @@ impl Function {
             Function::Needs,
             Function::Write,
         ];
-        !self.finds_least() && !without.contains(&self)
+        !self.finds_least() && !self.takes_highs() && !without.contains(&self)
     }
 }
 
@@ -179,6 +197,8 @@ pub struct Library {
     pub timed_plan: Entry,
     pub timed_check: Entry,
     pub needs: Entry,
+    pub between: Entry,
+    pub between_order: Entry,
     pub write: Entry,
 }
 
@@ -199,6 +219,8 @@ impl Library {
             Function::TimedPlan => self.timed_plan,
             Function::TimedCheck => self.timed_check,
             Function::Needs => self.needs,
+            Function::Between => self.between,
+            Function::BetweenOrder => self.between_order,
             Function::Write => self.write,
         }
     }
@@ -220,6 +242,8 @@ impl Library {
             Function::TimedPlan => &mut self.timed_plan,
             Function::TimedCheck => &mut self.timed_check,
             Function::Needs => &mut self.needs,
+            Function::Between => &mut self.between,
+            Function::BetweenOrder => &mut self.between_order,
             Function::Write => &mut self.write,
         };
         *place = entry;

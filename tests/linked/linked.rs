@@ -1,5 +1,7 @@
 //! The static library itself, called as a C program calls it: pointers and lengths of the lent
-//! buffers, in the header's order. The only file with unsafe code.
+//! buffers, in the header's order. Only here and in `linked/` there is unsafe code.
+
+mod estimates;
 
 use crate::highboyrobin::raw;
 use crate::lent::Call;
@@ -20,6 +22,8 @@ pub const LINKED: Library = Library {
     timed_plan,
     timed_check,
     needs,
+    between: estimates::between,
+    between_order: estimates::between_order,
     write,
 };
 

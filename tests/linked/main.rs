@@ -64,6 +64,7 @@ fn compare_linked(times: u64) -> Result<String, String> {
     fixed::run_needs(&mut trial);
     fixed::run_long_lists(&mut trial);
     fixed::run_held(&mut trial);
+    fixed::run_estimates(&mut trial);
     let rounds = Rounds {
         small: 2_340 * times,
         large: 660 * times,
@@ -76,6 +77,8 @@ fn compare_linked(times: u64) -> Result<String, String> {
         large_times: 60 * times,
         needs: 3_000 * times,
         held: 100 * times,
+        estimates: 500 * times,
+        large_estimates: 36 * times,
     };
     rounds::run(&mut trial, &rounds);
     if let Some(difference) = trial.difference {

@@ -1,4 +1,4 @@
-//! The independent implementation as a library of fifteen functions: what a linked library would do
+//! The independent implementation as a library of seventeen functions: what a linked library would do
 //! that does just what is expected. The wrong libraries are made from it.
 
 use crate::expect::{expected, Expected, Known};
@@ -21,6 +21,8 @@ pub const MODEL: Library = Library {
     timed_plan: |call| run(Function::TimedPlan, call),
     timed_check: |call| run(Function::TimedCheck, call),
     needs: |call| run(Function::Needs, call),
+    between: |call| run(Function::Between, call),
+    between_order: |call| run(Function::BetweenOrder, call),
     write: |call| run(Function::Write, call),
 };
 
@@ -62,6 +64,10 @@ fn run(function: Function, call: &mut Call) -> u32 {
         Expected::Needs(needs) => {
             call.needs.put(&needs);
             call.answer.put(&[needs.len() as i32]);
+        }
+        Expected::Order(bytes) => {
+            call.order.put(&bytes);
+            call.answer.put(&[bytes.len() as i32]);
         }
     }
     0

@@ -1,27 +1,27 @@
 //! The drawn calls: accepted orders with bounds, row lists, reasons, lines and books around their
 //! least lateness, orders that are refused, doubtful files, lists for the writer, processors of few
 //! and of many memories, books that go through many calls, orders with ready minutes and windows,
-//! tables of needs, and orders whose jobs lie, by falling need, elsewhere than they are given.
+//! tables of needs, orders whose jobs lie, by falling need, elsewhere than they are given, and times known
+//! only between lows and highs.
 
 mod books;
 mod classes;
+mod estimates;
 mod held;
 mod needs;
+mod refused;
 mod times;
 
 use crate::draw::bounds::Around;
-use crate::draw::damage::{damaged, OF_ORDERS};
-use crate::draw::files::{doubtful, file_of};
-use crate::draw::lengths::{
-    answer_length, book_length, class_room, file_room, line_room, reason_length, room,
-};
-use crate::draw::orders::{tiny, Family, LARGE_FAMILIES, SMALL_FAMILIES};
+use crate::draw::files::file_of;
+use crate::draw::lengths::{answer_length, book_length, file_room, line_room, reason_length, room};
+use crate::draw::orders::{Family, LARGE_FAMILIES, SMALL_FAMILIES};
 use crate::draw::Random;
 use crate::draw::{books as drawn_books, lines, lists, reasons, sharp};
 use crate::expect::reason_named;
 use crate::independent::{composed, plan, rows_asked, write, Order, MOST_ROWS};
 use crate::lent::{job_numbers, Call};
-use crate::library::{Function, READERS};
+use crate::library::Function;
 use crate::trial::Trial;
 
 /// How many rounds of each part.
@@ -37,22 +37,30 @@ pub struct Rounds {
     pub large_times: u64,
     pub needs: u64,
     pub held: u64,
+    pub estimates: u64,
+    pub large_estimates: u64,
 }
 
 /// Runs all parts, up to the first difference.
 pub fn run(trial: &mut Trial, rounds: &Rounds) {
-    let parts: [(&str, u64, fn(&mut Trial, u64)); 11] = [
+    let parts: [(&str, u64, fn(&mut Trial, u64)); 13] = [
         ("small orders", rounds.small, small_order),
         ("large orders", rounds.large, large_order),
-        ("refused orders", rounds.refused, refused_order),
-        ("files", rounds.files, doubtful_file),
-        ("lists", rounds.lists, any_lists),
+        ("refused orders", rounds.refused, refused::any_order),
+        ("files", rounds.files, refused::doubtful_file),
+        ("lists", rounds.lists, refused::any_lists),
         ("classes", rounds.classes, classes::any_memories),
         ("books", rounds.books, books::sequence),
         ("times", rounds.times, times::small),
         ("times of large orders", rounds.large_times, times::large),
         ("needs", rounds.needs, needs::any_table),
         ("jobs held", rounds.held, held::any_needs),
+        ("estimates", rounds.estimates, estimates::small),
+        (
+            "estimates of large orders",
+            rounds.large_estimates,
+            estimates::large,
+        ),
     ];
     for (part, times, round) in parts {
         for seed in 0..times {
@@ -211,87 +219,4 @@ fn write_lists(trial: &mut Trial, memories: &[u32], jobs: &[u32], length: usize)
         let room = file_room(random, length);
         Call::with_lists(random, memories, jobs, room, answer)
     });
-}
-
-/// An order that is not accepted, before all functions, the other arguments good or not.
-fn refused_order(trial: &mut Trial, seed: u64) {
-    let (_, family) = SMALL_FAMILIES[seed as usize % SMALL_FAMILIES.len()];
-    let order = family(&mut trial.random);
-    // each family meets each number, though both counts are even
-    let turn = seed as usize + seed as usize / SMALL_FAMILIES.len();
-    let number = OF_ORDERS[turn % OF_ORDERS.len()];
-    let order = damaged(&mut trial.random, &order, number);
-    let file = file_of(&mut trial.random, &order);
-    read_all(trial, &file);
-    write_order(trial, &order);
-}
-
-/// A doubtful file before the functions that read one.
-fn doubtful_file(trial: &mut Trial, seed: u64) {
-    let (_, family) = SMALL_FAMILIES[seed as usize % SMALL_FAMILIES.len()];
-    let order = family(&mut trial.random);
-    let file = doubtful(&mut trial.random, &order);
-    read_all(trial, &file);
-}
-
-const NO_ORDER: Order = Order {
-    memories: Vec::new(),
-    jobs: Vec::new(),
-};
-
-fn read_all(trial: &mut Trial, file: &[u8]) {
-    for function in READERS {
-        trial_of(trial, function, |random, answer| {
-            let bound = Around::any(random).bound(random);
-            let call = Call::with_file(random, file, answer).at(bound);
-            if function.takes_line() {
-                let reason = vec![random.pick(&[0, 1, 2]); reason_length(random)];
-                let line = random.pick(&[0, 1, 39, 541, 600]);
-                return call
-                    .with_reason(random, &reason)
-                    .with_line_room(random, line);
-            }
-            if function == Function::Classes {
-                let room = class_room(random);
-                return call.with_class_room(random, room);
-            }
-            let room = random.pick(&[0, 3, 4, 200, 4 * MOST_ROWS, 4 * MOST_ROWS + 1]);
-            let call = call.with_room(random, room);
-            if function.books() {
-                let book = book(random, &NO_ORDER);
-                return call.with_book(random, &book);
-            }
-            if function.takes_times() {
-                return times::with_any_times(random, file, call);
-            }
-            call
-        });
-    }
-}
-
-/// Any lists before the writer: counts up to the limits and beyond, parts of jobs. Counts of 257
-/// and of 65,537 look small to whoever counts in 8 or 16 bits.
-fn any_lists(trial: &mut Trial, seed: u64) {
-    let order = tiny(&mut trial.random);
-    let random = &mut trial.random;
-    let far = if seed % 50 == 0 { 65_537 } else { 257 };
-    let memories = repeated(random, &order.memories, 19, far);
-    let mut jobs = repeated(random, &order.jobs, 52, far);
-    if random.once_in(4) {
-        let number = [5, 6, 13, 7][seed as usize % 4];
-        jobs.extend(damaged(random, &order, number).jobs);
-    }
-    let mut numbers = job_numbers(&jobs);
-    if random.once_in(4) {
-        numbers.truncate(numbers.len().saturating_sub(1 + random.below(3)));
-    }
-    let length = 12 + 4 * memories.len() + 4 * numbers.len();
-    write_lists(trial, &memories, &numbers, length);
-}
-
-/// Elements of a list, up to so many or far too many.
-fn repeated<T: Copy>(random: &mut Random, list: &[T], most: usize, far: usize) -> Vec<T> {
-    let count = random.below(most + 1);
-    let count = if random.once_in(12) { far } else { count };
-    (0..count).map(|_| random.pick(list)).collect()
 }

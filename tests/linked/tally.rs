@@ -1,6 +1,6 @@
 //! Counts the calls by function and by what they had to do, so that a reader sees that every
-//! refusal and every kind of answer was met; the joins of the plans that were written; and the books
-//! that went through many calls.
+//! refusal and every kind of answer was met; the joins of the plans that were written; the books that
+//! went through many calls; and the orders between lows and highs that were planned.
 
 use crate::expect::Expected;
 use crate::library::{Function, FUNCTIONS};
@@ -14,6 +14,8 @@ fn kinds(function: Function) -> &'static [&'static str] {
         Function::Sentence => &["empty", "job", "stairs"],
         Function::Check | Function::TimedCheck => &["yes", "no"],
         Function::Needs => &["of no length", "of up to 48", "of more"],
+        Function::Between => &["equal", "apart"],
+        Function::BetweenOrder => &["met", "none met"],
         _ => &["answered"],
     }
 }
@@ -25,6 +27,7 @@ pub struct Tally {
     joined: BTreeMap<&'static str, Joined>,
     opened: Sequences,
     drawn: Sequences,
+    between: Between,
 }
 
 /// How many plans had a join, and how many joins there were in all.
@@ -42,6 +45,14 @@ struct Sequences {
     plans: u64,
 }
 
+/// Orders with times between lows and highs that hbr_least planned: of drawn times, and those that
+/// hbr_between_order wrote.
+#[derive(Clone, Copy, Default)]
+struct Between {
+    drawn: u64,
+    written: u64,
+}
+
 impl Tally {
     pub fn count(&mut self, function: Function, expected: &Expected) {
         self.calls += 1;
@@ -51,6 +62,7 @@ impl Tally {
             Expected::Classes(classes) => kind_of_classes(classes.len()).to_string(),
             Expected::Line(line) => kind_of_line(line).to_string(),
             Expected::Needs(needs) => kind_of_needs(needs.len()).to_string(),
+            Expected::Order(bytes) => kind_of_order(bytes).to_string(),
             _ => "answered".to_string(),
         };
         *self.counts.entry((function.name(), outcome)).or_insert(0) += 1;
@@ -75,6 +87,14 @@ impl Tally {
         sequences.plans += plans as u64;
     }
 
+    /// Counts an order with times between lows and highs that was planned, written by the library or not.
+    pub fn count_between(&mut self, written: bool) {
+        match written {
+            true => self.between.written += 1,
+            false => self.between.drawn += 1,
+        }
+    }
+
     fn joined(&self, function: Function) -> Joined {
         let joined = self.joined.get(function.name());
         joined.copied().unwrap_or_default()
@@ -85,7 +105,7 @@ impl Tally {
         self.counts.get(&key).copied().unwrap_or(0)
     }
 
-    /// A line for each function, and one for the books.
+    /// A line for each function, one for the books, and one for the orders between lows and highs.
     pub fn lines(&self) -> Vec<String> {
         let functions = FUNCTIONS.iter().map(|function| self.line(*function));
         let told = |sequences: Sequences, from: &str| {
@@ -99,7 +119,10 @@ impl Tally {
         let opened = told(self.opened, "from opening on");
         let drawn = told(self.drawn, "from drawn counts on");
         let books = format!("books through many calls: {opened}; {drawn}");
-        functions.chain([books]).collect()
+        let Between { drawn, written } = self.between;
+        let between =
+            format!("between lows and highs: {drawn} drawn, {written} written, all planned");
+        functions.chain([books, between]).collect()
     }
 
     fn line(&self, function: Function) -> String {
@@ -120,7 +143,7 @@ impl Tally {
         let (answered, refused) = (answered.join(", "), refused.join(", "));
         let all: u64 = self.of(function);
         format!(
-            "{:<15} {all} calls; {answered}; refused {refused}",
+            "{:<17} {all} calls; {answered}; refused {refused}",
             function.name()
         )
     }
@@ -152,6 +175,9 @@ impl Tally {
                 never.push(format!("a plan with a book from {from} on"));
             }
         }
+        if self.between.drawn == 0 || self.between.written == 0 {
+            never.push("a plan between lows and highs".to_string());
+        }
         never
     }
 }
@@ -162,6 +188,8 @@ fn kind(function: Function, numbers: &[i32]) -> &'static str {
     match (function, numbers[0]) {
         (Function::Check | Function::TimedCheck, 0) => "no",
         (Function::Check | Function::TimedCheck, _) => "yes",
+        (Function::Between, at_lows) if numbers[1] == at_lows => "equal",
+        (Function::Between, _) => "apart",
         (Function::Reason | Function::Parse, 0) => "none",
         (Function::Reason | Function::Parse, 1) => "job",
         (Function::Reason | Function::Parse, _) => {
@@ -191,6 +219,13 @@ fn kind_of_needs(count: usize) -> &'static str {
         0 => "of no length",
         1..=48 => "of up to 48",
         _ => "of more",
+    }
+}
+
+fn kind_of_order(bytes: &[u8]) -> &'static str {
+    match bytes {
+        [] => "none met",
+        _ => "met",
     }
 }
 

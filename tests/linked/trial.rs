@@ -138,10 +138,14 @@ fn told(what: &str, call: &Call) -> String {
             call.needs.len(),
             shown(&beginning(call.needs.content())),
         ),
+        ("highs", call.highs.len(), shown(&call.highs.content())),
+        ("order", call.order.len(), shown(&call.order.content())),
         ("answer", call.answer.len(), shown(&call.answer.content())),
     ];
     let line = |(name, length, content)| format!("\n  {name}, length {length}: {content}");
-    format!("{what}: bound {}{}", call.bound, buffers.map(line).concat())
+    let (bound, number) = (call.bound, call.number);
+    let buffers = buffers.map(line).concat();
+    format!("{what}: bound {bound}, number {number}{buffers}")
 }
 
 fn text(line: &[u8]) -> String {

@@ -1,71 +1,13 @@
 //! Shows that the comparison has teeth: libraries that are each wrong in one thing, made from the
 //! independent implementation. The unbroken one must pass, and each wrong one must be caught.
 
-/// A wrong thing of both functions that book, made by a helper that takes the function, the call and
-/// how it is wrong.
-macro_rules! of_both {
-    ($with:ident: $($what:literal => $how:expr,)*) => {
-        &[$(
-            (Function::BookLeast, $what, |call| $with(Function::BookLeast, call, $how)),
-            (Function::BookPlan, $what, |call| $with(Function::BookPlan, call, $how)),
-        )*]
-    };
-}
-
-/// A wrong thing of each of the three functions that take ready minutes and windows, made likewise;
-/// how it is wrong is of this type.
-macro_rules! of_timed {
-    ($with:ident, $type:ident: $($what:literal => $how:expr,)*) => {{
-        const ALL: &[[Wrong; 3]] = &[$({
-            const HOW: $type = $how;
-            [
-                (Function::TimedRows, $what, |call| $with(Function::TimedRows, call, HOW)),
-                (Function::TimedPlan, $what, |call| $with(Function::TimedPlan, call, HOW)),
-                (Function::TimedCheck, $what, |call| $with(Function::TimedCheck, call, HOW)),
-            ]
-        },)*];
-        ALL.as_flattened()
-    }};
-}
-
-/// A wrong thing of one function, made by a helper that takes the call and how it is wrong.
-macro_rules! of_one {
-    ($function:ident, $with:ident: $($what:literal => $how:expr,)*) => {
-        &[$(
-            (Function::$function, $what, |call| $with(call, $how)),
-        )*]
-    };
-}
-
-/// A wrong thing of each of the fourteen functions that take an order, made likewise.
-macro_rules! of_all {
-    ($with:ident, $type:ident: $($what:literal => $how:expr,)*) => {{
-        const ALL: &[[Wrong; 14]] = &[$({
-            const HOW: $type = $how;
-            [
-                (Function::Judge, $what, |call| $with(Function::Judge, call, HOW)),
-                (Function::Classes, $what, |call| $with(Function::Classes, call, HOW)),
-                (Function::Least, $what, |call| $with(Function::Least, call, HOW)),
-                (Function::Plan, $what, |call| $with(Function::Plan, call, HOW)),
-                (Function::BookLeast, $what, |call| $with(Function::BookLeast, call, HOW)),
-                (Function::BookPlan, $what, |call| $with(Function::BookPlan, call, HOW)),
-                (Function::Reason, $what, |call| $with(Function::Reason, call, HOW)),
-                (Function::Sentence, $what, |call| $with(Function::Sentence, call, HOW)),
-                (Function::Parse, $what, |call| $with(Function::Parse, call, HOW)),
-                (Function::Check, $what, |call| $with(Function::Check, call, HOW)),
-                (Function::TimedRows, $what, |call| $with(Function::TimedRows, call, HOW)),
-                (Function::TimedPlan, $what, |call| $with(Function::TimedPlan, call, HOW)),
-                (Function::TimedCheck, $what, |call| $with(Function::TimedCheck, call, HOW)),
-                (Function::Write, $what, |call| $with(Function::Write, call, HOW)),
-            ]
-        },)*];
-        ALL.as_flattened()
-    }};
-}
+#[macro_use]
+mod macros;
 
 mod booked;
 mod books;
 mod buffers;
+mod cases;
 mod checks;
 mod class_room;
 mod classes;
@@ -75,8 +17,10 @@ mod first_jobs;
 mod forms;
 mod full;
 mod held;
+mod highs;
 mod joins;
 mod kept;
+mod leasts;
 mod lines;
 mod long_lists;
 mod lying;
@@ -87,12 +31,15 @@ mod met;
 mod need_lists;
 mod needs;
 mod open;
+mod order_room;
+mod paths;
 mod plans;
 mod ranges;
 mod readings;
 mod reasons;
 mod refusals;
 mod sentences;
+mod spans;
 mod tight;
 mod timed;
 mod times;
@@ -100,83 +47,18 @@ mod untimed;
 mod words;
 
 use crate::expect::Known;
-use crate::fixed;
-use crate::independent::{read, Job, Order, Row, Times};
+use crate::independent::{judge_estimate, lists, read, Estimate, Job, Order, Row, Times};
 use crate::lent::{rows_of, Call};
 use crate::library::{Entry, Function, Library};
 use crate::model::MODEL;
-use crate::rounds::{self, Rounds};
-use crate::trial::Trial;
+use cases::{tried, Cases};
 
 /// A function, what is wrong with it, and the wrong one.
 type Wrong = (Function, &'static str, Entry);
 
-const ROUNDS: Rounds = Rounds {
-    small: 450,
-    refused: 480,
-    files: 490,
-    lists: 150,
-    classes: 120,
-    books: 60,
-    ..NO_ROUNDS
-};
-
-/// The rounds with ready minutes and windows.
-const TIMED_ROUNDS: Rounds = Rounds {
-    times: 90,
-    ..NO_ROUNDS
-};
-
-/// The rounds with tables of needs.
-const NEED_ROUNDS: Rounds = Rounds {
-    needs: 200,
-    ..NO_ROUNDS
-};
-
-/// The rounds with jobs that lie elsewhere than they are given.
-const HELD_ROUNDS: Rounds = Rounds {
-    held: 40,
-    ..NO_ROUNDS
-};
-
-const NO_ROUNDS: Rounds = Rounds {
-    small: 0,
-    large: 0,
-    refused: 0,
-    files: 0,
-    lists: 0,
-    classes: 0,
-    books: 0,
-    times: 0,
-    large_times: 0,
-    needs: 0,
-    held: 0,
-};
-
-/// What a library is put before.
-#[derive(Clone, Copy)]
-enum Cases {
-    /// with ready minutes and windows
-    Timed,
-    /// with tables of needs
-    Needs,
-    /// with lists of millions of lengths
-    LongLists,
-    /// with jobs that lie elsewhere than they are given
-    Held,
-    Others,
-}
-
 /// Puts the unbroken library and all wrong ones before the comparison; answers the last line.
 pub fn run() -> Result<String, String> {
-    let parts = [
-        Cases::Others,
-        Cases::Timed,
-        Cases::Needs,
-        Cases::LongLists,
-        Cases::Held,
-    ];
-    for cases in parts {
+    for cases in cases::ALL {
         let (unbroken, calls) = tried(MODEL, cases);
         if let Some(difference) = unbroken {
             return Err(format!(
@@ -200,7 +82,7 @@ pub fn run() -> Result<String, String> {
     Err(format!("broken: NOT caught: {}", missed.join("; ")))
 }
 
-/// The wrong things that need no times, no table of needs and no jobs that lie elsewhere.
+/// The wrong things that need no times, no table of needs, no jobs that lie elsewhere and no highs.
 fn others() -> Vec<&'static [Wrong]> {
     let parts = [
         buffers::WRONG,
@@ -244,11 +126,20 @@ fn libraries() -> Vec<(String, Library, Cases)> {
     .concat();
     let of_needs = [needs::PARTS, met::PARTS, need_lists::PARTS].concat();
     let of_held = [lying::PARTS, held::PARTS, first_jobs::PARTS].concat();
+    let of_estimates = [
+        paths::PARTS,
+        leasts::PARTS,
+        spans::PARTS,
+        highs::PARTS,
+        order_room::PARTS,
+    ]
+    .concat();
     let in_one = in_one_function(&others(), Cases::Others);
     let of_times = in_one_function(&of_times, Cases::Timed);
     let of_needs = in_one_function(&of_needs, Cases::Needs);
     let of_long_lists = in_one_function(long_lists::PARTS, Cases::LongLists);
     let of_held = in_one_function(&of_held, Cases::Held);
+    let of_estimates = in_one_function(&of_estimates, Cases::Estimates);
     let in_several = [ends::LIBRARIES, books::LIBRARIES].concat();
     let in_several = in_several.into_iter().map(|(what, library)| {
         let name = format!("the library {what}");
@@ -261,6 +152,7 @@ fn libraries() -> Vec<(String, Library, Cases)> {
         of_needs,
         of_long_lists,
         of_held,
+        of_estimates,
         in_several,
     ]
     .concat()
@@ -273,31 +165,6 @@ fn in_one_function(parts: &[&[Wrong]], cases: Cases) -> Vec<(String, Library, Ca
         (name, MODEL.with(function, entry), cases)
     };
     parts.concat().iter().map(library).collect()
-}
-
-/// The difference that is found in a library, if any, and the number of calls made, by these cases.
-fn tried(library: Library, cases: Cases) -> (Option<String>, u64) {
-    let mut trial = Trial::of(library);
-    match cases {
-        Cases::Timed => {
-            fixed::run_timed(&mut trial);
-            rounds::run(&mut trial, &TIMED_ROUNDS);
-        }
-        Cases::Needs => {
-            fixed::run_needs(&mut trial);
-            rounds::run(&mut trial, &NEED_ROUNDS);
-        }
-        Cases::LongLists => fixed::run_long_lists(&mut trial),
-        Cases::Held => {
-            fixed::run_held(&mut trial);
-            rounds::run(&mut trial, &HELD_ROUNDS);
-        }
-        Cases::Others => {
-            fixed::run(&mut trial);
-            rounds::run(&mut trial, &ROUNDS);
-        }
-    }
-    (trial.difference, trial.tally.calls)
 }
 
 /// The unbroken call, then a change where it succeeded.
@@ -368,6 +235,18 @@ fn given(call: &Call) -> (Order, Times) {
     let times = Times::of(&order, call.ready.content(), call.windows.content());
     let times = times.expect("the call was answered");
     (order, times)
+}
+
+/// The lows and highs lent to a function, accepted or not, where nothing is told before they are judged.
+fn lent_estimate(function: Function, call: &Call) -> Option<Estimate> {
+    let enough = call.answer.len() >= function.answer_length();
+    let listed = lists(call.file.content()).filter(|_| enough)?;
+    Estimate::of(&listed, call.highs.content())
+}
+
+/// The same where they are accepted.
+fn estimate(function: Function, call: &Call) -> Option<Estimate> {
+    lent_estimate(function, call).filter(|estimate| judge_estimate(estimate).is_none())
 }
 
 /// The least lateness of a call's accepted file.

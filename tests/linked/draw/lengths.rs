@@ -59,6 +59,21 @@ pub fn line_room(random: &mut Random, exact: usize) -> usize {
     }
 }
 
+/// Room for an order whose file has this length: exactly, or more; sometimes one byte or more too few, or
+/// none.
+pub fn order_room(random: &mut Random, exact: usize) -> usize {
+    match random.below(12) {
+        0 => 0,
+        1 => exact - 1,
+        2 => random.below(exact),
+        3..=4 => exact + 1,
+        5 => exact + random.below(200),
+        6 => exact.max(844),
+        7 => random.pick(&[256, 256, 256, 65_536]),
+        _ => exact,
+    }
+}
+
 /// Mostly the counts of a book and no more; sometimes none, or some too few, or others after them.
 pub fn book_length(random: &mut Random) -> usize {
     match random.below(32) {
@@ -112,8 +127,8 @@ pub fn need_room(random: &mut Random, exact: usize) -> usize {
     }
 }
 
-/// Mostly so many ready minutes, or numbers of windows, as there must be; sometimes none, or some too
-/// few, or too many, or as many as an order may need at most.
+/// Mostly so many ready minutes, numbers of windows, or highs, as there must be; sometimes none, or some
+/// too few, or too many, or as many as an order may need at most.
 pub fn times_length(random: &mut Random, exact: usize) -> usize {
     match random.below(96) {
         0 => 0,

@@ -9,26 +9,45 @@ const DUES: RangeInclusive<i32> = -1_000_000..=1_000_000;
 
 /// The refusal of an order, or none where it is accepted.
 pub fn judge(order: &Order) -> Option<Refusal> {
+    judge_counts(order)
+        .or_else(|| first(order, 5, |_, job| !is_time(job.time)))
+        .or_else(|| first(order, 6, |_, job| !is_due(job)))
+        .or_else(|| first(order, 13, |_, job| !is_made(job)))
+        .or_else(|| first(order, 7, |_, job| !fits(order, job)))
+}
+
+/// Rows 1 to 4.
+pub fn judge_counts(order: &Order) -> Option<Refusal> {
     let about_counts = [
         (1, order.memories.is_empty()),
         (2, order.memories.len() > 16),
         (3, order.jobs.is_empty()),
         (4, order.jobs.len() > 48),
     ];
-    if let Some(&(number, _)) = about_counts.iter().find(|(_, holds)| *holds) {
-        return Some(Refusal { number, job: 0 });
-    }
-    let made = |job: &Job| (1..=MAKERS).contains(&(job.maker as usize));
-    let fits = |job: &Job| order.memories.iter().any(|&memory| memory >= job.need);
-    first(order, 5, |job| !TIMES.contains(&job.time))
-        .or_else(|| first(order, 6, |job| !DUES.contains(&job.due)))
-        .or_else(|| first(order, 13, |job| !made(job)))
-        .or_else(|| first(order, 7, |job| !fits(job)))
+    let (number, _) = about_counts.into_iter().find(|(_, holds)| *holds)?;
+    Some(Refusal { number, job: 0 })
 }
 
-/// The refusal of this number if its condition holds of some job: it names the first.
-fn first(order: &Order, number: u32, holds: impl Fn(&Job) -> bool) -> Option<Refusal> {
-    let place = order.jobs.iter().position(holds)?;
+/// The refusal of this number if its condition holds of some job and its place: it names the first.
+pub fn first(order: &Order, number: u32, holds: impl Fn(usize, &Job) -> bool) -> Option<Refusal> {
+    let mut jobs = order.jobs.iter().enumerate();
+    let place = jobs.position(|(place, job)| holds(place, job))?;
     let job = place as u32 + 1;
     Some(Refusal { number, job })
+}
+
+pub fn is_time(minutes: u32) -> bool {
+    TIMES.contains(&minutes)
+}
+
+pub fn is_due(job: &Job) -> bool {
+    DUES.contains(&job.due)
+}
+
+pub fn is_made(job: &Job) -> bool {
+    (1..=MAKERS).contains(&(job.maker as usize))
+}
+
+pub fn fits(order: &Order, job: &Job) -> bool {
+    order.memories.iter().any(|&memory| memory >= job.need)
 }

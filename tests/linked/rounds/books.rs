@@ -2,6 +2,7 @@
 //! orders: "From opening on, each call being given the book that the last one gave back, each count
 //! equals the times of that maker's jobs in all plans written with it, worked out from the orders."
 
+use super::estimates;
 use crate::draw::bounds::Around;
 use crate::draw::damage::{damaged, OF_ORDERS};
 use crate::draw::files::file_of;
@@ -104,6 +105,9 @@ fn call(random: &mut Random, function: Function, subject: &Subject) -> Call {
         _ => subject.around.least + random.between(-1, 9) as i32,
     };
     let call = Call::with_file(random, &subject.file, answer).at(bound);
+    if function.takes_highs() {
+        return estimates::with_any_highs(random, &subject.file, call);
+    }
     let Ok(order) = read(&subject.file) else {
         return call.with_room(random, 4);
     };

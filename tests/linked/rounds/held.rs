@@ -1,8 +1,9 @@
 //! Orders whose jobs lie elsewhere than they are given before all functions that take an order: where
 //! there is a plan, where a staircase is the reason, where several jobs are late, with ready minutes
-//! and windows, and where two jobs are refused.
+//! and windows, with lows and highs, and where two jobs are refused.
 
-use super::{accepted_order, times, trial_of, write_order};
+use super::refused::read_all;
+use super::{accepted_order, estimates, times, trial_of, write_order};
 use crate::draw::bounds::Around;
 use crate::draw::files::file_of;
 use crate::draw::held::{several_late, two_not_ready, two_refused, HELD_FAMILIES};
@@ -19,6 +20,7 @@ pub fn any_needs(trial: &mut Trial, seed: u64) {
     refused(trial, seed);
     accepted_order(trial, HELD_FAMILIES, seed);
     times::held(trial, seed);
+    estimates::held(trial, seed);
 }
 
 fn drawn(trial: &mut Trial, seed: u64) -> Order {
@@ -75,7 +77,7 @@ fn refused(trial: &mut Trial, seed: u64) {
     let number = [5, 6, 13, 7][(seed as usize / HELD_FAMILIES.len()) % 4];
     let bad = two_refused(&mut trial.random, &order, number);
     let file = file_of(&mut trial.random, &bad);
-    super::read_all(trial, &file);
+    read_all(trial, &file);
     write_order(trial, &bad);
     let file = file_of(&mut trial.random, &order);
     for function in TIMED {

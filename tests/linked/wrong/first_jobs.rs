@@ -3,7 +3,7 @@
 
 use super::Wrong;
 use crate::expect::listed;
-use crate::independent::{held, judge, lists, Held, Order, MOST_MINUTE};
+use crate::independent::{held, judge, judge_estimate, lists, Estimate, Held, Order, MOST_MINUTE};
 use crate::lent::Call;
 use crate::library::Function;
 use crate::model::MODEL;
@@ -30,7 +30,7 @@ const PLACE: Told = |lying, bad| {
 };
 const LARGEST_NEED: Told = |_, bad| bad[0].number;
 
-/// Another job carried by 5, 6, 13 or 7.
+/// Another job carried by 5, 6, 13, 19 or 7.
 fn carries(function: Function, call: &mut Call, told: Told) -> u32 {
     let result = MODEL.entry(function)(call);
     let number = result % 256;
@@ -38,7 +38,7 @@ fn carries(function: Function, call: &mut Call, told: Told) -> u32 {
         Function::Write => Some(listed(call)),
         _ => lists(call.file.content()),
     };
-    let Some(order) = order.filter(|_| [5, 6, 13, 7].contains(&number)) else {
+    let Some(order) = order.filter(|_| [5, 6, 13, 19, 7].contains(&number)) else {
         return result;
     };
     let bad = |one: &Held| {
@@ -46,7 +46,14 @@ fn carries(function: Function, call: &mut Call, told: Told) -> u32 {
             memories: order.memories.clone(),
             jobs: vec![one.job],
         };
-        judge(&alone).is_some_and(|refusal| refusal.number == number)
+        let refusal = match function.takes_highs() {
+            true => judge_estimate(&Estimate {
+                lows: alone,
+                highs: vec![call.highs.content()[one.number as usize - 1]],
+            }),
+            false => judge(&alone),
+        };
+        refusal.is_some_and(|refusal| refusal.number == number)
     };
     number + 256 * of_bad(&order, told, bad)
 }

@@ -75,6 +75,14 @@ const FILES: &[Wrong] = &[
         "looks for processors at 12 bytes a job",
         |call| not_jobs_first(Function::BookPlan, call),
     ),
+    (Function::Between, "takes a file of 848 bytes", |call| {
+        takes_long(Function::Between, call)
+    }),
+    (
+        Function::BetweenOrder,
+        "looks for processors at 12 bytes a job",
+        |call| not_jobs_first(Function::BetweenOrder, call),
+    ),
 ];
 
 const WRITTEN: &[Wrong] = &[

@@ -20,7 +20,7 @@ type Move = fn(&[Held], &[u32]) -> Vec<u32>;
 /// takes the function, the call and how it is wrong.
 macro_rules! of_answers {
     ($with:ident, $type:ident: $($what:literal => $how:expr,)*) => {{
-        const ALL: &[[Wrong; 10]] = &[$({
+        const ALL: &[[Wrong; 12]] = &[$({
             const HOW: $type = $how;
             [
                 (Function::Least, $what, |call| $with(Function::Least, call, HOW)),
@@ -33,6 +33,8 @@ macro_rules! of_answers {
                 (Function::Check, $what, |call| $with(Function::Check, call, HOW)),
                 (Function::TimedPlan, $what, |call| $with(Function::TimedPlan, call, HOW)),
                 (Function::TimedCheck, $what, |call| $with(Function::TimedCheck, call, HOW)),
+                (Function::Between, $what, |call| $with(Function::Between, call, HOW)),
+                (Function::BetweenOrder, $what, |call| $with(Function::BetweenOrder, call, HOW)),
             ]
         },)*];
         ALL.as_flattened()

@@ -138,7 +138,11 @@ fn takes(function: Function, call: &mut Call, taken: Taken) -> u32 {
 fn tells(function: Function, call: &mut Call, change: Told) -> u32 {
     let result = MODEL.entry(function)(call);
     let other = match result % 256 {
-        5 => remade(function, &mut call.clone(), |order| change(order, 5)),
+        5 => {
+            let mut other = call.clone();
+            other.highs.content_mut().fill(1);
+            remade(function, &mut other, |order| change(order, 5))
+        }
         6 => remade(function, &mut call.clone(), |order| change(order, 6)),
         13 => remade(function, &mut call.clone(), |order| change(order, 13)),
         _ => result,
