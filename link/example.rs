@@ -1,10 +1,12 @@
 // Plans an order from Rust: two processors, three jobs of two makers, whose needs a table has by their times. Prints the needs, the
 // least lateness, a plan that meets it, why -1 is too tight, in due times and as a sentence, the classes that it speaks of, and the
-// minutes booked for each maker.
+// minutes booked for each maker. Then, where job 1 may take up to 7 minutes, between which two numbers the least lateness lies, and
+// the first order, minute by minute, at which it is 1.
 #[allow(dead_code)]
 mod highboyrobin;
+use highboyrobin::{between, between_order, least};
 use highboyrobin::{book_least, classes, judge, needs, reason, sentence, write};
-use highboyrobin::{Book, Job, NeedLine, Reason, Refused, Row};
+use highboyrobin::{Between, Book, Job, NeedLine, Reason, Refused, Row};
 use highboyrobin::{LONGEST_LENGTH, MOST_BYTES, MOST_LINE};
 
 fn main() -> Result<(), Refused> {
@@ -49,5 +51,16 @@ fn main() -> Result<(), Refused> {
     }
     let [first, second, ..] = book.counts;
     println!("booked: maker 1 {first} minutes, maker 2 {second} minutes");
+    let (low, highs) = (jobs[0].time, [7, 3, 2]);
+    let Between { at_lows, at_highs } = between(file, &highs)?;
+    let high = highs[0];
+    println!("job 1 of {low} to {high} minutes: least lateness {at_lows} to {at_highs}");
+    let mut order = [0; MOST_BYTES];
+    if let Some(length) = between_order(file, &highs, 1, &mut order)? {
+        let lateness = least(&order[..length], &mut rows)?.lateness;
+        // job 1 comes after two processors of 4 bytes each; the low byte of its time is first
+        let time = order[8];
+        println!("job 1 of {time} minutes: least lateness {lateness}");
+    }
     Ok(())
 }

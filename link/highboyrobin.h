@@ -24,15 +24,20 @@
  *
  * Needs. Where you know how long sessions are and not what they need, hbr_needs fills the needs in from a table that you edit.
  *
+ * Estimates. Where times are known only between a low and a high, the file has the lows as its times, and hbr_between and
+ * hbr_between_order take a high for each job beside it, in the order of the file: highs_length is the number of jobs. Due times,
+ * needs and makers are those of the file whatever the times.
+ *
  * Results. Each function returns 0 where it succeeds, else a refusal: its number is hbr_number(result), and the job that it is
  * about, of 16 the processor, of 17 and 18 the length, of 5 from hbr_needs the place in the list, 0 where it is about none,
  * hbr_job(result). Of several refusals that apply the first is told: HBR_SHORT_ANSWER, HBR_PART_JOB, HBR_SHORT_CLASSES,
- * HBR_SHORT_REASON, HBR_SHORT_BOOK or HBR_LONG_LIST, 12, HBR_WRONG_TIMES, then 17, 18, 1 to 6, 13, 7, 15, 16, 8 to 11, 14.
+ * HBR_SHORT_REASON, HBR_SHORT_BOOK or HBR_LONG_LIST, 12, HBR_WRONG_TIMES or HBR_WRONG_HIGHS, then 17, 18, 1 to 6, 13, 19, 7, 15, 16,
+ * 8 to 11, 14.
  *
  * Memory. You own every buffer; nothing is kept after a call, and nothing is allocated. Two buffers of one call must not overlap
  * unless both are const. Lengths count elements, not bytes. Pointers must be valid and aligned, not NULL, also where the length is
- * 0. A REFUSED CALL WRITES NOTHING, neither to classes, rows, book, file, line or needs nor to the answer. A call that succeeds leaves
- * what lies beyond its classes, its rows, its book, its file, its line, its needs or its answer as it was.
+ * 0. A REFUSED CALL WRITES NOTHING, neither to classes, rows, book, file, order, line or needs nor to the answer. A call that succeeds
+ * leaves what lies beyond its classes, its rows, its book, its file, its order, its line, its needs or its answer as it was.
  *
  * Threads. A call keeps nothing, so calls may run at once on several threads, and a call may be interrupted by another: in a
  * signal or interrupt handler, or by a thread switch. As long as a call runs, no buffer that it writes may be read or written by
@@ -74,12 +79,12 @@ extern "C" {
 #define HBR_TOO_MANY_PROCESSORS 2 /* it has over 16 */
 #define HBR_NO_JOB 3              /* it has no job */
 #define HBR_TOO_MANY_JOBS 4       /* it has over 48 */
-#define HBR_TIME_OUT_OF_RANGE 5   /* a job's time, or a length listed for hbr_needs, is not 1 to 100000 */
+#define HBR_TIME_OUT_OF_RANGE 5   /* a job's time, low or high, or a length listed for hbr_needs, is not 1 to 100000 */
 #define HBR_DUE_OUT_OF_RANGE 6    /* a job's due time is not -1000000 to 1000000 */
 #define HBR_FITS_NO_PROCESSOR 7   /* a job needs more memory than any processor has */
 #define HBR_BOUND_OUT_OF_RANGE 8  /* the bound is not -10000000 to 10000000 */
-#define HBR_BUFFER_TOO_SHORT 9    /* rows: as hbr_judge, hbr_timed_rows tell; file: 4 bytes a processor, 16 a job, 12; line: its length;
-                                   * needs: one to a length */
+#define HBR_BUFFER_TOO_SHORT 9    /* rows: as hbr_judge, hbr_timed_rows tell; file, order: 4 bytes a processor, 16 a job, 12; line: its
+                                   * length; needs: one to a length */
 #define HBR_BOUND_TOO_TIGHT 10    /* no plan whatever meets the bound: hbr_reason tells why, but not with times */
 #define HBR_TOO_MANY_ROWS 11      /* over 3024 rows to check, with times over 8064 */
 #define HBR_BAD_FILE 12           /* the file is under 12 or over 844 bytes, or its lists and its trailer disagree */
@@ -89,11 +94,13 @@ extern "C" {
 #define HBR_BAD_WINDOW 16         /* a window is not in 0 to 1000000 or does not close after it opens; told after 15, before 8 */
 #define HBR_LENGTH_UNMET 17       /* no line of the table of needs meets a length */
 #define HBR_LENGTH_MET_TWICE 18   /* two lines of it meet a length */
+#define HBR_LOW_ABOVE_HIGH 19     /* a job's low is above its high; told after 13 and before 7 */
 #define HBR_SHORT_CLASSES 253     /* the list of classes has under 32 numbers */
 #define HBR_SHORT_REASON 253      /* the reason has under 19 numbers */
 #define HBR_SHORT_BOOK 253        /* the book has under 16 numbers; the same number, since no function has two of these */
 #define HBR_LONG_LIST 253         /* over 16777215 lengths: a result has no room for such a place */
 #define HBR_WRONG_TIMES 253       /* the ready minutes are not one to a job or the windows not two numbers to a processor; after 12 */
+#define HBR_WRONG_HIGHS 253       /* the highs are not one to a job; after 12 */
 #define HBR_PART_JOB 254          /* the numbers of the jobs are not four to a job */
 #define HBR_SHORT_ANSWER 255      /* the answer is shorter than the function's HBR_.._ANSWER */
 
@@ -211,6 +218,26 @@ uint32_t hbr_timed_plan(const uint8_t *file, size_t file_length, int32_t bound, 
 uint32_t hbr_timed_check(const uint8_t *file, size_t file_length, int32_t bound, const uint32_t *ready, size_t ready_length,
                          const uint32_t *windows, size_t windows_length, const uint32_t *rows, size_t rows_length, int32_t *answer,
                          size_t answer_length);
+
+/* The least lateness of an order whose times are known only between lows and highs: at the lows, which are the file's times, and at
+ * the highs, one to a job. Whatever the times, each from its low to its high, both included, the least lateness lies between these
+ * two. A low that equals its high is a time that is known. Refusals, in the order in which they are told: 255, 12, 253, 1 to 4, 5 (the
+ * first job whose low or whose high is not 1 to 100000), 6, 13, 19, 7.
+ * answer[0] the least lateness at the lows, answer[1] that at the highs. */
+#define HBR_BETWEEN_ANSWER 2
+uint32_t hbr_between(const uint8_t *file, size_t file_length, const uint32_t *highs, size_t highs_length, int32_t *answer,
+                     size_t answer_length);
+
+/* An order between these lows and highs whose least lateness is a number. Job 1, then job 2 and so on, goes minute by minute from its
+ * low to its high, the others staying; the first order met with that least lateness, the lows themselves being the first of all, is
+ * written from order[0] on, as hbr_write writes it: the processors first, all but the times as in the file lent. There is one for each
+ * number from answer[0] to answer[1] of hbr_between, both included. For any other number there is none: the call succeeds, answer[0]
+ * is 0 and order is left as it was. As many bytes as the file has, or HBR_MOST_BYTES, are always enough. Refusals, in the order in
+ * which they are told: 255, 12, 253, 1 to 6, 13, 19, 7 as of hbr_between, 9 (only where there is an order to write).
+ * answer[0] the length of the order's file, 0 where there is no such order. */
+#define HBR_BETWEEN_ORDER_ANSWER 1
+uint32_t hbr_between_order(const uint8_t *file, size_t file_length, const uint32_t *highs, size_t highs_length, int32_t number,
+                           uint8_t *order, size_t order_length, int32_t *answer, size_t answer_length);
 
 /* The needs of listed lengths, from a table that you edit: three numbers to a line, from length, to length, need. A line meets each
  * length from the one to the other, both included; one whose from or to is not 1 to HBR_LONGEST_LENGTH, or whose from is above its

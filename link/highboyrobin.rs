@@ -154,6 +154,25 @@ pub mod raw {
             answer: *mut i32,
             answer_length: usize,
         ) -> u32;
+        pub fn hbr_between(
+            file: *const u8,
+            file_length: usize,
+            highs: *const u32,
+            highs_length: usize,
+            answer: *mut i32,
+            answer_length: usize,
+        ) -> u32;
+        pub fn hbr_between_order(
+            file: *const u8,
+            file_length: usize,
+            highs: *const u32,
+            highs_length: usize,
+            number: i32,
+            order: *mut u8,
+            order_length: usize,
+            answer: *mut i32,
+            answer_length: usize,
+        ) -> u32;
         pub fn hbr_needs(
             table: *const u32,
             table_length: usize,
@@ -230,7 +249,7 @@ impl Refused {
             2 => "the order has over 16 processors",
             3 => "the order has no job",
             4 => "the order has over 48 jobs",
-            5 => "a job's time, or a listed length, is not 1 to 100,000",
+            5 => "a job's time, low or high, or a listed length, is not 1 to 100,000",
             6 => "a due time is not -1,000,000 to 1,000,000",
             7 => "a job fits no processor",
             8 => "the bound is not -10,000,000 to 10,000,000",
@@ -244,7 +263,8 @@ impl Refused {
             16 => "a window is not in 0 to 1,000,000, or does not close after it opens",
             17 => "no line of the table of needs meets a length",
             18 => "two lines of the table of needs meet a length",
-            253 => "the reason has under 19 numbers, the book under 16, the classes under 32, the times are not one to each job and processor, or over 16,777,215 lengths are listed",
+            19 => "a job's low is above its high",
+            253 => "the reason has under 19 numbers, the book under 16, the classes under 32, the times are not one to each job and processor, the highs not one to a job, or over 16,777,215 lengths are listed",
             254 => "the numbers of the jobs are not four to a job",
             255 => "the answer is too short",
             _ => "no refusal has this number",
@@ -308,6 +328,13 @@ impl Classes {
 pub struct Least {
     pub lateness: i32,
     pub rows: usize,
+}
+
+/// The least lateness at the lows and at the highs.
+#[derive(Clone, Copy, Debug, PartialEq, Eq)]
+pub struct Between {
+    pub at_lows: i32,
+    pub at_highs: i32,
 }
 
 /// The minutes planned for each maker since the book was opened, maker 1 first.
@@ -668,6 +695,54 @@ pub fn timed_check(
         )
     })?;
     Ok(answer[0] == 1)
+}
+
+/// The least lateness where times are known only between lows, which are the file's times, and highs, one to a job: whatever the
+/// times, it lies between these two. Refusals: 12, 253 where there is not a high to each job, 1 to 4, 5 of a low or a high, 6,
+/// 13, 19, 7.
+pub fn between(file: &[u8], highs: &[u32]) -> Result<Between, Refused> {
+    let mut answer = [0; 2];
+    told(unsafe {
+        raw::hbr_between(
+            file.as_ptr(),
+            file.len(),
+            highs.as_ptr(),
+            highs.len(),
+            answer.as_mut_ptr(),
+            answer.len(),
+        )
+    })?;
+    let [at_lows, at_highs] = answer;
+    Ok(Between { at_lows, at_highs })
+}
+
+/// An order between lows and highs, as `between` has them, whose least lateness is this number: the first met when job 1, then
+/// job 2 and so on, goes minute by minute from its low to its high. Its file is written from `order[0]` on, as `write` writes it;
+/// its length, or `None` where the number is not between the two of `between`. Refusals: 12, 253, 1 to 6, 13, 19, 7, and last,
+/// where there is an order, 9.
+pub fn between_order(
+    file: &[u8],
+    highs: &[u32],
+    number: i32,
+    order: &mut [u8],
+) -> Result<Option<usize>, Refused> {
+    let mut answer = [0; 1];
+    let (at, length) = (order.as_mut_ptr(), order.len());
+    told(unsafe {
+        raw::hbr_between_order(
+            file.as_ptr(),
+            file.len(),
+            highs.as_ptr(),
+            highs.len(),
+            number,
+            at,
+            length,
+            answer.as_mut_ptr(),
+            answer.len(),
+        )
+    })?;
+    let length = answer[0] as usize;
+    Ok((length > 0).then_some(length))
 }
 
 /// The needs of listed lengths, from `needs[0]` on, each from the line of the table that meets it; their number. The first

@@ -10,6 +10,7 @@ static uint32_t rows[4 * (HBR_MOST_TIMED_ROWS + 1)];
 static uint32_t classes[2 * HBR_MOST_CLASSES];
 static uint8_t line[HBR_MOST_LINE];
 static uint8_t file[HBR_MOST_BYTES];
+static uint8_t order[HBR_MOST_BYTES];
 static uint32_t memories[HBR_MOST_PROCESSORS + 1];
 static uint32_t jobs[4 * (HBR_MOST_JOBS + 1)];
 static uint32_t book[HBR_MOST_MAKERS + 1];
@@ -23,6 +24,7 @@ static void fill(void) {
   memset(rows, KEPT, sizeof rows);
   memset(classes, KEPT, sizeof classes);
   memset(line, KEPT, sizeof line);
+  memset(order, KEPT, sizeof order);
   memset(needs, KEPT, sizeof needs);
 }
 
@@ -42,10 +44,11 @@ static int as_filled(const void *buffer, size_t size) {
   return 1;
 }
 
-/* the result is this refusal of this job, and answer, rows, classes, line, needs and book are as they were filled */
+/* the result is this refusal of this job, and answer, rows, classes, line, order, needs and book are as they were filled */
 static void refused(uint32_t result, uint32_t number, uint32_t job) {
   int kept = as_filled(answer, sizeof answer) && as_filled(rows, sizeof rows) && as_filled(classes, sizeof classes) &&
-             as_filled(line, sizeof line) && as_filled(needs, sizeof needs) && memcmp(book, kept_book, sizeof book) == 0;
+             as_filled(line, sizeof line) && as_filled(order, sizeof order) && as_filled(needs, sizeof needs) &&
+             memcmp(book, kept_book, sizeof book) == 0;
   if (hbr_number(result) != number || hbr_job(result) != job || !kept) {
     printf("refusal %u of job %u: got %u of job %u, %s\n", number, job, hbr_number(result), hbr_job(result),
            kept ? "nothing written" : "something written");
@@ -182,6 +185,78 @@ static void of_times(size_t length) {
           0);
 }
 
+/* both calls with highs are refused alike, the order of a number with no room for it; their answers lack so many numbers */
+static void estimated(size_t length, const uint32_t *highs, size_t highs_length, size_t lacking, uint32_t number, uint32_t job) {
+  refused(hbr_between(file, length, highs, highs_length, answer, HBR_BETWEEN_ANSWER - lacking), number, job);
+  refused(hbr_between_order(file, length, highs, highs_length, -8, order, 0, answer, HBR_BETWEEN_ORDER_ANSWER - lacking), number,
+          job);
+}
+
+/* both calls on order C with a high: the least lateness at the low and at the high, and the order of a number, with just enough
+ * room and with more; it is the file with this time, or there is none, which is asked for by time 0 */
+static void answered(uint32_t high, int32_t at_high, int32_t number, uint8_t time) {
+  const size_t bytes = time == 0 ? 0 : 32;
+  fill();
+  int right = hbr_between(file, 32, &high, 1, answer, HBR_BETWEEN_ANSWER) == 0 && answer[0] == -8 && answer[1] == at_high &&
+              as_filled(&answer[2], sizeof answer - 2 * sizeof answer[0]);
+  for (size_t more = 0; more <= 8; more += 8) {
+    fill();
+    right = right && hbr_between_order(file, 32, &high, 1, number, order, bytes + more, answer, HBR_BETWEEN_ORDER_ANSWER) == 0 &&
+            answer[0] == (int32_t)bytes && as_filled(&answer[1], sizeof answer - sizeof answer[0]) &&
+            as_filled(&order[bytes], sizeof order - bytes);
+    /* the low byte of the time is byte 4 */
+    if (bytes != 0)
+      right = right && order[4] == time && memcmp(order, file, 4) == 0 && memcmp(&order[5], &file[5], bytes - 5) == 0;
+  }
+  if (!right) {
+    printf("order C with the high %u is wrong at %d\n", high, number);
+    wrong++;
+  }
+}
+
+/* the refusals of the calls with highs, in the order in which they are told: each where all that follow hold too. The order has
+ * memory 4 and three jobs (3, 10, 4), which are then changed in its file: they begin at bytes 4, 20 and 36 */
+static void of_estimates(void) {
+  uint32_t highs[] = {2, 3, 100001};
+  if (write(1, 4, 3, 3, 10, 4) != 0 || answer[0] != 64)
+    wrong++;
+  fill();
+  file[36 + 6] = 100; /* job 3: due at minute 100 * 65536 + 10 */
+  file[20 + 12] = 0;  /* job 2: maker 0 */
+  file[4 + 8] = 9;    /* job 1: need 9 */
+  estimated(11, highs, 2, 1, HBR_SHORT_ANSWER, 0);
+  estimated(11, highs, 2, 0, HBR_BAD_FILE, 0);
+  estimated(64, highs, 2, 0, HBR_WRONG_HIGHS, 0);
+  estimated(64, highs, 3, 0, HBR_TIME_OUT_OF_RANGE, 3);
+  highs[2] = 0;
+  estimated(64, highs, 3, 0, HBR_TIME_OUT_OF_RANGE, 3);
+  highs[2] = 100000;
+  estimated(64, highs, 3, 0, HBR_DUE_OUT_OF_RANGE, 3);
+  file[36 + 6] = 0;
+  estimated(64, highs, 3, 0, HBR_MAKER_OUT_OF_RANGE, 2);
+  file[20 + 12] = 1;
+  estimated(64, highs, 3, 0, HBR_LOW_ABOVE_HIGH, 1);
+  highs[0] = 3;
+  estimated(64, highs, 3, 0, HBR_FITS_NO_PROCESSOR, 1);
+  file[4 + 2] = 3; /* job 1: low 3 * 65536 + 3, above its high */
+  estimated(64, highs, 3, 0, HBR_TIME_OUT_OF_RANGE, 1);
+  memset(file, 0, 12);
+  estimated(12, highs, 1, 0, HBR_WRONG_HIGHS, 0);
+  estimated(12, highs, 0, 0, HBR_NO_PROCESSOR, 0);
+  if (write(1, 4, 1, 3, 10, 4) != 0)
+    wrong++;
+  fill();
+  highs[0] = 5;
+  refused(hbr_between_order(file, 32, highs, 1, -7, order, 31, answer, HBR_BETWEEN_ORDER_ANSWER), HBR_BUFFER_TOO_SHORT, 0);
+  answered(3, -8, -8, 3);
+  answered(5, -6, -8, 3);
+  answered(5, -6, -7, 4);
+  answered(5, -6, -6, 5);
+  answered(5, -6, -9, 0);
+  answered(5, -6, -5, 0);
+  fill();
+}
+
 /* the refusals of the needs from a table, in the order in which they are told: each where all that follow hold too; and the needs
  * of two lengths, after which nothing is written */
 static void of_needs(void) {
@@ -234,6 +309,7 @@ int main(void) {
   memset(file, KEPT, sizeof file);
   of_orders();
   of_calls();
+  of_estimates();
   of_needs();
   printf("refusals: %d wrong\n", wrong);
   return wrong != 0;

@@ -3,11 +3,13 @@
 #[allow(dead_code)]
 #[path = "../../link/highboyrobin.rs"]
 mod highboyrobin;
+use highboyrobin::{between, between_order, needs, timed_check, timed_plan, timed_rows};
 use highboyrobin::{
     book_least, book_plan, check, classes, judge, least, parse, plan, reason, sentence, write,
 };
-use highboyrobin::{needs, timed_check, timed_plan, timed_rows};
-use highboyrobin::{Book, Class, Job, Least, NeedLine, Reason, Refused, Row, Sizes, Window};
+use highboyrobin::{
+    Between, Book, Class, Job, Least, NeedLine, Reason, Refused, Row, Sizes, Window,
+};
 use highboyrobin::{LONGEST_LENGTH, MOST_LENGTHS, TABLE_LINES};
 use highboyrobin::{MOST_BOOKED, MOST_BYTES, MOST_LINE, MOST_MAKERS, MOST_MINUTE, MOST_TIMED_ROWS};
 
@@ -298,6 +300,94 @@ fn times_refused(c: &[u8], d: &[u8]) {
     }
 }
 
+// memories 8, 4; jobs of these times with the due times and needs of B, each of a maker of its own
+fn b_with(times: [u32; 4]) -> Vec<u8> {
+    let [first, second, third, fourth] = times;
+    let jobs = [(first, 4, 8), (second, 4, 8), (third, 2, 4), (fourth, 2, 4)];
+    let made = |(numbers, maker)| Job {
+        maker,
+        ..job(numbers)
+    };
+    let jobs: Vec<Job> = jobs.into_iter().zip(13..).map(made).collect();
+    let mut bytes = vec![0; MOST_BYTES];
+    let length = write(&[8, 4], &jobs, &mut bytes).unwrap();
+    bytes.truncate(length);
+    bytes
+}
+
+// B with each time from 1 to 3: the least lateness at the lows and at the highs, and the first order of each number between, whose
+// least lateness it is, its processors first, also where the file has its jobs first; nothing is written beyond it, nor where there
+// is none
+fn between_lows_and_highs() {
+    let (file, highs) = (b_with([1; 4]), [3; 4]);
+    let mut jobs_first = [&file[8..72], &file[..8], &file[72..]].concat();
+    jobs_first[72..80].copy_from_slice(&[64, 0, 0, 0, 0, 0, 0, 0]);
+    let (at_lows, at_highs) = (-2, 2);
+    for file in [&file, &jobs_first] {
+        assert_eq!(between(file, &highs), Ok(Between { at_lows, at_highs }));
+    }
+    let first_met = [
+        (-2, [1, 1, 1, 1]),
+        (-1, [2, 1, 1, 1]),
+        (0, [3, 2, 1, 1]),
+        (1, [3, 3, 1, 1]),
+        (2, [3, 3, 3, 2]),
+    ];
+    for (number, times) in first_met {
+        let mut order = [7; MOST_BYTES];
+        let told = between_order(&file, &highs, number, &mut order);
+        assert_eq!(told, Ok(Some(84)));
+        assert_eq!(order[..84], b_with(times));
+        assert_eq!(order[84..], [7; MOST_BYTES - 84]);
+        let told = least(&order[..84], &mut [KEPT; 10]);
+        assert_eq!(told.map(|told| told.lateness), Ok(number));
+        let mut order = [7; 84];
+        let told = between_order(&file, &highs, number, &mut order[..83]);
+        assert_eq!(told, Err(refused(9, 0)));
+        assert_eq!(order, [7; 84]);
+        let told = between_order(&jobs_first, &highs, number, &mut order);
+        assert_eq!(told, Ok(Some(84)));
+        assert_eq!(order[..], b_with(times));
+    }
+    for number in [-3, 3, i32::MIN, i32::MAX] {
+        let mut order = [7; MOST_BYTES];
+        let told = between_order(&file, &highs, number, &mut order);
+        assert_eq!(told, Ok(None));
+        assert_eq!(order, [7; MOST_BYTES]);
+        assert_eq!(between_order(&file, &highs, number, &mut []), Ok(None));
+    }
+    let (at_lows, at_highs) = (0, 0);
+    let known = between(&b_with([2; 4]), &[2; 4]);
+    assert_eq!(known, Ok(Between { at_lows, at_highs }));
+    between_refused();
+}
+
+// a high to each job, both ends of a time in range, no low above its high, each where all that follow hold too: the need of job 1
+// is 9, which fits no processor of B; a low of 3 * 65536 + 2 minutes is job 2's
+fn between_refused() {
+    let mut wide = b_with([2; 4]);
+    wide[8 + 8] = 9;
+    let mut long = wide.clone();
+    long[8 + 16 + 2] = 3;
+    let cases: [(&[u8], &[u32], Refused); 9] = [
+        (&wide[1..], &[0; 3], refused(12, 0)),
+        (&wide, &[0; 3], refused(253, 0)),
+        (&wide, &[0; 5], refused(253, 0)),
+        (&[0; 12], &[], refused(1, 0)),
+        (&wide, &[1, 1, 0, 100_001], refused(5, 3)),
+        (&long, &[1, 1, 0, 1], refused(5, 2)),
+        (&long, &[0, 1, 1, 1], refused(5, 1)),
+        (&wide, &[2, 1, 1, 1], refused(19, 2)),
+        (&wide, &[100_000; 4], refused(7, 1)),
+    ];
+    for (file, highs, told) in cases {
+        let mut order = [7; MOST_BYTES];
+        assert_eq!(between(file, highs), Err(told));
+        assert_eq!(between_order(file, highs, 0, &mut order), Err(told));
+        assert_eq!(order, [7; MOST_BYTES]);
+    }
+}
+
 // the line of these three numbers
 fn line([from, to, need]: [u32; 3]) -> NeedLine {
     NeedLine { from, to, need }
@@ -364,7 +454,7 @@ fn words() {
     let table = table();
     let mut numbers: Vec<u32> = table.iter().map(|row| row.0).collect();
     numbers.sort();
-    let all = (1..=18).chain([253, 254, 255]).collect::<Vec<u32>>();
+    let all = (1..=19).chain([253, 254, 255]).collect::<Vec<u32>>();
     assert_eq!(numbers, all);
     for (number, words) in table {
         let plain: Box<dyn std::error::Error> = refused(number, 0).into();
@@ -381,11 +471,11 @@ fn words() {
     let told = write(&[4], &[empty], &mut [0; MOST_BYTES]).unwrap_err();
     assert_eq!(
         told.to_string(),
-        "refusal 5 of job 1: a job's time, or a listed length, is not 1 to 100,000"
+        "refusal 5 of job 1: a job's time, low or high, or a listed length, is not 1 to 100,000"
     );
     assert_eq!(
-        refused(19, 0).to_string(),
-        "refusal 19: no refusal has this number"
+        refused(20, 0).to_string(),
+        "refusal 20: no refusal has this number"
     );
 }
 
@@ -398,6 +488,7 @@ fn main() {
     line_of_b();
     books();
     times();
+    between_lows_and_highs();
     needs_of_lengths();
     words();
     println!("wrapper: every function answers as it should");
