@@ -1,6 +1,7 @@
 //! The cases: a file of each drawn order, its least lateness, a looser bound, plans to check, a reason
-//! with its line, and a table of needs.
+//! with its line, a table of needs, and highs beside its times.
 
+use crate::estimates::{self, Estimate};
 use crate::families::{FAMILIES, ORDERS_EACH};
 use crate::orders::Order;
 use crate::plain;
@@ -22,6 +23,7 @@ pub struct Case {
     pub reason: [i32; 19],
     pub line: Vec<u8>,
     pub table: Table,
+    pub estimate: Estimate,
     /// ready minutes and windows, where the case is about these
     pub times: Option<Timed>,
 }
@@ -38,6 +40,9 @@ pub const ROWS_MOST: usize = 3024;
 
 /// The same with ready minutes and windows.
 pub const TIMED_ROWS_MOST: usize = 8064;
+
+/// The most bytes of an order file.
+pub const FILE_MOST: usize = 844;
 
 /// The numbers to lend for classes.
 pub const CLASS_NUMBERS: usize = 32;
@@ -74,6 +79,7 @@ pub fn case_of(order: &Order, family: &'static str) -> Case {
     rows.truncate(4 * count as usize);
     let (reason, line) = told(&file, least - 1);
     let table = tables::draw(&file);
+    let estimate = estimates::draw(order, &file);
     Case {
         family,
         file,
@@ -84,6 +90,7 @@ pub fn case_of(order: &Order, family: &'static str) -> Case {
         reason,
         line,
         table,
+        estimate,
         times: None,
     }
 }

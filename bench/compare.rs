@@ -3,13 +3,16 @@
 //! the same word for word.
 
 use crate::cases::{Case, LINE_MOST};
+use crate::estimates::Estimate;
 use crate::independent::{self, MAKERS, MOST_BOOKED};
 use crate::numbers::{numbers_of, reason_of};
 use crate::subjects::{run, Buffers, Task, LIBRARY, PLAIN, TASKS};
 use crate::tables::{Table, LENGTHS, LONGEST};
 
+const BUFFER_TOO_SHORT: u32 = 9;
 const BOUND_TOO_TIGHT: u32 = 10;
 const BOOK_FULL: u32 = 14;
+const WRONG_HIGHS: u32 = 253;
 
 /// Tells on which order the answers differ.
 pub struct At<'a>(pub usize, pub &'a Case);
@@ -36,9 +39,12 @@ pub fn compare(place: usize, case: &Case) {
     check_tight(case, &order);
     check_lines(case, &order);
     check_plans(case, &order);
+    check_between(case, &order);
+    check_estimates(case, &order);
 }
 
-/// The library and its plain build give the same result, classes, needs, rows, book, line and answer.
+/// The library and its plain build give the same result, classes, needs, rows, book, line, order and
+/// answer.
 pub fn same_answers(case: &Case, task: Task) {
     let mut ours = Buffers::new();
     let mut plain = Buffers::new();
@@ -55,6 +61,7 @@ pub fn same_answers(case: &Case, task: Task) {
     assert!(ours.rows == plain.rows, "rows differ");
     assert_eq!(ours.book, plain.book, "books differ");
     assert!(ours.line == plain.line, "lines differ");
+    assert!(ours.order == plain.order, "orders differ");
 }
 
 fn check_judge(case: &Case, order: &independent::Order) {
@@ -243,4 +250,85 @@ fn judged(case: &Case, order: &independent::Order, bound: i32, rows: &[u32], rig
         right,
         "checks differ"
     );
+}
+
+/// All three tell the same two numbers at the lows and at the highs, and write the same orders for both
+/// and for the number in the middle; outside the two there is none.
+fn check_between(case: &Case, order: &independent::Order) {
+    let Estimate {
+        highs,
+        at_lows,
+        at_highs,
+        number,
+    } = &case.estimate;
+    let estimate = independent::Estimate::of(order, highs).expect("a high for each job");
+    let leasts = independent::leasts(&estimate);
+    for functions in [LIBRARY, PLAIN] {
+        let mut answer = [0; 2];
+        let result = (functions.between)(&case.file, highs, &mut answer);
+        assert_eq!(result, 0, "an accepted estimate is refused");
+        assert_eq!((answer[0], answer[1]), leasts, "least lateness differs");
+    }
+    for number in [at_lows - 1, *at_lows, *number, *at_highs, at_highs + 1] {
+        let met = independent::met_by_halving(&estimate, number);
+        let file = met.map_or(Vec::new(), |met| independent::write(&met));
+        same_order(case, number, &file);
+    }
+}
+
+/// The library and its plain build write this file for a number, or none, which is empty; a byte less of
+/// room is refused.
+fn same_order(case: &Case, number: i32, file: &[u8]) {
+    for functions in [LIBRARY, PLAIN] {
+        let call = |room: &mut [u8], answer: &mut [i32]| {
+            let highs = &case.estimate.highs;
+            (functions.between_order)(&case.file, highs, number, room, answer)
+        };
+        let (mut room, mut answer) = (vec![0; file.len()], [1]);
+        let result = call(&mut room, &mut answer);
+        let told = (result, answer[0] as usize, &room[..]);
+        assert_eq!(told, (0, file.len(), file), "orders differ");
+        if !file.is_empty() {
+            let result = call(&mut room[1..], &mut answer);
+            assert_eq!(result, BUFFER_TOO_SHORT, "a short order is taken");
+        }
+    }
+}
+
+/// A high too few or too many, one out of range, one below its low: all three refuse alike.
+fn check_estimates(case: &Case, order: &independent::Order) {
+    let highs = &case.estimate.highs;
+    let last = highs.len() - 1;
+    let longer = order.jobs.iter().position(|job| 1 < job.time);
+    let place = longer.expect("a job of more than a minute");
+    same_refusal(case, order, &highs[1..]);
+    same_refusal(case, order, &[&highs[..], &[1]].concat());
+    for (place, high) in [
+        (last, 0),
+        (last, LONGEST as u32 + 1),
+        (place, order.jobs[place].time - 1),
+    ] {
+        let mut other = highs.clone();
+        other[place] = high;
+        same_refusal(case, order, &other);
+    }
+}
+
+/// All three refuse these highs alike.
+fn same_refusal(case: &Case, order: &independent::Order, highs: &[u32]) {
+    let told = match independent::Estimate::of(order, highs) {
+        None => WRONG_HIGHS,
+        Some(estimate) => {
+            let refusal = independent::judge_estimate(&estimate).expect("a refused estimate");
+            refusal.number + 256 * refusal.job
+        }
+    };
+    for functions in [LIBRARY, PLAIN] {
+        let (mut room, mut answer) = ([], [0; 2]);
+        let result = (functions.between)(&case.file, highs, &mut answer);
+        assert_eq!(result, told, "refusals of an estimate differ");
+        let number = case.estimate.number;
+        let result = (functions.between_order)(&case.file, highs, number, &mut room, &mut answer);
+        assert_eq!(result, told, "refusals of an estimate differ");
+    }
 }

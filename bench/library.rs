@@ -245,3 +245,40 @@ pub fn timed_check(
         )
     }
 }
+
+pub fn between(file: &[u8], highs: &[u32], answer: &mut [i32]) -> u32 {
+    // SAFETY: as above.
+    unsafe {
+        raw::hbr_between(
+            file.as_ptr(),
+            file.len(),
+            highs.as_ptr(),
+            highs.len(),
+            answer.as_mut_ptr(),
+            answer.len(),
+        )
+    }
+}
+
+pub fn between_order(
+    file: &[u8],
+    highs: &[u32],
+    number: i32,
+    order: &mut [u8],
+    answer: &mut [i32],
+) -> u32 {
+    // SAFETY: as above.
+    unsafe {
+        raw::hbr_between_order(
+            file.as_ptr(),
+            file.len(),
+            highs.as_ptr(),
+            highs.len(),
+            number,
+            order.as_mut_ptr(),
+            order.len(),
+            answer.as_mut_ptr(),
+            answer.len(),
+        )
+    }
+}

@@ -6,6 +6,7 @@ mod cases;
 mod clock;
 mod compare;
 mod compare_timed;
+mod estimates;
 mod families;
 #[allow(dead_code)]
 #[path = "../link/highboyrobin.rs"]

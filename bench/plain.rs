@@ -1,10 +1,11 @@
 //! The library's method in plain Rust, for the benchmark to compare with: the same algorithms,
-//! tables and passes, each value computed once and handed on by reference. Fourteen functions of the
+//! tables and passes, each value computed once and handed on by reference. Sixteen functions of the
 //! C interface, with the same results.
 
 mod amounts;
 mod book;
 mod check;
+mod estimate;
 mod line;
 mod needs;
 mod order;
@@ -17,9 +18,11 @@ mod standing;
 mod text;
 mod times;
 mod wrap;
+mod write;
 
 use amounts::Amounts;
 use book::Book;
+use estimate::Path;
 use order::{Order, Refusal};
 use setting::Setting;
 use stairs::Reason;
@@ -41,6 +44,7 @@ const SHORT_CLASSES: Refusal = Refusal::plain(253);
 const SHORT_REASON: Refusal = Refusal::plain(253);
 const LONG_LIST: Refusal = Refusal::plain(253);
 const WRONG_TIMES: Refusal = Refusal::plain(253);
+const WRONG_HIGHS: Refusal = Refusal::plain(253);
 const SHORT_ANSWER: Refusal = Refusal::plain(255);
 
 /// Judges an order file: processors, jobs, rows that a plan may have.
@@ -143,6 +147,23 @@ pub fn timed_check(
     answer: &mut [i32],
 ) -> u32 {
     code(try_timed_check(file, bound, ready, windows, rows, answer))
+}
+
+/// The least lateness at the lows, which are the file's times, and at the highs.
+pub fn between(file: &[u8], highs: &[u32], answer: &mut [i32]) -> u32 {
+    code(try_between(file, highs, answer))
+}
+
+/// The first order between lows and highs with this least lateness, its file in `order`: the length, 0
+/// where there is none.
+pub fn between_order(
+    file: &[u8],
+    highs: &[u32],
+    number: i32,
+    order: &mut [u8],
+    answer: &mut [i32],
+) -> u32 {
+    code(try_between_order(file, highs, number, order, answer))
 }
 
 /// 0, or the refusal's number and 256 times the job that it is about.
@@ -467,5 +488,44 @@ fn try_timed_check(
         return Err(TOO_MANY_ROWS);
     }
     answer[0] = check::right::<TIMED_ROWS_MOST>(order, &times, rows) as i32;
+    Ok(())
+}
+
+/// The order of a file whose times are the lows, with a high to each job.
+fn read_lows(file: &[u8], highs: &[u32]) -> Result<Order, Refusal> {
+    let (_, jobs) = read::counts(file)?;
+    if highs.len() != jobs {
+        return Err(WRONG_HIGHS);
+    }
+    read::read_by(file, |order| order::accept_estimate(order, highs))
+}
+
+fn try_between(file: &[u8], highs: &[u32], answer: &mut [i32]) -> Result<(), Refusal> {
+    ask_answer(answer, 2)?;
+    let order = read_lows(file, highs)?;
+    let mut path = Path::of(&order, highs);
+    answer[0] = path.least(0);
+    answer[1] = path.least(path.minutes());
+    Ok(())
+}
+
+fn try_between_order(
+    file: &[u8],
+    highs: &[u32],
+    number: i32,
+    order: &mut [u8],
+    answer: &mut [i32],
+) -> Result<(), Refusal> {
+    ask_answer(answer, 1)?;
+    let lows = read_lows(file, highs)?;
+    let mut path = Path::of(&lows, highs);
+    let Some(minute) = path.first_met(number) else {
+        answer[0] = 0;
+        return Ok(());
+    };
+    let length = write::length(&lows);
+    let room = order.get_mut(..length).ok_or(BUFFER_TOO_SHORT)?;
+    write::put_file(&lows, &path.times(minute), room);
+    answer[0] = length as i32;
     Ok(())
 }

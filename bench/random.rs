@@ -9,6 +9,14 @@ impl Random {
         Random { state: seed }
     }
 
+    /// Drawn from a seed that these bytes make.
+    pub fn of(bytes: &[u8]) -> Random {
+        let seed = bytes.iter().fold(0_u64, |seed, byte| {
+            seed.wrapping_mul(257).wrapping_add((*byte).into())
+        });
+        Random::new(seed)
+    }
+
     fn next(&mut self) -> u64 {
         self.state = self.state.wrapping_add(0x9E37_79B9_7F4A_7C15);
         let z = self.state;

@@ -1,9 +1,10 @@
 //! The stack that each call takes, in bytes: every call runs on a stack of its own, and the lowest byte that it changed is looked
-//! up. All drawn orders of the benchmark with their tables of needs, those with ready minutes and windows too; calls that succeed and
-//! calls that are refused, at several bounds.
+//! up. All drawn orders of the benchmark with their tables of needs and their highs, those with ready minutes and windows too; calls
+//! that succeed and calls that are refused, at several bounds.
 
 #[allow(dead_code)]
 mod cases;
+mod estimates;
 #[allow(dead_code)]
 mod families;
 #[allow(dead_code)]
@@ -19,6 +20,7 @@ mod timed;
 mod worst;
 
 use cases::{Case, CLASS_NUMBERS, LINE_MOST, ROWS_MOST, TIMED_ROWS_MOST};
+use estimates::Estimate;
 use highboyrobin::{raw, MOST_BYTES, MOST_MAKERS};
 use std::arch::asm;
 use tables::{Table, LENGTHS};
@@ -46,7 +48,9 @@ const BOOK_LEAST: Function = function("hbr_book_least", raw::hbr_book_least as *
 const TIMED_ROWS: Function = function("hbr_timed_rows", raw::hbr_timed_rows as *const ());
 const TIMED_CHECK: Function = function("hbr_timed_check", raw::hbr_timed_check as *const ());
 const TIMED_PLAN: Function = function("hbr_timed_plan", raw::hbr_timed_plan as *const ());
-const FUNCTIONS: [Function; 15] = [
+const BETWEEN: Function = function("hbr_between", raw::hbr_between as *const ());
+const BETWEEN_ORDER: Function = function("hbr_between_order", raw::hbr_between_order as *const ());
+const FUNCTIONS: [Function; 17] = [
     WRITE,
     JUDGE,
     CLASSES,
@@ -62,6 +66,8 @@ const FUNCTIONS: [Function; 15] = [
     TIMED_ROWS,
     TIMED_CHECK,
     TIMED_PLAN,
+    BETWEEN,
+    BETWEEN_ORDER,
 ];
 
 const fn function(name: &'static str, address: *const ()) -> Function {
@@ -219,6 +225,7 @@ fn calls(case: &Case, lists: &[u32], lent: &mut Lent) -> Vec<Call> {
     calls.extend(book_calls(case, lent));
     calls.extend(sentence_calls(case, lent));
     calls.extend(parse_calls(case, lent));
+    calls.extend(between_calls(case, jobs, lent));
     calls
 }
 
@@ -322,6 +329,54 @@ fn parse_calls(case: &Case, lent: &mut Lent) -> Vec<Call> {
         Call::of(PARSE, &arguments, result)
     };
     given.map(call).into()
+}
+
+/// Highs of a minute, and highs out of range.
+static ONE_MINUTE: [u32; 48] = [1; 48];
+static NO_MINUTE: [u32; 48] = [0; 48];
+
+/// The least lateness at lows and highs, and orders of several numbers, of none, too; then refusals.
+fn between_calls(case: &Case, jobs: &[u32], lent: &mut Lent) -> Vec<Call> {
+    let Estimate {
+        highs,
+        at_lows,
+        at_highs,
+        number: middle,
+    } = &case.estimate;
+    let (file, short) = (read(&case.file), read(&case.file[1..]));
+    let answer = lend(&mut lent.answer);
+    let (order, no_order) = (lend(&mut lent.file), lend(&mut lent.file[..11]));
+    let longer = jobs.chunks_exact(4).position(|job| 1 < job[0]);
+    let above = 19 + 256 * (1 + longer.expect("a job of more than a minute") as u32);
+    let refused: [(&Vec<u64>, &[u32], u32); 4] = [
+        (&file, &ONE_MINUTE, above),
+        (&file, &NO_MINUTE, 5 + 256),
+        (&file, &highs[1..], 253),
+        (&short, highs, 12),
+    ];
+    let mut calls = Vec::new();
+    let arguments = [file.clone(), read(highs), answer.clone()];
+    calls.push(Call::of(BETWEEN, &arguments, 0));
+    for (file, highs, result) in refused {
+        let arguments = [file.clone(), read(highs), answer.clone()];
+        calls.push(Call::of(BETWEEN, &arguments, result));
+        let lists = [file.clone(), read(highs), number(*middle)].concat();
+        let arguments = [lists, order.clone(), answer.clone()];
+        calls.push(Call::of(BETWEEN_ORDER, &arguments, result));
+    }
+    for (asked, room, result) in [
+        (*at_lows, &order, 0),
+        (*middle, &order, 0),
+        (*at_highs, &order, 0),
+        (at_lows - 1, &no_order, 0),
+        (at_highs + 1, &no_order, 0),
+        (*middle, &no_order, 9),
+    ] {
+        let lists = [file.clone(), read(highs), number(asked)].concat();
+        let arguments = [lists, room.clone(), answer.clone()];
+        calls.push(Call::of(BETWEEN_ORDER, &arguments, result));
+    }
+    calls
 }
 
 /// Ready minutes out of range, and windows that close as they open.

@@ -1,7 +1,8 @@
 //! The three implementations that are compared, each behind a function that does one task on one
 //! case.
 
-use crate::cases::{Case, CLASS_NUMBERS, LINE_MOST, TIMED_ROWS_MOST};
+use crate::cases::{Case, CLASS_NUMBERS, FILE_MOST, LINE_MOST, TIMED_ROWS_MOST};
+use crate::estimates::Estimate;
 use crate::independent::{Order, Times, MAKERS};
 use crate::tables::{Table, LENGTHS};
 use crate::timed::Timed;
@@ -24,6 +25,8 @@ pub struct Functions {
     pub timed_rows: fn(&[u8], i32, &[u32], &[u32], &mut [i32]) -> u32,
     pub timed_plan: fn(&[u8], i32, &[u32], &[u32], &mut [u32], &mut [i32]) -> u32,
     pub timed_check: fn(&[u8], i32, &[u32], &[u32], &[u32], &mut [i32]) -> u32,
+    pub between: fn(&[u8], &[u32], &mut [i32]) -> u32,
+    pub between_order: fn(&[u8], &[u32], i32, &mut [u8], &mut [i32]) -> u32,
 }
 
 pub const LIBRARY: Functions = Functions {
@@ -41,6 +44,8 @@ pub const LIBRARY: Functions = Functions {
     timed_rows: library::timed_rows,
     timed_plan: library::timed_plan,
     timed_check: library::timed_check,
+    between: library::between,
+    between_order: library::between_order,
 };
 
 pub const PLAIN: Functions = Functions {
@@ -58,6 +63,8 @@ pub const PLAIN: Functions = Functions {
     timed_rows: plain::timed_rows,
     timed_plan: plain::timed_plan,
     timed_check: plain::timed_check,
+    between: plain::between,
+    between_order: plain::between_order,
 };
 
 #[derive(Clone, Copy)]
@@ -70,6 +77,8 @@ pub enum Task {
     PlanLooser,
     BookLeast,
     BookPlan,
+    Between,
+    BetweenOrder,
     Reason,
     Sentence,
     Parse,
@@ -81,7 +90,7 @@ pub enum Task {
     TimedCheckLong,
 }
 
-pub const TASKS: [(Task, &str); 13] = [
+pub const TASKS: [(Task, &str); 15] = [
     (Task::Judge, "judge a file"),
     (Task::Classes, "classes of a file"),
     (Task::Needs, "needs of 48 lengths from a table of 32 lines"),
@@ -90,6 +99,8 @@ pub const TASKS: [(Task, &str); 13] = [
     (Task::PlanLooser, "plan at a looser bound"),
     (Task::BookLeast, "least lateness with a plan, booked"),
     (Task::BookPlan, "plan at the least lateness, booked"),
+    (Task::Between, "least lateness at lows and at highs"),
+    (Task::BetweenOrder, "order of the number in the middle"),
     (Task::Reason, "reason one minute below the least"),
     (Task::Sentence, "sentence of that reason"),
     (Task::Parse, "reading that sentence back"),
@@ -116,6 +127,7 @@ pub struct Buffers {
     pub rows: Vec<u32>,
     pub book: [u32; MAKERS],
     pub line: Vec<u8>,
+    pub order: [u8; FILE_MOST],
     pub answer: [i32; 19],
 }
 
@@ -127,6 +139,7 @@ impl Buffers {
             rows: vec![0; 4 * TIMED_ROWS_MOST],
             book: [0; MAKERS],
             line: vec![0; LINE_MOST],
+            order: [0; FILE_MOST],
             answer: [0; 19],
         }
     }
@@ -139,6 +152,7 @@ pub fn run(functions: &Functions, task: Task, case: &Case, buffers: &mut Buffers
         rows,
         book,
         line,
+        order,
         answer,
     } = buffers;
     book.fill(0);
@@ -161,6 +175,11 @@ pub fn run(functions: &Functions, task: Task, case: &Case, buffers: &mut Buffers
         Task::Parse => (functions.parse)(file, tight, &case.line, answer),
         Task::Check => (functions.check)(file, case.least, &case.plan, answer),
         Task::CheckLong => (functions.check)(file, case.least, &case.long_plan, answer),
+        Task::Between => (functions.between)(file, black_box(&case.estimate.highs), answer),
+        Task::BetweenOrder => {
+            let Estimate { highs, number, .. } = black_box(&case.estimate);
+            (functions.between_order)(file, highs, *number, order, answer)
+        }
         _ => run_timed(functions, task, case, rows, answer),
     }
 }
@@ -235,7 +254,21 @@ pub fn run_independent(task: Task, case: &Case) {
             let rows = &case.long_plan;
             black_box(independent::right(&order, case.least.into(), rows));
         }
+        Task::Between | Task::BetweenOrder => run_independent_between(task, case, &order),
         _ => run_independent_timed(task, case, &order),
+    }
+}
+
+fn run_independent_between(task: Task, case: &Case, order: &Order) {
+    let Estimate { highs, number, .. } = &case.estimate;
+    let Some(estimate) = independent::Estimate::of(order, highs) else {
+        return;
+    };
+    match task {
+        Task::Between => {
+            black_box(independent::leasts(&estimate));
+        }
+        _ => drop(black_box(independent::met_by_halving(&estimate, *number))),
     }
 }
 

@@ -14,10 +14,7 @@ pub struct Table {
 }
 
 pub fn draw(file: &[u8]) -> Table {
-    let seed = file.iter().fold(0_u64, |seed, byte| {
-        seed.wrapping_mul(257).wrapping_add((*byte).into())
-    });
-    let mut random = Random::new(seed);
+    let mut random = Random::of(file);
     let mut firsts = vec![1];
     while firsts.len() < TABLE_LINES {
         let first = random.between(2, LONGEST);

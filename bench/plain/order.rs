@@ -1,4 +1,5 @@
-//! An order of jobs on processors, and whether it is accepted: refusals 1 to 7, and 13 after 6.
+//! An order of jobs on processors, and whether it is accepted: refusals 1 to 7, 13 after 6 and, with a
+//! high to each job, 19 after 13.
 
 pub const MOST_PROCESSORS: usize = 16;
 pub const MOST_JOBS: usize = 48;
@@ -13,6 +14,7 @@ pub struct Job {
 }
 
 /// Counts, and as many processors and jobs; zeros beyond.
+#[derive(Clone, Copy)]
 pub struct Order {
     pub processor_count: usize,
     pub job_count: usize,
@@ -70,17 +72,45 @@ fn first(order: &Order, wrong: impl Fn(&Job) -> bool) -> Option<usize> {
     order.jobs().iter().position(wrong)
 }
 
+fn in_range(time: u32) -> bool {
+    (1..=100_000).contains(&time)
+}
+
 /// Refusals 5, 6, 13 and 7, each with the first job that it is about.
 pub fn accept_jobs(order: &Order) -> Result<(), Refusal> {
-    if let Some(place) = first(order, |job| !(1..=100_000).contains(&job.time)) {
+    if let Some(place) = first(order, |job| !in_range(job.time)) {
         return Err(Refusal::about(5, place));
     }
+    accept_dues(order)?;
+    accept_needs(order)
+}
+
+/// Refusals 5, 6, 13, 19 and 7 of an order whose times are the lows, with a high to each job.
+pub fn accept_estimate(order: &Order, highs: &[u32]) -> Result<(), Refusal> {
+    let both = || order.jobs().iter().map(|job| job.time).zip(highs);
+    if let Some(place) = both().position(|(low, high)| !in_range(low) || !in_range(*high)) {
+        return Err(Refusal::about(5, place));
+    }
+    accept_dues(order)?;
+    if let Some(place) = both().position(|(low, high)| *high < low) {
+        return Err(Refusal::about(19, place));
+    }
+    accept_needs(order)
+}
+
+/// Refusals 6 and 13.
+fn accept_dues(order: &Order) -> Result<(), Refusal> {
     if let Some(place) = first(order, |job| !(-1_000_000..=1_000_000).contains(&job.due)) {
         return Err(Refusal::about(6, place));
     }
     if let Some(place) = first(order, |job| !(1..=MAKERS as u32).contains(&job.maker)) {
         return Err(Refusal::about(13, place));
     }
+    Ok(())
+}
+
+/// Refusal 7.
+fn accept_needs(order: &Order) -> Result<(), Refusal> {
     let fits = |need: u32| order.memories().iter().any(|&memory| need <= memory);
     if let Some(place) = first(order, |job| !fits(job.need)) {
         return Err(Refusal::about(7, place));

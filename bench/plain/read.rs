@@ -53,6 +53,14 @@ pub fn counts(file: &[u8]) -> Result<(usize, usize), Refusal> {
 }
 
 pub fn read(file: &[u8]) -> Result<Order, Refusal> {
+    read_by(file, order::accept_jobs)
+}
+
+/// The same where the jobs are accepted in a way of the caller's.
+pub fn read_by(
+    file: &[u8],
+    accept: impl Fn(&Order) -> Result<(), Refusal>,
+) -> Result<Order, Refusal> {
     let trailer = trailer(file).ok_or(BAD_FILE)?;
     order::accept_counts(trailer.processors, trailer.jobs)?;
     let mut order = Order {
@@ -76,6 +84,6 @@ pub fn read(file: &[u8]) -> Result<Order, Refusal> {
         job.need = number4(&bytes[8..]);
         job.maker = number4(&bytes[12..]);
     }
-    order::accept_jobs(&order)?;
+    accept(&order)?;
     Ok(order)
 }
