@@ -21,14 +21,14 @@ ghost use Rattle.estimate.specs.Request.{leastAlong};
 ghost use Rattle.estimate.specs.Told.{estimateOf, metTold, handedOut};
 
 // After how many minutes, of this many at most, the least lateness is first at least the number.
-fn first_reached(estimate: Estimate, number: i32, length: u32) -> u32
+fn first_reached(estimate: Estimate, number: i32, last: u32) -> u32
     requires { ⌜ judge (estimateRows limits (estimateOf estimate)) ≡ accepted ⌝ }
-    requires { ⌜ (length ≤ 4799952) × (number ≤ℤ leastAlong (estimateOf estimate) length) ⌝ }
-    ensures { λ r. ⌜ (r ≤ length) × (number ≤ℤ leastAlong (estimateOf estimate) r)
+    requires { ⌜ (last ≤ 4799952) × (number ≤ℤ leastAlong (estimateOf estimate) last) ⌝ }
+    ensures { λ r. ⌜ (r ≤ last) × (number ≤ℤ leastAlong (estimateOf estimate) r)
         × ((i : ℕ) → i < r → leastAlong (estimateOf estimate) i <ℤ number) ⌝ }
 {
     let mut low: u32 = 0;
-    let mut high = length;
+    let mut high = last;
     while low < high {
         let middle = low + (high - low) / 2;
         if least_after(estimate, middle) < number {
@@ -59,11 +59,11 @@ pub fn order_between(estimate: Estimate, number: i32) -> OrderMet
     if number < least_after(estimate, 0) {
         return no_order_met(Meeting::Nowhere);
     }
-    let length = path_length(estimate);
-    if least_after(estimate, length) < number {
+    let last = path_length(estimate);
+    if least_after(estimate, last) < number {
         return no_order_met(Meeting::Nowhere);
     }
-    let order = order_after(estimate, first_reached(estimate, number, length));
+    let order = order_after(estimate, first_reached(estimate, number, last));
     OrderMet {
         meeting: Meeting::Met,
         order,

@@ -17,16 +17,16 @@ use Rattle.estimate.proofs.met.first_reached.Statement.{statement}
 use Rattle.estimate.proofs.met.first_reached.Tie as tie
 
 abbrev Inv-loop : tie.InvT-loop
-Inv-loop estimate number length low₀ high₀ low high =
+Inv-loop estimate number last low₀ high₀ low high =
     (judge (estimateRows limits (estimateOf estimate)) ≡ accepted)
     × (low ≤ high)
-    × (high ≤ length)
-    × (length ≤ 4799952)
+    × (high ≤ last)
+    × (last ≤ 4799952)
     × (toZ w32 number ≤ℤ leastAlong (estimateOf estimate) high)
     × ((i : ℕ) → i < low → leastAlong (estimateOf estimate) i <ℤ toZ w32 number)
 
 abbrev μ-loop : tie.MeasureT-loop
-μ-loop estimate number length low₀ high₀ low high = high - low
+μ-loop estimate number last low₀ high₀ low high = high - low
 
 loop-holds : tie.Need-loop-holds Inv-loop μ-loop
 loop-holds c = (
@@ -34,7 +34,7 @@ loop-holds c = (
   omega arith,
   omega arith,
   c .pre .1 .0,
-  subst (λ (z : ℤ). z ≤ℤ leastAlong (estimateOf (c .args .estimate)) (c .args .length))
+  subst (λ (z : ℤ). z ≤ℤ leastAlong (estimateOf (c .args .estimate)) (c .args .last))
       (sym (toZ-ofZ w32 (c .args .number) (c .fits .number)))
       (c .pre .1 .1),
   λ i l. absurd (omega arith),
