@@ -52,14 +52,7 @@ pub record FirstOnPath (e : Estimate) (number : ℤ) (times : List ℕ) : Type 0
   pub least-is : leastLateness (orderWith e times) ≡ number
   pub none-before : (i : ℕ) → i < minutes → ¬ (leastAlong e i ≡ number)
 
--- tests as facts
-differ : (a b : ℤ) → ¬ (a ≡ b) → sameZ a b ≡ false
-differ a b ne = go (sameZ a b) refl
-  where
-    go : (t : Bool) → sameZ a b ≡ t → sameZ a b ≡ false
-    go true e = absurd (ne (z-tells a b .0 e))
-    go false e = e
-
+-- a test as a fact
 apart : (a b : ℤ) → sameZ a b ≡ false → ¬ (a ≡ b)
 apart a b f e = let z : _≡_ {A = ℕ} 0 1 = cc (f, z-tells a b .1 e) in omega arith
 

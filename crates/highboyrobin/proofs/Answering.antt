@@ -30,6 +30,11 @@ module _ (v : Verdict) (numbers entry : List ℤ) where
   pub ended-done : (exit : List ℤ) → v ≡ accepted → exit ≡ numbers ++ drop (length numbers) entry → Ended 0 exit
   ended-done exit e x = rw e (refl, x)
 
+-- a result that was found while reading
+pub read-ended : (v : Verdict) (numbers entry : List ℤ) (number carried result : ℕ) → v ≡ refused number carried →
+    result ≡ resultOf (refused number carried) → Ended v numbers entry result entry
+read-ended v numbers entry number carried result e r = rw e (r, refl)
+
 -- the same of a call that writes a plan
 module _ (v : Verdict) (o : Order) (bound : ℤ) (first : List ℤ) (rows : List ℕ) (entry : List ℤ) where
   abbrev pub PlanEnded : ℕ → List ℕ → List ℤ → Type 0

@@ -11,12 +11,6 @@ use Rattle.order.specs.declared.Refusal.{Refusal}
 use Rattle.wrap.specs.FrameAt.{Times}
 use Rattle.highboyrobin.specs.Results.{resultOf}
 use Rattle.highboyrobin.specs.TimedCalls.{TimedAnswered, TimedPlanBy}
-use Rattle.highboyrobin.proofs.Answering.{Ended}
-
--- a result that was found while reading
-pub timed-ended : (v : Verdict) (numbers entry : List ℤ) (number carried result : ℕ) → v ≡ refused number carried →
-    result ≡ resultOf (refused number carried) → Ended v numbers entry result entry
-timed-ended v numbers entry number carried result e r = rw e (r, refl)
 
 -- a call that writes a plan
 module _ (v : Verdict) (o : Order) (bound : ℤ) (t : Times) (rows : List ℕ) (entry : List ℤ) where

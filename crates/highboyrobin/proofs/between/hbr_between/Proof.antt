@@ -1,11 +1,10 @@
 use mathlib.Core.Path.{_∙_, subst}
 use lib.ListN.{length}
 use Rattle.highboyrobin.specs.BetweenCalls.{estimateIn}
-use Rattle.highboyrobin.proofs.Answering.{ended-told, ended-done}
+use Rattle.highboyrobin.proofs.Answering.{ended-told, ended-done, read-ended}
 use Rattle.highboyrobin.proofs.BetweenCalling.{rows-begin, between-refused, between-estimate, between-read, between-room}
 use Rattle.highboyrobin.proofs.BetweenTold.{LeastsSay, leasts-refused, leasts-are, low-read, high-read, two-same}
 use Rattle.highboyrobin.proofs.Carried.{carried-few, estimate-carries}
-use Rattle.highboyrobin.proofs.TimedAnswering.{timed-ended}
 use borrow.Author.Needs.{needs}
 use Rattle.highboyrobin.proofs.between.hbr_between.Statement.{statement}
 use Rattle.highboyrobin.proofs.between.hbr_between.Tie as tie
@@ -26,7 +25,7 @@ returns c =
     let r = got .result in
     let a = c .before .status .given in
     let w = between-refused n 2 f h r (got .ensures) _ _ (rows-begin f h) (a .0 .0) (a .1) in
-    timed-ended _ _ _ (w .0) (w .1) _ (w .2) (w .3)
+    read-ended _ _ _ (w .0) (w .1) _ (w .2) (w .3)
 
 enum-told : tie.Need-enum-told
 enum-told c = search needs

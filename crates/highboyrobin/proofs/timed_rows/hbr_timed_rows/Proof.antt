@@ -9,9 +9,8 @@ use Rattle.order.specs.Table.{orderOf}
 use Rattle.order_file.specs.File.{orderIn}
 use Rattle.timed.specs.Times.{timesOf}
 use Rattle.highboyrobin.specs.TimedCalls.{timesIn}
-use Rattle.highboyrobin.proofs.Answering.{ended-told, ended-done}
+use Rattle.highboyrobin.proofs.Answering.{ended-told, ended-done, read-ended}
 use Rattle.highboyrobin.proofs.Carried.{carried-few, asked-carries}
-use Rattle.highboyrobin.proofs.TimedAnswering.{timed-ended}
 use Rattle.highboyrobin.proofs.TimedCalling.{
   timed-refused,
   timed-order,
@@ -53,7 +52,7 @@ returns c =
     let t = timesIn a w in
     let h = timed-refused n f a w r e _ _ (asked-begins o (s .bound) t) (c .before .status .given .0 .0)
     (c .before .status .given .1) in
-    timed-ended _ _ _ (h .0) (h .1) _ (h .2) (h .3)
+    read-ended _ _ _ (h .0) (h .1) _ (h .2) (h .3)
 
 enum-told : tie.Need-enum-told
 enum-told c = search needs
