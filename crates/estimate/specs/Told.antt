@@ -6,7 +6,7 @@ use lib.ListN.{getD}
 use Rattle.sums.specs.Lists.{tabulate}
 use Rattle.order.specs.Order.{Job, Order, noJob, noOrder, jobCount}
 use Rattle.order.specs.Refusals.{Verdict, accepted, refused, Answer, answer, answerBy}
-use Rattle.order.specs.Table.{orderOf, padded, tableOf, refusalTold}
+use Rattle.order.specs.Table.{jobAt, orderOf, padded, tableOf, refusalTold}
 use Rattle.order.specs.declared.Order.{Order as OrderTable}
 use Rattle.profile.specs.Search.{Found, nothing, found}
 use Rattle.estimate.specs.Estimate.{EstimatedJob, Estimate}
@@ -30,17 +30,11 @@ estimated o highs = record {
 
 -- the estimate of a struct
 abbrev pub jobBetween : EstimateTable → ℕ → EstimatedJob
-jobBetween t j = record {
-  low = getD (t .order .times) j 0;
-  high = getD (t .highs) j 0;
-  due = getD (t .order .dues) j (pos 0);
-  need = getD (t .order .needs) j 0;
-  maker = getD (t .order .makers) j 0;
-}
+jobBetween t j = estimatedJob (jobAt (t .order) j) (getD (t .highs) j 0)
 
 abbrev pub estimateOf : EstimateTable → Estimate
 estimateOf t = record {
-  memories = tabulate (t .order .processors) (λ i. getD (t .order .memories) i 0);
+  memories = orderOf (t .order) .memories;
   jobs = tabulate (t .order .jobs) (jobBetween t);
 }
 

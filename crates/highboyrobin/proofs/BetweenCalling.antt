@@ -1,14 +1,13 @@
 -- How a call with highs comes to its verdict: the answer's room, the file, the list's length and the counts, then the entry point.
-use Prim.Native.Nat.{ℕ, suc, _≤_}
-use mathlib.Core.Path.{_≡_, refl, sym, ap, _∙_}
+use Prim.Native.Nat.{ℕ, _≤_}
+use mathlib.Core.Path.{_≡_, refl, ap, _∙_}
 use mathlib.Core.List.{List, [], _∷_, _++_, append-assoc}
-use native.Mathlib.Omega.{arith}
 use borrow.Author.Tests.{ltb-false}
 use lib.ListN.{length, getD}
 use Rattle.sums.specs.Lists.{All}
 use Rattle.sums.specs.Places.{length-tabulate}
 use Rattle.order.specs.Order.{noJob, processorCount, jobCount}
-use Rattle.order.specs.Refusals.{limits, clear, TableRow, Verdict, accepted, refused, judge, fileRow, countRows}
+use Rattle.order.specs.Refusals.{limits, clear, TableRow, accepted, refused, judge, fileRow, countRows}
 use Rattle.order.specs.RefusalLaws.{judge-accepted, judge-clear, judge-refused-append, whole-clear}
 use Rattle.order_file.specs.File.{goodFile, orderIn}
 use Rattle.estimate.specs.Estimate.{estimatedRows, estimateRows}
@@ -16,13 +15,8 @@ use Rattle.estimate.specs.Told.{estimatedJob, estimateOf}
 use Rattle.highboyrobin.specs.BetweenCalls.{estimateIn, wrongHighsRow, betweenCall, EstimateBy}
 use Rattle.highboyrobin.specs.Results.{resultOf, answerRow}
 use Rattle.highboyrobin.specs.declared.EstimateRead.{EstimateRead}
-use Rattle.highboyrobin.specs.declared.ReadStatus.{ReadStatus}
 use Rattle.highboyrobin.specs.declared.ReadStatus.the-variants.{Refused, Read}
-
--- one more than the result, 0 where there is none
-abbrev resultIn : ReadStatus → ℕ
-resultIn (Refused result) = suc result
-resultIn Read = 0
+use Rattle.highboyrobin.proofs.StatusTold.{status-refused, status-read}
 
 -- the estimate's rows begin with those of the file's counts
 pub rows-begin : (f highs : List ℕ) →
@@ -58,27 +52,18 @@ module _ (lent asked : ℕ) (f highs : List ℕ) (r : EstimateRead) where
   pub between-refused : Reads → (rows later : List TableRow) →
       rows ≡ countRows limits (processorCount (orderIn f)) (jobCount (orderIn f)) ++ later → (result : ℕ) → r .status ≡ Refused result →
       (k : ℕ) × (c : ℕ) × (judge (betweenCall lent asked f highs rows) ≡ refused k c) × (result ≡ resultOf (refused k c))
-  between-refused h rows later begins result is = decided (judge (call counted)) refl h
-    where
-      decided : (v : Verdict) → judge (call counted) ≡ v → EstimateBy v f highs r →
-          (k : ℕ) × (c : ℕ) × (judge (call rows) ≡ refused k c) × (result ≡ resultOf (refused k c))
-      decided accepted e w = absurd (omega (arith, ap resultIn (sym (w .0) ∙ is)))
-      decided (refused k c) e w = (
-        k,
-        c,
+  between-refused h rows later begins result is =
+      let w = status-refused (judge (call counted)) (r .status) _ h result is in (
+        w .0,
+        w .1,
         ap (λ (xs : List TableRow). judge (call xs)) begins ∙ ap judge (call-append counted later)
-            ∙ judge-refused-append (call counted) later k c e,
-        omega (arith, ap resultIn (sym is ∙ w)),
+            ∙ judge-refused-append (call counted) later (w .0) (w .1) (w .2),
+        w .3,
       )
 
   module _ (h : Reads) (is : r .status ≡ Read) where
     accepts : (judge (call counted) ≡ accepted) × (estimateOf (r .estimate) ≡ estimateIn f highs)
-    accepts = decided (judge (call counted)) refl h
-      where
-        decided : (v : Verdict) → judge (call counted) ≡ v → EstimateBy v f highs r →
-            (judge (call counted) ≡ accepted) × (estimateOf (r .estimate) ≡ estimateIn f highs)
-        decided accepted e w = (e, w .1)
-        decided (refused k c) e w = absurd (omega (arith, ap resultIn (sym is ∙ w)))
+    accepts = status-read (judge (call counted)) (r .status) _ h is
 
     pub between-estimate : estimateOf (r .estimate) ≡ estimateIn f highs
     between-estimate = accepts .1

@@ -98,18 +98,20 @@ append-carries rows later h l = decided (judge rows) refl
     decided accepted e = rw (judge-accepted-append rows later e) l
     decided (refused n j) e = rw (judge-refused-append rows later n j e) (rw e at h)
 
-order-carries : (o : Order) → carriedBy (judge (orderRows limits o)) ≤ 48
-order-carries o = decided (judge counts) refl
+-- rows after those of the counts, where these leave at most 48 jobs
+counted-carries : (processors jobs : ℕ) (later : List TableRow) → (jobs ≤ 48 → carriedBy (judge later) ≤ 48) →
+    carriedBy (judge (countRows limits processors jobs ++ later)) ≤ 48
+counted-carries processors jobs later h = decided (judge counts) refl
   where
     counts : List TableRow
-    counts = countRows limits (processorCount o) (jobCount o)
+    counts = countRows limits processors jobs
 
-    decided : (v : Verdict) → judge counts ≡ v → carriedBy (judge (counts ++ jobRows o)) ≤ 48
-    decided accepted e =
-        rw (judge-accepted-append counts (jobRows o) e)
-        (job-carries o (counts-in-limits (processorCount o) (jobCount o) e .3))
-    decided (refused n j) e =
-        rw (judge-refused-append counts (jobRows o) n j e) (rw e at (count-carries (processorCount o) (jobCount o)))
+    decided : (v : Verdict) → judge counts ≡ v → carriedBy (judge (counts ++ later)) ≤ 48
+    decided accepted e = rw (judge-accepted-append counts later e) (h (counts-in-limits processors jobs e .3))
+    decided (refused n j) e = rw (judge-refused-append counts later n j e) (rw e at (count-carries processors jobs))
+
+order-carries : (o : Order) → carriedBy (judge (orderRows limits o)) ≤ 48
+order-carries o = counted-carries (processorCount o) (jobCount o) (jobRows o) (job-carries o)
 
 pub read-carries : (f : List ℕ) → carriedBy (judge (readRows f)) ≤ 48
 unfolding readRows
@@ -220,14 +222,4 @@ estimated-carries e h =
 -- an estimate's rows carry a job of it
 pub estimate-carries : (e : Estimate) → carriedBy (judge (estimateRows limits e)) ≤ 48
 unfolding estimateRows
-estimate-carries e = decided (judge counts) refl
-  where
-    counts : List TableRow
-    counts = countRows limits (length (e .memories)) (length (e .jobs))
-
-    decided : (v : Verdict) → judge counts ≡ v → carriedBy (judge (counts ++ estimatedRows e)) ≤ 48
-    decided accepted h =
-        rw (judge-accepted-append counts (estimatedRows e) h)
-        (estimated-carries e (counts-in-limits (length (e .memories)) (length (e .jobs)) h .3))
-    decided (refused n j) h =
-        rw (judge-refused-append counts (estimatedRows e) n j h) (rw h at (count-carries (length (e .memories)) (length (e .jobs))))
+estimate-carries e = counted-carries (length (e .memories)) (length (e .jobs)) (estimatedRows e) (estimated-carries e)

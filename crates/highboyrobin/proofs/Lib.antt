@@ -1,6 +1,7 @@
 mod Answering
 mod Carried
 mod Calling
+mod StatusTold
 mod Stored
 mod Gathered
 mod ReasonTold

@@ -1,22 +1,10 @@
 -- How a call with times comes to its verdict: the answer's room, the file, the lists' lengths and the order, then the entry point.
-use Prim.Native.Nat.{ℕ, suc, _≤_}
-use mathlib.Core.Path.{_≡_, refl, sym, ap, _∙_}
+use Prim.Native.Nat.{ℕ, _≤_}
+use mathlib.Core.Path.{_≡_, refl, ap, _∙_}
 use mathlib.Core.List.{List, [], _∷_, _++_}
-use native.Mathlib.Omega.{arith}
 use borrow.Author.Tests.{ltb-false}
 use lib.ListN.{length}
-use Rattle.order.specs.Refusals.{
-  limits,
-  clear,
-  TableRow,
-  Verdict,
-  accepted,
-  refused,
-  judge,
-  orderRows,
-  fileRow,
-  Accepted,
-}
+use Rattle.order.specs.Refusals.{limits, clear, TableRow, accepted, refused, judge, orderRows, fileRow, Accepted}
 use Rattle.order.specs.RefusalLaws.{judge-accepted, judge-clear, judge-refused-append, whole-clear}
 use Rattle.order.specs.Table.{orderOf}
 use Rattle.order_file.specs.File.{goodFile, orderIn}
@@ -25,13 +13,8 @@ use Rattle.timed.specs.Times.{timesOf}
 use Rattle.highboyrobin.specs.Results.{resultOf, answerRow}
 use Rattle.highboyrobin.specs.TimedCalls.{timesFrom, timesIn, wrongTimesRow, timedCall, ReadBy}
 use Rattle.highboyrobin.specs.declared.TimedRead.{TimedRead}
-use Rattle.highboyrobin.specs.declared.ReadStatus.{ReadStatus}
 use Rattle.highboyrobin.specs.declared.ReadStatus.the-variants.{Refused, Read}
-
--- one more than the result, 0 where there is none
-abbrev resultIn : ReadStatus → ℕ
-resultIn (Refused result) = suc result
-resultIn Read = 0
+use Rattle.highboyrobin.proofs.StatusTold.{status-refused, status-read}
 
 module _ (lent : ℕ) (f ready windows : List ℕ) (r : TimedRead) where
   abbrev call : List TableRow → List TableRow
@@ -51,33 +34,24 @@ module _ (lent : ℕ) (f ready windows : List ℕ) (r : TimedRead) where
   pub timed-refused : Reads → (rows later : List TableRow) → rows ≡ orderRows limits (orderIn f) ++ later → (result : ℕ) →
       r .status ≡ Refused result →
       (k : ℕ) × (c : ℕ) × (judge (timedCall lent f ready windows rows) ≡ refused k c) × (result ≡ resultOf (refused k c))
-  timed-refused h rows later begins result is = decided (judge (call ordered)) refl h
-    where
-      decided : (v : Verdict) → judge (call ordered) ≡ v → ReadBy v f ready windows r →
-          (k : ℕ) × (c : ℕ) × (judge (call rows) ≡ refused k c) × (result ≡ resultOf (refused k c))
-      decided accepted e w = absurd (omega (arith, ap resultIn (sym (w .0) ∙ is)))
-      decided (refused k c) e w = (
-        k,
-        c,
+  timed-refused h rows later begins result is =
+      let w = status-refused (judge (call ordered)) (r .status) _ h result is in (
+        w .0,
+        w .1,
         ap (λ (xs : List TableRow). judge (call xs)) begins ∙ ap judge (call-append ordered later)
-            ∙ judge-refused-append (call ordered) later k c e,
-        omega (arith, ap resultIn (sym is ∙ w)),
+            ∙ judge-refused-append (call ordered) later (w .0) (w .1) (w .2),
+        w .3,
       )
 
   module _ (h : Reads) (is : r .status ≡ Read) where
-    accepts : (judge (call ordered) ≡ accepted) × (orderOf (r .order) ≡ orderIn f) × (r .times ≡ timesFrom ready windows)
-    accepts = decided (judge (call ordered)) refl h
-      where
-        decided : (v : Verdict) → judge (call ordered) ≡ v → ReadBy v f ready windows r →
-            (judge (call ordered) ≡ accepted) × (orderOf (r .order) ≡ orderIn f) × (r .times ≡ timesFrom ready windows)
-        decided accepted e w = (e, w .1, w .2)
-        decided (refused k c) e w = absurd (omega (arith, ap resultIn (sym is ∙ w)))
+    accepts : (judge (call ordered) ≡ accepted) × ((orderOf (r .order) ≡ orderIn f) × (r .times ≡ timesFrom ready windows))
+    accepts = status-read (judge (call ordered)) (r .status) _ h is
 
     pub timed-order : orderOf (r .order) ≡ orderIn f
-    timed-order = accepts .1
+    timed-order = accepts .1 .0
 
     pub timed-times : timesOf (r .times) ≡ timesIn ready windows
-    timed-times = ap timesOf (accepts .2)
+    timed-times = ap timesOf (accepts .1 .1)
 
     all-clear : All (λ (x : TableRow). x .finding ≡ clear) (call ordered)
     all-clear = judge-accepted (call ordered) .0 (accepts .0)

@@ -8,26 +8,13 @@ use lib.Dec.{eqb}
 use lib.IntN.{ℤ, pos}
 use lib.ListN.{length}
 use Rattle.order.specs.Order.{Order, jobCount}
-use Rattle.order.specs.Refusals.{
-  limits,
-  TableRow,
-  Verdict,
-  accepted,
-  refused,
-  judge,
-  leftBy,
-  row,
-  whole,
-  roomRow,
-  fileRow,
-}
+use Rattle.order.specs.Refusals.{limits, TableRow, Verdict, judge, leftBy, row, whole, roomRow, fileRow}
 use Rattle.order_file.specs.File.{goodFile, orderIn, fileOf, ReadBackBy}
 use Rattle.profile.specs.Search.{Found, nothing, found}
 use Rattle.estimate.specs.Estimate.{Estimate, leastAtLows, leastAtHighs, orderMet, estimateRows}
 use Rattle.estimate.specs.Told.{estimated, estimateOf}
-use Rattle.highboyrobin.specs.Results.{resultOf, answerRow}
+use Rattle.highboyrobin.specs.Results.{resultOf, answerRow, StatusBy}
 use Rattle.highboyrobin.specs.declared.EstimateRead.{EstimateRead}
-use Rattle.highboyrobin.specs.declared.ReadStatus.the-variants.{Refused, Read}
 
 abbrev pub estimateIn : (file highs : List ℕ) → Estimate
 estimateIn file highs = estimated (orderIn file) highs
@@ -43,8 +30,7 @@ betweenCall lent asked file highs rows =
 
 -- what both read, by those of these rows that are about file, highs and counts: the estimate, or the result
 abbrev pub EstimateBy : Verdict → (file highs : List ℕ) → EstimateRead → Type 0
-EstimateBy accepted file highs r = (r .status ≡ Read) × (estimateOf (r .estimate) ≡ estimateIn file highs)
-EstimateBy (refused number carried) file highs r = r .status ≡ Refused (resultOf (refused number carried))
+EstimateBy v file highs r = StatusBy v (r .status) (estimateOf (r .estimate) ≡ estimateIn file highs)
 
 -- hbr_between: the least lateness at all lows and at all highs
 abbrev pub leastsCall : (file highs : List ℕ) → ℕ → List TableRow

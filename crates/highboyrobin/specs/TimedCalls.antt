@@ -20,9 +20,8 @@ use Rattle.timed.specs.Times.{timesOf}
 use Rattle.timed.specs.Written.{TimedWritten}
 use Rattle.timed.specs.declared.Times.{Times as TimesTable}
 use Rattle.highboyrobin.specs.Calls.{yesOrNo}
-use Rattle.highboyrobin.specs.Results.{resultOf, answerRow}
+use Rattle.highboyrobin.specs.Results.{answerRow, StatusBy}
 use Rattle.highboyrobin.specs.declared.TimedRead.{TimedRead}
-use Rattle.highboyrobin.specs.declared.ReadStatus.the-variants.{Refused, Read}
 
 -- the times of lent lists, as the struct that they are handed over in: 0 where a list has no number
 abbrev pub timesFrom : (ready windows : List ℕ) → TimesTable
@@ -49,9 +48,8 @@ timedCall lent file ready windows rows =
 
 -- what all three read, by those of these rows that are about file, lists and order: the order and the times, or the result
 abbrev pub ReadBy : Verdict → (file ready windows : List ℕ) → TimedRead → Type 0
-ReadBy accepted file ready windows r =
-    (r .status ≡ Read) × (orderOf (r .order) ≡ orderIn file) × (r .times ≡ timesFrom ready windows)
-ReadBy (refused number carried) file ready windows r = r .status ≡ Refused (resultOf (refused number carried))
+ReadBy v file ready windows r =
+    StatusBy v (r .status) ((orderOf (r .order) ≡ orderIn file) × (r .times ≡ timesFrom ready windows))
 
 -- hbr_timed_rows: the rows to be lent at a bound
 abbrev pub timedRowsCall : (file : List ℕ) → ℤ → (ready windows : List ℕ) → ℕ → List TableRow

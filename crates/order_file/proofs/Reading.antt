@@ -3,7 +3,6 @@ use Prim.Native.Nat.{ℕ, _≤_}
 use mathlib.Core.Path.{_≡_, refl, sym, ap, subst, _∙_}
 use mathlib.Core.List.{List, _++_}
 use native.Mathlib.Omega.{arith}
-use Rattle.sums.specs.Places.{length-tabulate}
 use Rattle.order.specs.Order.{Order, noOrder, processorCount, jobCount}
 use Rattle.order.specs.Refusals.{limits, TableRow, Verdict, accepted, refused, judge, answer, countRows, jobRows, orderRows}
 use Rattle.order.specs.RefusalLaws.{judge-refused-append, counts-in-limits}
@@ -15,10 +14,10 @@ use Rattle.order.specs.declared.Refusal.{Refusal}
 use Rattle.order.specs.declared.Refusal.the-variants.{BadFile}
 use Rattle.order.specs.declared.Acceptance.{Acceptance}
 use Rattle.order.specs.declared.Acceptance.the-variants.{Accepted, Refused}
-use Rattle.order_file.specs.File.{processorsOf, jobsOf, orderIn, readRows, orderBy}
+use Rattle.order_file.specs.File.{orderIn, readRows, orderBy}
 use Rattle.order_file.specs.ReaderLaws.{read-refused, read-accepted}
 use Rattle.order_file.specs.Told.{ReadBy}
-use Rattle.order_file.specs.TrailerLaws.{trailer-bad, trailer-good, processors-are, jobs-are}
+use Rattle.order_file.specs.TrailerLaws.{trailer-bad, trailer-good, lists-placed, processors-are, jobs-are}
 use Rattle.order_file.specs.Inside.{trailerOf, Within, Placed}
 use Rattle.order_file.specs.declared.Lists.{Lists}
 use Rattle.order_file.specs.declared.OrderRead.{OrderRead}
@@ -45,7 +44,7 @@ module _ (f : List ℕ) where
     order-decides = rw (trailer-good f t is l good)
 
     counts-are : countRows limits (l .processors) (l .jobs) ≡ countRows limits (processorCount (orderIn f)) (jobCount (orderIn f))
-    counts-are = rw (processors-are f t l w good, jobs-are f t l w good)
+    counts-are = let p = lists-placed f t l w good in rw (processors-are f l p, jobs-are f l p)
 
     -- what was read where the counts are judged
     module _ (c : OrderRead) (e : ReadBy (judge (countRows limits (l .processors) (l .jobs))) (orderIn f) c) where
@@ -99,11 +98,8 @@ module _ (f : List ℕ) (l : Lists) (p : Placed f (l .«processors_at») (l .«j
 
   pub counted : (order : OrderTable) → counts ≡ Accepted → order ≡ tableOf (orderIn f) →
       ReadBy (judge (countRows limits (l .processors) (l .jobs))) (orderIn f) (record { status = counts; order = order })
-  unfolding orderIn
   counted order is eo =
       let few = few-counted is in
-      let m : processorCount (orderIn f) ≡ l .processors = length-tabulate (processorsOf f) _ ∙ sym (p .processors-are) in
-      let n : jobCount (orderIn f) ≡ l .jobs = length-tabulate (jobsOf f) _ ∙ sym (p .jobs-are) in
       let stands : orderOf order ≡ orderIn f
-      = ap orderOf eo ∙ tableOf-orderOf (orderIn f) (omega (arith, few, m)) (omega (arith, few, n)) in
+      = ap orderOf eo ∙ tableOf-orderOf (orderIn f) (omega (arith, few, processors-are f l p)) (omega (arith, few, jobs-are f l p)) in
       rw (sym e ∙ ap acceptanceTold is, ap acceptanceTold is) (ap answer stands, eo)

@@ -29,14 +29,15 @@ module _ (f : List ℕ) (t : Trailer) (is : t ≡ trailerOf f) where
   trailer-good l good = good-of (goodFile f) _ l (sym is ∙ good)
 
 -- the lists that a trailer gives are the file's
-module _ (f : List ℕ) (t : Trailer) (l : Lists) (w : Within f t) (good : t ≡ Good l) where
-  pub lists-placed : Placed f (l .«processors_at») (l .«jobs_at») (l .processors) (l .jobs)
-  lists-placed = rw good at w
+pub lists-placed : (f : List ℕ) (t : Trailer) (l : Lists) → Within f t → t ≡ Good l →
+    Placed f (l .«processors_at») (l .«jobs_at») (l .processors) (l .jobs)
+lists-placed f t l w good = rw good at w
 
+module _ (f : List ℕ) (l : Lists) (p : Placed f (l .«processors_at») (l .«jobs_at») (l .processors) (l .jobs)) where
   pub processors-are : processorCount (orderIn f) ≡ l .processors
   unfolding orderIn
-  processors-are = length-tabulate (processorsOf f) _ ∙ sym (lists-placed .processors-are)
+  processors-are = length-tabulate (processorsOf f) _ ∙ sym (p .processors-are)
 
   pub jobs-are : jobCount (orderIn f) ≡ l .jobs
   unfolding orderIn
-  jobs-are = length-tabulate (jobsOf f) _ ∙ sym (lists-placed .jobs-are)
+  jobs-are = length-tabulate (jobsOf f) _ ∙ sym (p .jobs-are)

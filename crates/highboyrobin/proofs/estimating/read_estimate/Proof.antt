@@ -1,5 +1,6 @@
 -- `read_estimate`: room, file, length and counts are judged one after the other, as the call's table has them.
 use mathlib.Core.Path.{refl}
+use Rattle.highboyrobin.specs.declared.ReadStatus.the-variants.{Read}
 use Rattle.order_file.specs.TrailerLaws.{lists-placed}
 use Rattle.highboyrobin.proofs.BetweenRead.{no-room, bad-file, other-jobs, counts-carry, counts-refuse, counts-accept}
 use borrow.Author.Needs.{needs}
@@ -13,7 +14,7 @@ returns : tie.Need-returns
 returns c =
     let i = c .before in
     let s = i .before .before .before .args in
-    no-room (s .lent) (s .asked) (s .file .now) (s .highs .now) _ (i .if1 .taken) (c .refuse .ensures)
+    no-room (s .lent) (s .asked) (s .file .now) (s .highs .now) (c .refuse .result) (i .if1 .taken) (c .refuse .ensures)
 
 read-trailer-requires : tie.Need-read-trailer-requires
 read-trailer-requires c κs = search needs
@@ -32,8 +33,8 @@ returns-2 c =
     let i = c .before .before .before .before in
     let s = i .before .before .before .args in
     let t = c .before .before .before in
-    bad-file (s .lent) (s .asked) (s .file .now) (s .highs .now) (i .if1 .left) _ (t .read-trailer .ensures .0) _
-    (c .before .enum-told .given .1) (c .refuse2 .ensures)
+    bad-file (s .lent) (s .asked) (s .file .now) (s .highs .now) (i .if1 .left) _ (t .read-trailer .ensures .0)
+    (c .refuse2 .result) (c .before .enum-told .given .1) (c .refuse2 .ensures)
 
 refuse-requires-3 : tie.Need-refuse-requires-3
 refuse-requires-3 c κs = search needs
@@ -47,7 +48,7 @@ returns-3 c =
     let t = l .before .before in
     other-jobs (s .lent) (s .asked) (s .file .now) (s .highs .now) (i .if1 .left) _ (t .read-trailer .ensures .0) _
     (t .read-trailer .ensures .1)
-    (l .lists .given .1) _ (j .if2 .taken) (c .refuse3 .ensures)
+    (l .lists .given .1) (c .refuse3 .result) (j .if2 .taken) (c .refuse3 .ensures)
 
 read-counted-requires : tie.Need-read-counted-requires
 read-counted-requires c κs =
@@ -87,7 +88,7 @@ returns-4 c =
     let a = c .before .before .before .status .given in
     counts-refuse (s .lent) (s .asked) (s .file .now) (s .highs .now) (i .if1 .left) _ (t .read-trailer .ensures .0) _
     (t .read-trailer .ensures .1)
-    (l .lists .given .1) (j .if2 .left) _ (n .read-counted .ensures) _ (a .0 .0) (a .1) _ (c .before .result-of .ensures)
+    (l .lists .given .1) (j .if2 .left) _ (n .read-counted .ensures) (c .refuse4 .result) (a .0 .0) (a .1) _ (c .before .result-of .ensures)
     (c .refuse4 .ensures)
 
 enum-told-2 : tie.Need-enum-told-2
@@ -106,7 +107,9 @@ returns-5 c =
     let t = l .before .before in
     counts-accept (s .lent) (s .asked) (s .file .now) (s .highs .now) (i .if1 .left) _ (t .read-trailer .ensures .0) _
     (t .read-trailer .ensures .1)
-    (l .lists .given .1) (j .if2 .left) _ (n .read-counted .ensures) _ (c .before .before .enum-told2 .given .1) refl refl
+    (l .lists .given .1) (j .if2 .left) _ (n .read-counted .ensures)
+    (record { status = Read; estimate = record { order = n .read-counted .result .order; highs = c .by-job .result } })
+    (c .before .before .enum-told2 .given .1) refl refl
     (c .by-job .ensures)
 
 pub read-estimate-spec : {M : Type 1} → statement M

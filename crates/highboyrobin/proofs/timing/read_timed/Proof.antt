@@ -1,5 +1,6 @@
 -- `read_timed`: room, file, lengths and order are judged one after the other, as the call's table has them.
 use mathlib.Core.Path.{refl}
+use Rattle.highboyrobin.specs.declared.ReadStatus.the-variants.{Read}
 use Rattle.order_file.specs.ReaderLaws.{reader-refused}
 use Rattle.highboyrobin.proofs.Carried.{carried-few, read-carries}
 use Rattle.order_file.specs.TrailerLaws.{lists-placed}
@@ -29,7 +30,7 @@ returns : tie.Need-returns
 returns c =
     let i = c .before in
     let s = i .before .before .before .before .args in
-    no-room (s .lent) (s .file .now) (s .ready .now) (s .windows .now) _ (i .if1 .taken) (c .refuse .ensures)
+    no-room (s .lent) (s .file .now) (s .ready .now) (s .windows .now) (c .refuse .result) (i .if1 .taken) (c .refuse .ensures)
 
 read-trailer-requires : tie.Need-read-trailer-requires
 read-trailer-requires c κs = search needs
@@ -49,7 +50,7 @@ returns-2 c =
     let i = t .before in
     let s = i .before .before .before .before .args in
     bad-file (s .lent) (s .file .now) (s .ready .now) (s .windows .now) (i .if1 .left) (t .read-trailer .result)
-    (t .read-trailer .ensures .0) _ (c .before .enum-told .given .1) (c .refuse2 .ensures)
+    (t .read-trailer .ensures .0) (c .refuse2 .result) (c .before .enum-told .given .1) (c .refuse2 .ensures)
 
 refuse-requires-3 : tie.Need-refuse-requires-3
 refuse-requires-3 c κs = search needs
@@ -63,7 +64,7 @@ returns-3 c =
     let s = i .before .before .before .before .args in
     other-jobs (s .lent) (s .file .now) (s .ready .now) (s .windows .now) (i .if1 .left) (t .read-trailer .result)
     (t .read-trailer .ensures .0) _ (t .read-trailer .ensures .1) (l .lists .given .1)
-    _ (j .if2 .taken) (c .refuse3 .ensures)
+    (c .refuse3 .result) (j .if2 .taken) (c .refuse3 .ensures)
 
 mul-if3 : tie.Need-mul-if3
 mul-if3 c =
@@ -87,7 +88,7 @@ returns-4 c =
     let s = i .before .before .before .before .args in
     other-windows (s .lent) (s .file .now) (s .ready .now) (s .windows .now) (i .if1 .left) (t .read-trailer .result)
     (t .read-trailer .ensures .0) _ (t .read-trailer .ensures .1) (l .lists .given .1)
-    (j .if2 .left) _ (w .if3 .taken) (c .refuse4 .ensures)
+    (j .if2 .left) (c .refuse4 .result) (w .if3 .taken) (c .refuse4 .ensures)
 
 read-order-requires : tie.Need-read-order-requires
 read-order-requires c κs = search needs
@@ -119,7 +120,7 @@ returns-5 c =
     reader-refuses (s .lent) (s .file .now) (s .ready .now) (s .windows .now) (i .if1 .left) (t .read-trailer .result)
     (t .read-trailer .ensures .0) _ (t .read-trailer .ensures .1) (l .lists .given .1)
     (j .if2 .left) (w .if3 .left) (o .read-order .result) (o .read-order .ensures .0)
-    _ (a .0 .0) (a .1) _ (c .before .result-of .ensures) (c .refuse5 .ensures)
+    (c .refuse5 .result) (a .0 .0) (a .1) _ (c .before .result-of .ensures) (c .refuse5 .ensures)
 
 enum-told-2 : tie.Need-enum-told-2
 enum-told-2 c = search needs
@@ -139,7 +140,8 @@ returns-6 c =
     reader-accepts (s .lent) (s .file .now) (s .ready .now) (s .windows .now) (i .if1 .left) (t .read-trailer .result)
     (t .read-trailer .ensures .0) _ (t .read-trailer .ensures .1) (l .lists .given .1)
     (j .if2 .left) (w .if3 .left) (o .read-order .result) (o .read-order .ensures .0)
-    _ (c .before .before .enum-told2 .given .1) refl refl (c .times-from .ensures)
+    (record { status = Read; order = o .read-order .result .order; times = c .times-from .result })
+    (c .before .before .enum-told2 .given .1) refl refl (c .times-from .ensures)
 
 pub read-timed-spec : {M : Type 1} → statement M
 read-timed-spec =
