@@ -2,6 +2,7 @@
 //! time's range or 5 is given"; lists of highs of a wrong length; room for the order that is written; and
 //! which refusal is told before which.
 
+use super::untimed::refused_counts;
 use super::{case, made, order};
 use crate::independent::{write, Estimate};
 use crate::lent::Call;
@@ -142,14 +143,7 @@ fn lengths(trial: &mut Trial) {
 
 /// The highs belong to the file's count of jobs, also where the counts are refused.
 fn counts(trial: &mut Trial) {
-    let cases = [
-        (order(&[], &[(1, 1, 0)]), 1),
-        (order(&[4; 17], &[(1, 1, 0)]), 2),
-        (order(&[4], &[]), 3),
-        (order(&[4], &[(1, 99, 0); 49]), 4),
-        (order(&[], &[]), 1),
-    ];
-    for (order, number) in cases {
+    for (order, number) in refused_counts() {
         let (file, jobs) = (write(&order), order.jobs.len());
         for high in [0, 1, u32::MAX] {
             told(trial, &file, &vec![high; jobs], number);

@@ -4,7 +4,7 @@
 
 use super::times::{c_with, Timed, MOST};
 use super::{case, made, order};
-use crate::independent::write;
+use crate::independent::{write, Order};
 use crate::lent::Call;
 use crate::library::{Function, TIMED};
 use crate::trial::Trial;
@@ -89,16 +89,20 @@ fn lengths(trial: &mut Trial) {
     refused(trial, &far, 253);
 }
 
-/// The lists belong to the file's counts, also where these are refused.
-fn counts(trial: &mut Trial) {
-    let cases = [
+/// Orders that are refused by their counts, and the refusals.
+pub fn refused_counts() -> [(Order, u32); 5] {
+    [
         (order(&[], &[(1, 1, 0)]), 1),
         (order(&[4; 17], &[(1, 1, 0)]), 2),
         (order(&[4], &[]), 3),
         (order(&[4], &[(1, 99, 0); 49]), 4),
         (order(&[], &[]), 1),
-    ];
-    for (order, number) in cases {
+    ]
+}
+
+/// The lists belong to the file's counts, also where these are refused.
+fn counts(trial: &mut Trial) {
+    for (order, number) in refused_counts() {
         let (jobs, processors) = (order.jobs.len(), order.memories.len());
         let timed = |ready, windows| Timed {
             order: order.clone(),

@@ -1,7 +1,8 @@
 //! Wrong in how highs are lent: one to a job of the file, else 253, after 12 and before 1; nothing but order and
 //! answer is written, and where the call is refused nothing at all.
 
-use super::{answered, refused, Wrong};
+use super::untimed::{set_first, writes, writes_refused, Change};
+use super::Wrong;
 use crate::draw::Random;
 use crate::independent::{lists, Order};
 use crate::lent::{Call, Lent};
@@ -13,7 +14,6 @@ pub const PARTS: &[&[Wrong]] = &[LENGTHS, ORDER, WRITES, REFUSES];
 /// Whether so many highs are enough for so many jobs.
 type Enough = fn(usize, usize) -> bool;
 type Told = fn(&Call, u32, u32) -> u32;
-type Change = fn(&mut Call);
 
 const LENGTHS: &[Wrong] = of_estimated!(asks, Enough:
     "takes any list of highs" => |_, _| true,
@@ -66,22 +66,6 @@ const REFUSES: &[Wrong] = of_estimated!(writes_refused, Change:
         highs.for_each(|high| *high = (*high).clamp(1, 100_000));
     },
 );
-
-fn set_first<T: Copy + PartialEq>(lent: &mut Lent<T>, value: T) {
-    if let Some(first) = lent.content_mut().first_mut() {
-        *first = value;
-    }
-}
-
-/// A change where the call succeeds.
-fn writes(function: Function, call: &mut Call, change: Change) -> u32 {
-    answered(MODEL.entry(function), call, change)
-}
-
-/// A change where the call is refused.
-fn writes_refused(function: Function, call: &mut Call, change: Change) -> u32 {
-    refused(MODEL.entry(function), call, change)
-}
 
 /// 253 by another rule for lengths; a high that then lacks is the low.
 fn asks(function: Function, call: &mut Call, enough: Enough) -> u32 {

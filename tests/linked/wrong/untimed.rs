@@ -20,7 +20,7 @@ struct Lengths {
 
 type Enough = fn(&Lengths) -> bool;
 type Told = fn(&Call, u32, u32) -> u32;
-type Change = fn(&mut Call);
+pub type Change = fn(&mut Call);
 
 const LENGTHS: &[Wrong] = of_timed!(asks, Enough:
     "takes any lists" => |_| true,
@@ -94,19 +94,20 @@ const REFUSES: &[Wrong] = of_timed!(writes_refused, Change:
     },
 );
 
-fn set_first<T: Copy + PartialEq>(lent: &mut Lent<T>, value: T) {
+/// The first number of a buffer, where it has one, is this one.
+pub fn set_first<T: Copy + PartialEq>(lent: &mut Lent<T>, value: T) {
     if let Some(first) = lent.content_mut().first_mut() {
         *first = value;
     }
 }
 
 /// A change where the call succeeds.
-fn writes(function: Function, call: &mut Call, change: Change) -> u32 {
+pub fn writes(function: Function, call: &mut Call, change: Change) -> u32 {
     answered(MODEL.entry(function), call, change)
 }
 
 /// A change where the call is refused.
-fn writes_refused(function: Function, call: &mut Call, change: Change) -> u32 {
+pub fn writes_refused(function: Function, call: &mut Call, change: Change) -> u32 {
     refused(MODEL.entry(function), call, change)
 }
 
