@@ -100,7 +100,7 @@ module _ (lent asked : ℕ) (f highs : List ℕ) where
 
         -- what is carried has room in a result
         pub counts-carry : (why : Refusal) → o .status ≡ Refuses why → carriedBy (refusalTold why) ≤ 16777215
-        counts-carry why st = carried-few _ _ (counts-told why st) (count-carries (l .processors) (l .jobs))
+        counts-carry why st = carried-few _ _ (counts-told why st) (count-carries limits (l .processors) (l .jobs))
 
         pub counts-refuse : (r : EstimateRead) (why : Refusal) → o .status ≡ Refuses why → (result : ℕ) →
             result ≡ resultOf (refusalTold why) → r .status ≡ Refused result → EstimateBy verdict f highs r

@@ -10,6 +10,7 @@ use lib.IntN.{ℤ}
 use lib.ListN.{length}
 use Rattle.order.specs.Order.{Order, processorCount, jobCount}
 use Rattle.order.specs.Refusals.{
+  Limits,
   limits,
   TableRow,
   Verdict,
@@ -84,10 +85,10 @@ none-carries : carriedBy (judge []) ≤ 48
 unfolding judge
 none-carries = omega arith
 
-pub count-carries : (processors jobs : ℕ) → carriedBy (judge (countRows limits processors jobs)) ≤ 48
-count-carries processors jobs =
-    whole-carries 1 48 (eqb processors 0) _ (whole-carries 2 48 (ltb 16 processors) _
-    (whole-carries 3 48 (eqb jobs 0) _ (whole-carries 4 48 (ltb 48 jobs) [] none-carries)))
+pub count-carries : (most : Limits) (processors jobs : ℕ) → carriedBy (judge (countRows most processors jobs)) ≤ 48
+count-carries most processors jobs =
+    whole-carries 1 48 (eqb processors 0) _ (whole-carries (most .overProcessors) 48 (ltb (most .processors) processors) _
+    (whole-carries 3 48 (eqb jobs 0) _ (whole-carries (most .overJobs) 48 (ltb (most .jobs) jobs) [] none-carries)))
 
 -- one table after another
 append-carries : (rows later : List TableRow) → carriedBy (judge rows) ≤ 48 → carriedBy (judge later) ≤ 48 →
@@ -108,7 +109,7 @@ counted-carries processors jobs later h = decided (judge counts) refl
 
     decided : (v : Verdict) → judge counts ≡ v → carriedBy (judge (counts ++ later)) ≤ 48
     decided accepted e = rw (judge-accepted-append counts later e) (h (counts-in-limits processors jobs e .3))
-    decided (refused n j) e = rw (judge-refused-append counts later n j e) (rw e at (count-carries processors jobs))
+    decided (refused n j) e = rw (judge-refused-append counts later n j e) (rw e at (count-carries limits processors jobs))
 
 order-carries : (o : Order) → carriedBy (judge (orderRows limits o)) ≤ 48
 order-carries o = counted-carries (processorCount o) (jobCount o) (jobRows o) (job-carries o)

@@ -4,6 +4,7 @@ use super::gathering::order_from;
 use super::results::PART_JOB;
 use super::results::SHORT_ANSWER;
 use super::results::result_of;
+use order::Caller;
 use order::Refusal;
 use order_file::OrderWritten;
 use order_file::write::write_order;
@@ -41,13 +42,13 @@ pub extern "C" fn hbr_write(
         return PART_JOB;
     }
     if 16 < memories.len() {
-        return result_of(Refusal::TooManyProcessors);
+        return result_of(Refusal::TooManyProcessors(Caller::Dock));
     }
     if 192 < jobs.len() {
         if memories.len() == 0 {
             return result_of(Refusal::NoProcessor);
         }
-        return result_of(Refusal::TooManyJobs);
+        return result_of(Refusal::TooManyJobs(Caller::Dock));
     }
     let written = write_order(order_from(memories, jobs), file);
     match written {

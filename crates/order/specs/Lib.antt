@@ -6,6 +6,7 @@ pub mod Deadline
 pub mod Ends
 pub mod Lead
 pub mod Refusals
+pub mod Callers
 pub mod Table
 pub mod Machine
 pub mod RefusalLaws
@@ -19,3 +20,4 @@ pub mod SortedLaws
 pub mod ClassLaws
 pub mod OrderingLaws
 pub mod Rank
+pub mod CallerLaws

@@ -1,5 +1,5 @@
 -- Document 01's refusal table, with document 02's rows. Each entry point judges by the rows that it uses, in the table's order, 12
--- before all, 13 right after 6, 19 right after 13, 14 last of all:
+-- before all, 13 right after 6, 19 right after 13, 14 last of all; a screen's has 21 in place of 2 and 20 in place of 4:
 -- "Each is returned if its condition holds and that of no earlier one does, otherwise never."
 use Prim.Native.Nat.{ℕ, suc, _+_, _/_}
 use mathlib.Core.Path.{_≡_}
@@ -11,13 +11,20 @@ use lib.ListN.{length, drop}
 use lib.Signed.{leZ}
 use Rattle.order.specs.Order.{Job, Order, processorCount, jobCount}
 
--- the most processors and jobs that an order may have
+-- the most processors and jobs that an order may have, and the refusal's number for more processors, for more jobs
 pub record Limits : Type 0 where
   pub processors : ℕ
   pub jobs : ℕ
+  pub overProcessors : ℕ
+  pub overJobs : ℕ
 
+-- document 01's, by which a dock is judged
 abbrev pub limits : Limits
-limits = record { processors = 16; jobs = 48 }
+limits = record { processors = 16; jobs = 48; overProcessors = 2; overJobs = 4 }
+
+-- document 02, §10: a screen "holds 12 jobs and 4 processors", "over 12 jobs is 20 and over 4 processors is 21"
+abbrev pub screen : Limits
+screen = record { processors = 4; jobs = 12; overProcessors = 21; overJobs = 20 }
 
 -- the most rows that the plan check takes, and the shortest and longest order file
 abbrev pub mostRows : ℕ
@@ -106,13 +113,20 @@ boundInRange b = leZ (negsuc 9999999) b && leZ b (pos 10000000)
 abbrev pub row : ℕ → Finding → TableRow
 row number finding = record { number = number; finding = finding }
 
+-- the two rows of the limits: 2 and 4, of a screen 21 and 20
+abbrev pub processorsRow : Limits → ℕ → TableRow
+processorsRow most processors = row (most .overProcessors) (whole (ltb (most .processors) processors))
+
+abbrev pub jobsRow : Limits → ℕ → TableRow
+jobsRow most jobs = row (most .overJobs) (whole (ltb (most .jobs) jobs))
+
 -- rows 1 to 4, on the number of processors and of jobs
 abbrev pub countRows : Limits → ℕ → ℕ → List TableRow
 countRows most processors jobs =
     row 1 (whole (eqb processors 0))
-    ∷ row 2 (whole (ltb (most .processors) processors))
+    ∷ processorsRow most processors
     ∷ row 3 (whole (eqb jobs 0))
-    ∷ row 4 (whole (ltb (most .jobs) jobs))
+    ∷ jobsRow most jobs
     ∷ []
 
 -- rows 5, 6, 13 and 7: each carries the first job for which its condition holds

@@ -6,6 +6,7 @@ use lib.ListN.{getD}
 use Rattle.sums.specs.Lists.{tabulate}
 use Rattle.order.specs.Order.{Job, Order, noJob, processorCount, jobCount}
 use Rattle.order.specs.Refusals.{limits, Finding, clear, holds, Verdict, accepted, refused}
+use Rattle.order.specs.Callers.{limitsOf}
 use Rattle.order.specs.declared.Order.{Order as OrderTable}
 use Rattle.order.specs.declared.Refusal.{Refusal}
 use Rattle.order.specs.declared.Refusal.the-variants.{
@@ -64,9 +65,9 @@ tableOf o = record {
 -- the number of a refusal, and what it carries
 abbrev pub refusalTold : Refusal → Verdict
 refusalTold NoProcessor = refused 1 0
-refusalTold TooManyProcessors = refused 2 0
+refusalTold (TooManyProcessors caller) = refused (limitsOf caller .overProcessors) 0
 refusalTold NoJob = refused 3 0
-refusalTold TooManyJobs = refused 4 0
+refusalTold (TooManyJobs caller) = refused (limitsOf caller .overJobs) 0
 refusalTold (TimeOutOfRange job) = refused 5 job
 refusalTold (DueOutOfRange job) = refused 6 job
 refusalTold (MakerOutOfRange job) = refused 13 job

@@ -7,7 +7,9 @@ use native.Mathlib.Omega.{arith}
 use lib.Dec.{eqb}
 use Rattle.order.specs.Refusals.{TableRow, Verdict, accepted, refused, judge, answer, refusal, answerBy}
 use Rattle.order.specs.RefusalLaws.{judge-refused-append}
+use Rattle.order.specs.Callers.{limitsOf}
 use Rattle.order.specs.Table.{refusalTold, numberBy}
+use Rattle.order.specs.declared.Caller.the-variants.{Dock, Screen}
 use Rattle.order.specs.declared.Refusal.{Refusal}
 use Rattle.order.specs.declared.Refusal.the-variants.{
   NoProcessor,
@@ -31,9 +33,9 @@ use Rattle.order.specs.declared.Refusal.the-variants.{
 -- the number of a refusal, and what it carries
 pub refused-told : (r : Refusal) → (k : ℕ) × (c : ℕ) × (refusalTold r ≡ refused k c)
 refused-told NoProcessor = (1, 0, refl)
-refused-told TooManyProcessors = (2, 0, refl)
+refused-told (TooManyProcessors caller) = (limitsOf caller .overProcessors, 0, refl)
 refused-told NoJob = (3, 0, refl)
-refused-told TooManyJobs = (4, 0, refl)
+refused-told (TooManyJobs caller) = (limitsOf caller .overJobs, 0, refl)
 refused-told (TimeOutOfRange j) = (5, j, refl)
 refused-told (DueOutOfRange j) = (6, j, refl)
 refused-told (MakerOutOfRange j) = (13, j, refl)
@@ -50,9 +52,11 @@ refused-told (LowAboveHigh j) = (19, j, refl)
 -- none of them is 10, which comes with its reason
 pub not-ten : (r : Refusal) → eqb (numberBy (refusalTold r)) 10 ≡ false
 not-ten NoProcessor = refl
-not-ten TooManyProcessors = refl
+not-ten (TooManyProcessors Dock) = refl
+not-ten (TooManyProcessors Screen) = refl
 not-ten NoJob = refl
-not-ten TooManyJobs = refl
+not-ten (TooManyJobs Dock) = refl
+not-ten (TooManyJobs Screen) = refl
 not-ten (TimeOutOfRange j) = refl
 not-ten (DueOutOfRange j) = refl
 not-ten (MakerOutOfRange j) = refl

@@ -1,11 +1,13 @@
-// Acceptance of an order: refusals 1 to 7 and 13, for every entry point. `first_bad_time`, `first_bad_due`, `first_bad_maker` and
-// `first_unfit` serve `accept`, the last three the acceptance of an estimate too; all four have a `requires`.
+// Acceptance of an order: refusals 1 to 7 and 13, for every entry point; of the counts by a screen's limits too. `first_bad_time`,
+// `first_bad_due`, `first_bad_maker` and `first_unfit` serve `accept`, the last three the acceptance of an estimate too; all four have a
+// `requires`.
 use super::Acceptance;
-use super::MOST_JOBS;
+use super::Caller;
 use super::MOST_MAKERS;
-use super::MOST_PROCESSORS;
 use super::Order;
 use super::Refusal;
+use super::callers::most_jobs;
+use super::callers::most_processors;
 ghost use mathlib.Core.Path.{_≡_};
 ghost use Prim.Native.Nat.{ℕ, _≤_};
 ghost use mathlib.Core.Bool.{not};
@@ -14,24 +16,34 @@ ghost use Rattle.sums.specs.Lists.{tabulate};
 ghost use Rattle.order.specs.Order.{Job};
 ghost use Rattle.order.specs.Refusals.{judge, countRows, orderRows, limits, first, timeInRange, dueInRange, makerInRange, fitsSome};
 ghost use Rattle.order.specs.Table.{orderOf, acceptanceTold, findingOf};
+ghost use Rattle.order.specs.Callers.{limitsOf};
 
-// Rows 1 to 4 of the table, on the counts alone.
-pub fn accept_counts(processors: u32, jobs: u32) -> Acceptance
-    ensures { λ r. ⌜ acceptanceTold r ≡ judge (countRows limits processors jobs) ⌝ }
+// Rows 1 to 4 of the table by the caller's limits, on the counts alone.
+pub fn accept_counts_for(caller: Caller, processors: u32, jobs: u32) -> Acceptance
+    ensures { λ r. ⌜ acceptanceTold r ≡ judge (countRows (limitsOf caller) processors jobs) ⌝ }
 {
+    let processor_limit = most_processors(caller);
+    let job_limit = most_jobs(caller);
     if processors == 0 {
         return Acceptance::Refused(Refusal::NoProcessor);
     }
-    if MOST_PROCESSORS < processors {
-        return Acceptance::Refused(Refusal::TooManyProcessors);
+    if processor_limit < processors {
+        return Acceptance::Refused(Refusal::TooManyProcessors(caller));
     }
     if jobs == 0 {
         return Acceptance::Refused(Refusal::NoJob);
     }
-    if MOST_JOBS < jobs {
-        return Acceptance::Refused(Refusal::TooManyJobs);
+    if job_limit < jobs {
+        return Acceptance::Refused(Refusal::TooManyJobs(caller));
     }
     Acceptance::Accepted
+}
+
+// The same for a dock.
+pub fn accept_counts(processors: u32, jobs: u32) -> Acceptance
+    ensures { λ r. ⌜ acceptanceTold r ≡ judge (countRows limits processors jobs) ⌝ }
+{
+    accept_counts_for(Caller::Dock, processors, jobs)
 }
 
 // The first job whose time is not in range, or 0.

@@ -1,11 +1,12 @@
 // What an order is (document 01, "Order and file"; the maker: document 02, §4), whether it is accepted, and its orderings.
 pub mod accept; // refusals 1 to 7 and 13
+pub mod callers; // the limits of a dock and of a screen
 pub mod deadline; // a job's end, and the end cut off at minute 0
 pub mod none; // the order of no processor and no job
 pub mod orderings; // processors by falling memory, jobs by falling need
 pub mod told; // refusals as numbers
 
-// The limits on processors and jobs; the arrays below are as long.
+// A dock's limits on processors and jobs; the arrays below are as long.
 pub const MOST_PROCESSORS: u32 = 16;
 
 pub const MOST_JOBS: u32 = 48;
@@ -25,12 +26,18 @@ pub struct Order {
     pub makers: [u32; 48],
 }
 
-// The refusals but 10; where one carries a job or a processor, its number.
+// Who calls the planner: the limits belong to the call (document 02, §10).
+pub enum Caller {
+    Dock,
+    Screen,
+}
+
+// The refusals but 10; where one carries a job or a processor, its number. Two have the caller, by whose limits they are numbered.
 pub enum Refusal {
     NoProcessor,
-    TooManyProcessors,
+    TooManyProcessors(Caller),
     NoJob,
-    TooManyJobs,
+    TooManyJobs(Caller),
     TimeOutOfRange(u32),
     DueOutOfRange(u32),
     MakerOutOfRange(u32),

@@ -1,5 +1,7 @@
 // Refusals as numbers: what is printed and what is returned have them from here.
 use super::Refusal;
+use super::callers::over_jobs;
+use super::callers::over_processors;
 ghost use mathlib.Core.Path.{_≡_};
 ghost use Prim.Native.Nat.{_≤_};
 ghost use Rattle.order.specs.Table.{refusalTold, numberBy, carriedBy};
@@ -10,9 +12,9 @@ pub fn number_of(refusal: Refusal) -> u32
 {
     match refusal {
         Refusal::NoProcessor => 1,
-        Refusal::TooManyProcessors => 2,
+        Refusal::TooManyProcessors(caller) => over_processors(caller),
         Refusal::NoJob => 3,
-        Refusal::TooManyJobs => 4,
+        Refusal::TooManyJobs(caller) => over_jobs(caller),
         Refusal::TimeOutOfRange(_) => 5,
         Refusal::DueOutOfRange(_) => 6,
         Refusal::MakerOutOfRange(_) => 13,
@@ -34,9 +36,9 @@ pub fn carried_of(refusal: Refusal) -> u32
 {
     match refusal {
         Refusal::NoProcessor => 0,
-        Refusal::TooManyProcessors => 0,
+        Refusal::TooManyProcessors(_) => 0,
         Refusal::NoJob => 0,
-        Refusal::TooManyJobs => 0,
+        Refusal::TooManyJobs(_) => 0,
         Refusal::TimeOutOfRange(job) => job,
         Refusal::DueOutOfRange(job) => job,
         Refusal::MakerOutOfRange(job) => job,

@@ -1,6 +1,6 @@
 -- Document 01's cases with a ●, the lines of document 02, §1, joined rows of §2, ends of §3, makers and books of §4, ready minutes and
--- windows of §5, classes passed of §6, needs of §7, jobs as they lie of §8, times between of §9, and more: one table, and one theorem
--- that every case holds of the definitions.
+-- windows of §5, classes passed of §6, needs of §7, jobs as they lie of §8, times between of §9, a screen's orders of §10, and more: one
+-- table, and one theorem that every case holds of the definitions.
 use Prim.Native.Nat.{ℕ, zero, suc, _+_, _*_, _-_, _≤_}
 use Prim.Native.String.{String}
 use mathlib.Core.Path.{_≡_, refl, sym, ap, _∙_, subst}
@@ -19,7 +19,9 @@ use Rattle.sums.specs.Same.{sameList}
 use Rattle.order.specs.Order.{Order, processorCount, jobCount, noJob, endAt, endOf}
 use Rattle.order.specs.Sorted.{insert, distinct, dueTimes, placeByKey, byFalling, processorOrder, jobOrder}
 use Rattle.order.specs.Class.{classes, lastThatSuffices, classFor, classOf, processorsIn, processorsTo}
-use Rattle.order.specs.Refusals.{limits, Verdict, accepted, refused, judge, leftBy, firstAfter, fitsSome, orderRows, Accepted}
+use Rattle.order.specs.Refusals.{limits, screen, Verdict, accepted, refused, judge, leftBy, firstAfter, fitsSome, orderRows, Accepted}
+use Rattle.order.specs.Callers.{rowsBy, rowsFor}
+use Rattle.order.specs.declared.Caller.the-variants.{Screen}
 use Rattle.order.specs.Table.{padded}
 use Rattle.order_file.specs.File.{orderIn, processorBytes, jobBytes, fileOf}
 use Rattle.book.specs.Book.{minutesBy, added, someOver}
@@ -115,7 +117,8 @@ sevens lent = tabulate lent (λ _. 7)
 -- amounts with their joined rows, and that there is no plan, by what each stretch's classes have at most; the classes and the processors
 -- of each after each processor passed; a table of needs with a list and room for so many needs, what it is judged as, and what the room
 -- holds then; the numbers of the jobs as they lie; of an estimate the least lateness at all lows and at all highs with those along the
--- path, the times first met with a number or that none are, and what it is judged as
+-- path, the times first met with a number or that none are, and what it is judged as; what a dock and what a screen is told of an order;
+-- what a screen is told that asks for a plan at a bound with a buffer of so many numbers
 pub data Case : Type 0 where
   leastIs : Order → ℤ → Case
   reasonIs : Order → ℤ → Reason → ℕ → ℤ → Case
@@ -142,6 +145,8 @@ pub data Case : Type 0 where
   betweenIs : Estimate → ℤ → ℤ → List ℤ → Case
   metIs : Estimate → ℤ → Found (List ℕ) → Case
   estimateIs : Estimate → Verdict → Case
+  callersGet : Order → (dock screen : Verdict) → Case
+  screenGets : Order → ℤ → (numbers : ℕ) → Verdict → Case
 
 -- what a case says, in the words of the definitions
 abbrev pub Holds : Case → Type 0
@@ -180,6 +185,8 @@ Holds (betweenIs e low high along) =
     × (tabulate (suc (pathLength e)) (leastAlong e) ≡ along)
 Holds (metIs e number times) = (judge (estimateRows limits e) ≡ accepted) × (firstMet e number ≡ times)
 Holds (estimateIs e verdict) = judge (estimateRows limits e) ≡ verdict
+Holds (callersGet o dock boathouse) = (judge (orderRows limits o) ≡ dock) × (judge (orderRows screen o) ≡ boathouse)
+Holds (screenGets o bound numbers verdict) = judge (rowsFor Screen o (planRows o bound numbers)) ≡ verdict
 
 -- a row: job, processor, from, to; and a row of job 1 on processor 1
 abbrev row : ℕ → ℕ → ℕ → ℕ → Row
@@ -225,6 +232,14 @@ between o lows highs =
         need = getD (o .jobs) j noJob .need;
         maker = getD (o .jobs) j noJob .maker;
       });
+    }
+
+-- an order of so many processors and jobs, all alike
+abbrev alike : (processors jobs time : ℕ) → Order
+alike processors jobs time =
+    record {
+      memories = tabulate processors (λ i. 4);
+      jobs = tabulate jobs (λ j. record { time = time; due = pos 9; need = 4; maker = 1 });
     }
 
 -- minus 8 is -8
@@ -402,6 +417,32 @@ cases =
     ∷ estimateIs (between A (1 ∷ 1 ∷ 0 ∷ []) (100001 ∷ 1 ∷ 1 ∷ [])) (refused 5 1)
     ∷ estimateIs (between A (1 ∷ 4 ∷ 1 ∷ []) (1 ∷ 3 ∷ 0 ∷ [])) (refused 5 3)
     ∷ estimateIs (between A (1 ∷ 4 ∷ 5 ∷ []) (1 ∷ 3 ∷ 4 ∷ [])) (refused 19 2)
+    -- document 02, §10: 12 jobs and 4 processors are good; over them 21 and 20 stand where 2 and 4 stand, before any job is looked at
+    ∷ callersGet (alike 4 12 3) accepted accepted
+    ∷ callersGet (alike 5 0 3) (refused 3 0) (refused 21 0)
+    ∷ callersGet (alike 5 13 3) accepted (refused 21 0)
+    ∷ callersGet (alike 4 13 3) accepted (refused 20 0)
+    ∷ callersGet (alike 1 13 3) accepted (refused 20 0)
+    ∷ callersGet (alike 17 1 3) (refused 2 0) (refused 21 0)
+    ∷ callersGet (alike 16 49 3) (refused 4 0) (refused 21 0)
+    ∷ callersGet (alike 4 49 3) (refused 4 0) (refused 20 0)
+    ∷ callersGet (alike 0 13 3) (refused 1 0) (refused 1 0)
+    ∷ callersGet (alike 4 0 3) (refused 3 0) (refused 3 0)
+    ∷ callersGet (alike 0 0 3) (refused 1 0) (refused 1 0)
+    ∷ callersGet (alike 4 12 0) (refused 5 1) (refused 5 1)
+    ∷ callersGet (alike 4 13 0) (refused 5 1) (refused 20 0)
+    ∷ callersGet (alike 5 12 0) (refused 5 1) (refused 21 0)
+    ∷ callersGet A accepted accepted
+    ∷ callersGet B accepted accepted
+    ∷ callersGet C accepted accepted
+    ∷ callersGet D accepted accepted
+    -- and a screen that asks for a plan: 8, 9 and 10 as a dock gets them, 21 and 20 before them
+    ∷ screenGets C (pos 10000001) 0 (refused 8 0)
+    ∷ screenGets C (minus 8) 0 (refused 9 0)
+    ∷ screenGets C (minus 9) 4 (refused 10 0)
+    ∷ screenGets C (minus 8) 4 accepted
+    ∷ screenGets (alike 5 1 3) (pos 10000001) 0 (refused 21 0)
+    ∷ screenGets (alike 1 13 3) (pos 10000001) 0 (refused 20 0)
     -- beyond document 01's: of two overfull staircases, the one that ranks first
     ∷ reasonIs twoOverfull (minus 1) (stairs (pos 4 ∷ pos 2 ∷ [])) 8 (pos 6)
     -- an empty row, and one that goes backwards, beside a right plan
@@ -443,6 +484,7 @@ data Value : Type 0 where
   lying : List ℕ → Value
   spread : Verdict → ℤ → ℤ → List ℤ → Value
   meeting : Verdict → Found (List ℕ) → Value
+  toBoth : (dock screen : Verdict) → Value
 
 -- whether the jobs must have more inside a cut of classes, one for each stretch, than there is room: each its time less what it can have
 -- outside, in the stretches whose class is below its own
@@ -489,6 +531,8 @@ computed (betweenIs e low high along) =
     spread (judge (estimateRows limits e)) (leastAtLows e) (leastAtHighs e) (tabulate (suc (pathLength e)) (leastAlong e))
 computed (metIs e number times) = meeting (judge (estimateRows limits e)) (firstMet e number)
 computed (estimateIs e verdict) = judged (judge (estimateRows limits e))
+computed (callersGet o dock boathouse) = toBoth (judge (orderRows limits o)) (judge (orderRows screen o))
+computed (screenGets o bound numbers verdict) = judged (judge (rowsFor Screen o (planRows o bound numbers)))
 
 abbrev stated : Case → Value
 stated (leastIs o least) = leastOf accepted least
@@ -516,6 +560,8 @@ stated (lieAs o numbers) = lying numbers
 stated (betweenIs e low high along) = spread accepted low high along
 stated (metIs e number times) = meeting accepted times
 stated (estimateIs e verdict) = judged verdict
+stated (callersGet o dock boathouse) = toBoth dock boathouse
+stated (screenGets o bound numbers verdict) = judged verdict
 
 right-rows : (o : Order) (bound : ℤ) (rows : List Row) → isRight o bound (numbersOf rows) ≡ true → Right o bound rows
 right-rows o bound rows e =
@@ -603,6 +649,8 @@ case-holds (lieAs o numbers) e = cc
 case-holds (betweenIs e low high along) q = (cc, cc, cc, cc)
 case-holds (metIs e number times) q = (cc, cc)
 case-holds (estimateIs e verdict) q = cc
+case-holds (callersGet o dock boathouse) e = (cc, cc)
+case-holds (screenGets o bound numbers verdict) e = cc
 
 all-hold : (cs : List Case) → map computed cs ≡ map stated cs → All Holds cs
 all-hold [] e = tt
@@ -619,7 +667,7 @@ unfolding sum endAt endOf insert distinct dueTimes classes lastThatSuffices clas
     fill sharesOf stretchRows rowsUpTo layout jobWhere joinRow joinRows processorBytes jobBytes fileOf orderIn minutesBy added someOver
     bookAfter leastRows earlierRows planRows changes changeTimes markAt askedRows earlierTimed isRightTimed lies openOrder openTo
     stretchRowsIn inTurn layoutIn deadlineOf right meets linesIn counted metBy needFor behind climbed firstTwice
-    estimateRows nextTimes pathAt firstMet
+    estimateRows nextTimes pathAt firstMet rowsBy
 all-computed = refl
 
 -- every case holds

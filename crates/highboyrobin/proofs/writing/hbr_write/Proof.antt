@@ -4,6 +4,7 @@ use mathlib.Core.List.{_∷_}
 use lib.IntN.{pos}
 use lib.ListN.{length, drop}
 use Rattle.order.specs.Table.{orderOf}
+use Rattle.order.specs.declared.Caller.the-variants.{Dock}
 use Rattle.order.specs.declared.Refusal.the-variants.{NoProcessor, TooManyProcessors, TooManyJobs}
 use Rattle.highboyrobin.specs.Calls.{orderFrom}
 use Rattle.highboyrobin.proofs.Carried.{carried-few, write-carries}
@@ -61,7 +62,8 @@ returns-3 c =
     let j = s .jobs .now in
     let n = length (s .file .now) in
     let a = length (s .answer .now) in
-    write-told _ _ _ _ TooManyProcessors (many-processors m j n a (c .before .before .before .if1 .left) (c .before .before .if2 .left)
+    write-told _ _ _ _ (TooManyProcessors Dock)
+    (many-processors m j n a (c .before .before .before .if1 .left) (c .before .before .if2 .left)
     (c .before .if3 .taken)) _ (c .result-of .ensures) _ refl
 
 result-of-requires-2 : tie.Need-result-of-requires-2
@@ -87,7 +89,7 @@ returns-5 c =
     let j = s .jobs .now in
     let n = length (s .file .now) in
     let a = length (s .answer .now) in
-    write-told _ _ _ _ TooManyJobs (many-jobs m j n a (c .before .before .before .before .before .if1 .left)
+    write-told _ _ _ _ (TooManyJobs Dock) (many-jobs m j n a (c .before .before .before .before .before .if1 .left)
     (c .before .before .before .before .if2 .left) (c .before .if5 .left) (c .before .before .before .if3 .left)
     (c .before .before .if4 .taken)) _ (c .result-of3 .ensures) _ refl
 
