@@ -1,0 +1,4 @@
+mod Passing
+mod Answers
+mod Trailing
+mod Spanning

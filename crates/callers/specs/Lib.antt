@@ -1,0 +1,4 @@
+pub mod Trailers
+pub mod TrailerLaws
+pub mod Counted
+pub mod ReplySame

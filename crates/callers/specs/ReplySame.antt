@@ -1,0 +1,113 @@
+-- Document 02, §10: "An order within the screen's limits gets the dock's own reply from either caller". Every entry point judges a screen
+-- by one of these tables and answers, and leaves behind, what its contract says by the verdict: and the verdict is the dock's.
+use Prim.Native.Nat.{ℕ}
+use mathlib.Core.Path.{_≡_, refl}
+use mathlib.Core.List.{List, [], _∷_}
+use lib.IntN.{ℤ}
+use lib.ListN.{length}
+use Rattle.sums.specs.Lists.{All}
+use Rattle.order.specs.Order.{Order, processorCount, jobCount}
+use Rattle.order.specs.Refusals.{limits, screen, TableRow, judge, orderRows}
+use Rattle.order.specs.Callers.{Within, rowsBy, rowsFor}
+use Rattle.order.specs.CallerLaws.{same-within, screen-as-dock}
+use Rattle.order.specs.declared.Caller.the-variants.{Screen}
+use Rattle.order_file.specs.File.{orderIn, readRows, writeRows}
+use Rattle.plan.specs.Check.{checkRows}
+use Rattle.reason.specs.declared.Why.{Why}
+use Rattle.sentence.specs.Told.{composeRows, readRows as lineRows}
+use Rattle.wrap.specs.FrameAt.{Times}
+use Rattle.timed.specs.Rows.{askedRows, timedRows, timedCheckRows}
+use Rattle.planner.specs.Rows.{leastRows, planRows, bookedLeastRows, bookedPlanRows}
+use Rattle.estimate.specs.Estimate.{Estimate, estimateRows}
+use Rattle.callers.specs.Counted.{
+  accept-counted,
+  write-counted,
+  check-counted,
+  least-counted,
+  plan-counted,
+  book-least-counted,
+  book-plan-counted,
+  asked-counted,
+  timed-counted,
+  timed-check-counted,
+  compose-counted,
+  back-counted,
+}
+
+-- whatever is lent beside the order: a bound, a reason, times, a book's counts, and so many numbers or bytes of room
+pub record Lent : Type 0 where
+  pub bound : ℤ
+  pub why : Why
+  pub times : Times
+  pub book : List ℕ
+  pub room : ℕ
+
+-- the tables by which an order is judged: accept, write, check, least, plan, both with a book, the three with times, a reason's line
+-- composed and read back
+abbrev pub tables : Order → Lent → List (List TableRow)
+tables o l =
+    orderRows limits o
+    ∷ writeRows o (l .room)
+    ∷ checkRows o (l .bound) (l .room)
+    ∷ leastRows o (l .room)
+    ∷ planRows o (l .bound) (l .room)
+    ∷ bookedLeastRows o (l .room) (l .book)
+    ∷ bookedPlanRows o (l .bound) (l .room) (l .book)
+    ∷ askedRows o (l .bound) (l .times)
+    ∷ timedRows o (l .bound) (l .times) (l .room)
+    ∷ timedCheckRows o (l .bound) (l .times) (l .room)
+    ∷ composeRows o (l .bound) (l .why) (l .room)
+    ∷ lineRows o (l .bound)
+    ∷ []
+
+pub reply-same : (o : Order) (l : Lent) → Within screen (processorCount o) (jobCount o) →
+    All (λ (rows : List TableRow). judge (rowsFor Screen o rows) ≡ judge rows) (tables o l)
+reply-same o l few = (
+  screen-as-dock o _ (accept-counted o .docks) few,
+  (
+    screen-as-dock o _ (write-counted o (l .room) .docks) few,
+    (
+      screen-as-dock o _ (check-counted o (l .bound) (l .room) .docks) few,
+      (
+        screen-as-dock o _ (least-counted o (l .room) .docks) few,
+        (
+          screen-as-dock o _ (plan-counted o (l .bound) (l .room) .docks) few,
+          (
+            screen-as-dock o _ (book-least-counted o (l .room) (l .book) .docks) few,
+            (
+              screen-as-dock o _ (book-plan-counted o (l .bound) (l .room) (l .book) .docks) few,
+              (
+                screen-as-dock o _ (asked-counted o (l .bound) (l .times) .docks) few,
+                (
+                  screen-as-dock o _ (timed-counted o (l .bound) (l .times) (l .room) .docks) few,
+                  (
+                    screen-as-dock o _ (timed-check-counted o (l .bound) (l .times) (l .room) .docks) few,
+                    (
+                      screen-as-dock o _ (compose-counted o (l .bound) (l .why) (l .room) .docks) few,
+                      (
+                        screen-as-dock o _ (back-counted o (l .bound) .docks) few,
+                        tt,
+                      ),
+                    ),
+                  ),
+                ),
+              ),
+            ),
+          ),
+        ),
+      ),
+    ),
+  ),
+)
+
+-- the same of the reader, on the order of the file
+pub read-same : (f : List ℕ) → Within screen (processorCount (orderIn f)) (jobCount (orderIn f)) →
+    judge (rowsFor Screen (orderIn f) (readRows f)) ≡ judge (readRows f)
+unfolding rowsBy readRows
+read-same f few = screen-as-dock (orderIn f) (readRows f) refl few
+
+-- and of times between, whose tables take the limits themselves
+pub estimate-same : (e : Estimate) → Within screen (length (e .memories)) (length (e .jobs)) →
+    judge (estimateRows screen e) ≡ judge (estimateRows limits e)
+unfolding rowsBy estimateRows
+estimate-same e few = same-within (length (e .memories)) (length (e .jobs)) few (estimateRows limits e)
