@@ -20,3 +20,4 @@ mod NeedsTold
 mod BetweenRead
 mod BetweenCalling
 mod BetweenTold
+mod Screening

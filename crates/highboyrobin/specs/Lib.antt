@@ -6,6 +6,7 @@ pub mod BookCalls
 pub mod ClassCalls
 pub mod NeedCalls
 pub mod BetweenCalls
+pub mod ScreenCalls
 pub mod CallLaws
 pub mod BookCallLaws
 pub mod ClassCallLaws
@@ -13,4 +14,5 @@ pub mod NeedCallLaws
 pub mod TimedCallLaws
 pub mod BetweenCallLaws
 pub mod LineCallLaws
+pub mod ScreenCallLaws
 pub mod Inside
