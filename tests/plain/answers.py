@@ -8,6 +8,8 @@ no further row of the buffer".
 Document 02, §4: "A maker number out of range is 13, right after 6 in the
 order": 13 belongs to every entry point that is given an order.
 Document 02, §1: "`try-bound` prints this line after its `tight` line".
+Document 02, §10: "the limit belongs to the call": each is given its caller's limits,
+the dock's where none are named.
 """
 
 import least
@@ -30,30 +32,30 @@ def order_lines(order):
               for job in order.jobs)]
 
 
-def read(data):
-    answer = order_file.read(data)
+def read(data, limits=orders.DOCK):
+    answer = order_file.read(data, limits)
     if isinstance(answer, orders.Refusal):
         return refused(answer)
     return order_lines(answer)
 
 
-def check(order, bound, numbers):
-    answer = plan_check.answer(order, bound, numbers)
+def check(order, bound, numbers, limits=orders.DOCK):
+    answer = plan_check.answer(order, bound, numbers, limits)
     if isinstance(answer, orders.Refusal):
         return refused(answer)
     return ["yes" if answer else "no"]
 
 
-def write(order, room):
-    answer = order_file.write(order, room)
+def write(order, room, limits=orders.DOCK):
+    answer = order_file.write(order, room, limits)
     if isinstance(answer, orders.Refusal):
         return refused(answer)
     return [f"file {len(answer)} {answer.hex()}"]
 
 
-def planner_refusal(order, room, bound=None):
+def planner_refusal(order, room, bound=None, limits=orders.DOCK):
     """Rows 1 to 7 and 13, then 8 (if there is a bound), then 9."""
-    refusal = orders.refusal(order)
+    refusal = orders.refusal(order, limits)
     if refusal:
         return refusal
     if bound is not None and not orders.bound_in_range(bound):
@@ -63,8 +65,8 @@ def planner_refusal(order, room, bound=None):
     return None
 
 
-def least_lateness(order, room):
-    refusal = planner_refusal(order, room)
+def least_lateness(order, room, limits=orders.DOCK):
+    refusal = planner_refusal(order, room, limits=limits)
     if refusal:
         return refused(refusal)
     return [f"least {least.least(order)}"]
@@ -77,8 +79,8 @@ def why_tight(order, bound):
     return reason.reason(order, bound, reason_large.first_overfull)
 
 
-def plan(order, bound, room):
-    refusal = planner_refusal(order, room, bound)
+def plan(order, bound, room, limits=orders.DOCK):
+    refusal = planner_refusal(order, room, bound, limits)
     if refusal:
         return refused(refusal)
     why = why_tight(order, bound)
@@ -98,16 +100,16 @@ def try_bound(order, bound):
     return lines
 
 
-def compose(order, bound, kind, which, time, dues, room):
+def compose(order, bound, kind, which, time, dues, room, limits=orders.DOCK):
     handed = sentence.Handed(kind, which, time, dues)
-    answer = sentence.compose(order, bound, handed, room)
+    answer = sentence.compose(order, bound, handed, room, limits)
     if isinstance(answer, orders.Refusal):
         return refused(answer)
     return [f"line {len(answer)} {answer}" if answer else "line 0"]
 
 
-def parse(order, bound, data):
-    answer = sentence.read_back(order, bound, data)
+def parse(order, bound, data, limits=orders.DOCK):
+    answer = sentence.read_back(order, bound, data, limits)
     if isinstance(answer, orders.Refusal):
         return refused(answer)
     if answer is None:

@@ -56,26 +56,26 @@ def after(lines, order, book):
     return lines, booked(order, book)
 
 
-def least_lateness(order, room, book):
-    return after(answers.least_lateness(order, room), order, book)
+def least_lateness(order, room, book, limits=orders.DOCK):
+    return after(answers.least_lateness(order, room, limits), order, book)
 
 
-def plan(order, bound, room, book):
-    return after(answers.plan(order, bound, room), order, book)
+def plan(order, bound, room, book, limits=orders.DOCK):
+    return after(answers.plan(order, bound, room, limits), order, book)
 
 
-def call(one, book):
+def call(one, book, limits=orders.DOCK):
     """One call of a stream."""
     if one.which == stream_form.LEAST:
-        return least_lateness(one.order, one.room, book)
-    return plan(one.order, one.bound, one.room, book)
+        return least_lateness(one.order, one.room, book, limits)
+    return plan(one.order, one.bound, one.room, book, limits)
 
 
-def told(book, calls):
+def told(book, calls, limits=orders.DOCK):
     """The lines of calls that hand the book on: what each answers, and the book
     that it gives back."""
     lines = []
     for one in calls:
-        answer, book = call(one, book)
+        answer, book = call(one, book, limits)
         lines += [*answer, " ".join(map(str, ("book", *book)))]
     return lines

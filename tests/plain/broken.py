@@ -6,7 +6,8 @@ hand-overs those of joined rows, those of the due minute those of ends; makers a
 the book stand in broken_makers.py, ready minutes and windows in broken_timed.py,
 classes and their processors in broken_classes.py, needs from a table in
 broken_needs.py, jobs held by falling need in broken_held.py, times between two numbers
-in broken_estimate.py. Each variant replaces one name of one module while one test runs.
+in broken_estimate.py, the screen's limits in broken_screen.py. Each variant replaces
+one name of one module while one test runs.
 
     broken.py          runs all variants; exits 1 if one of them is not caught
 """
@@ -25,6 +26,7 @@ import broken_estimate
 import broken_held
 import broken_makers
 import broken_needs
+import broken_screen
 import broken_timed
 import flow
 import join
@@ -176,59 +178,68 @@ REASONS = [
 ]
 
 
-def job_by_job(order):
+def job_by_job(order, limits=orders.DOCK):
     """Rows 5 to 7 judged job by job in place of row by row."""
-    refused = right_refusal(order)
+    refused = right_refusal(order, limits)
     if refused is None or refused.number < 5:
         return refused
     for place, job in enumerate(order.jobs, 1):
-        one = right_refusal(orders.order(order.memories, [job]))
+        one = right_refusal(orders.order(order.memories, [job]), limits)
         if one:
             return orders.Refusal(one.number, place)
     return None
 
 
-def rows_before_bound(order, bound, numbers):
+def rows_before_bound(order, bound, numbers, limits):
     if len(plan_check.rows(numbers)) > plan_check.ROWS_MOST:
         return orders.Refusal(11, 0)
-    return right_check_refusal(order, bound, numbers)
+    return right_check_refusal(order, bound, numbers, limits)
 
 
-def room_first(order, room, bound=None):
+def room_first(order, room, bound=None, limits=orders.DOCK):
     if room // 4 < orders.rows_needed(order):
         return orders.Refusal(9, 0)
-    return right_planner_refusal(order, room, bound)
+    return right_planner_refusal(order, room, bound, limits)
 
 
-def tight_before_room(order, room, bound=None):
-    refused = right_planner_refusal(order, room, bound)
+def tight_before_room(order, room, bound=None, limits=orders.DOCK):
+    refused = right_planner_refusal(order, room, bound, limits)
     if refused and refused.number == 9 and bound is not None and reason.reason(
             order, bound):
         return None
     return refused
 
 
-def room_rounded_up(order, room, bound=None):
-    return right_planner_refusal(order, room + 3, bound)
+def room_rounded_up(order, room, bound=None, limits=orders.DOCK):
+    return right_planner_refusal(order, room + 3, bound, limits)
 
 
+def in_turn(*places):
+    """The rows about an order judged as they stand at these places."""
+    return lambda limits: tuple(right_rows(limits)[place] for place in places)
+
+
+def of_processors(most):
+    """So many processors at most."""
+    return lambda limits: right_rows(limits._replace(processors=most))
+
+
+right_rows = orders.rows
 right_check_refusal = plan_check.refusal
 
 REFUSALS = [
     Variant("refusals 5 to 7 job by job", orders, "refusal", job_by_job,
             "test_orders.Refusals.test_table"),
-    Variant("refusal 3 before 1", orders, "ROWS",
-            (orders.ROWS[2], orders.ROWS[0], orders.ROWS[1]) + orders.ROWS[3:],
+    Variant("refusal 3 before 1", orders, "rows", in_turn(2, 0, 1, 3, 4, 5, 6, 7),
             "test_orders.Refusals.test_table"),
-    Variant("refusal 7 before 5", orders, "ROWS",
-            orders.ROWS[:4] + (orders.ROWS[7],) + orders.ROWS[4:7],
+    Variant("refusal 7 before 5", orders, "rows", in_turn(0, 1, 2, 3, 7, 4, 5, 6),
             "test_orders.Refusals.test_table"),
     Variant("every order refused", orders, "refusal",
             lambda order: orders.Refusal(1, 0),
             "test_orders.Refusals.test_accepted"),
-    Variant("17 processors accepted", orders, "PROCESSORS_MOST", 17,
+    Variant("17 processors accepted", orders, "rows", of_processors(17),
             "test_orders.Refusals.test_table"),
-    Variant("15 processors at most", orders, "PROCESSORS_MOST", 15,
+    Variant("15 processors at most", orders, "rows", of_processors(15),
             "test_orders.Refusals.test_accepted"),
     Variant("11 before 8", plan_check, "refusal", rows_before_bound,
             "test_plan_rules.Check.test_refusals"),
@@ -496,9 +507,9 @@ def ends_in(row, stretches):
     return [begin < row[3] <= end for begin, end in stretches].index(True)
 
 
-def room_for_the_joined_rows(order, room, bound=None):
+def room_for_the_joined_rows(order, room, bound=None, limits=orders.DOCK):
     """9 only where the buffer is too short for the rows that are written."""
-    refused = right_planner_refusal(order, room, bound)
+    refused = right_planner_refusal(order, room, bound, limits)
     if refused and refused.number == 9:
         at = least.least(order) if bound is None else bound
         if flow.meets(order, at) and room // 4 >= len(
@@ -692,15 +703,15 @@ def kind_not_looked_at(order, given):
         kind=sentence.STAIRS if stairs else sentence.JOB))
 
 
-def room_before_refusals(order, bound, given, room):
+def room_before_refusals(order, bound, given, room, limits=orders.DOCK):
     return orders.Refusal(9, 0) if room == 0 else right_compose(
-        order, bound, given, room)
+        order, bound, given, room, limits)
 
 
-def bound_before_order(order, bound):
+def bound_before_order(order, bound, limits):
     if not orders.bound_in_range(bound):
         return orders.Refusal(8, 0)
-    return orders.refusal(order)
+    return orders.refusal(order, limits)
 
 
 def by_value(text, data):
@@ -790,7 +801,7 @@ SENTENCES = [
     Variant("8 before 1 to 7", sentence, "refusal", bound_before_order,
             "test_sentence.Composing.test_refusals"),
     Variant("no 8 in reading back", sentence, "refusal",
-            lambda order, bound: orders.refusal(order),
+            lambda order, bound, limits: orders.refusal(order, limits),
             "test_sentence.ReadingBack.test_refusals"),
     Variant("a line with a line feed read", sentence, "same",
             lambda text, data: text.encode() == data.rstrip(b"\n"), OTHER_LINES),
@@ -916,9 +927,10 @@ CLASSES = [Variant(*variant) for variant in broken_classes.VARIANTS]
 NEEDS = [Variant(*variant) for variant in broken_needs.VARIANTS]
 HELD = [Variant(*variant) for variant in broken_held.VARIANTS]
 ESTIMATE = [Variant(*variant) for variant in broken_estimate.VARIANTS]
+SCREEN = [Variant(*variant) for variant in broken_screen.VARIANTS]
 VARIANTS = (LATENESS + REASONS + REFUSALS + PLANS + LAYOUTS + JOININGS + SEARCHES
             + FILES + SENTENCES + ENDS + MAKERS + TIMED + CLASSES + NEEDS + HELD
-            + ESTIMATE)
+            + ESTIMATE + SCREEN)
 
 
 def caught(variant):

@@ -236,7 +236,7 @@ def needs_listed(order):
 def without_row(number):
     """An answer that does not know of this refusal."""
     def answer(order):
-        for row, condition in orders.ROWS:
+        for row, condition in orders.rows(orders.DOCK):
             carried = condition(order)
             if row != number and carried is not None:
                 return orders.Refusal(row, carried)

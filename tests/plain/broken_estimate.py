@@ -17,18 +17,19 @@ PAIRS = "test_estimate.Refusals.test_pairs"
 ACCEPTED = "test_estimate.Refusals.test_accepted"
 EITHER_END = "test_estimate.Refusals.test_either_end_out_of_range"
 SMALL_ENDS = "test_estimate.Refusals.test_every_small_low_and_high"
+ROWS = estimate.rows(orders.DOCK)
 
 
 def in_order(*numbers):
     """The rows of these numbers alone, in this order."""
-    rows = dict(estimate.ROWS)
-    return tuple((number, rows[number]) for number in numbers)
+    rows = dict(ROWS)
+    return lambda limits: tuple((number, rows[number]) for number in numbers)
 
 
-def with_row(number, condition):
-    """The rows with another condition for this number."""
-    return tuple((row, condition if row == number else right)
-                 for row, right in estimate.ROWS)
+def with_row(number, condition, *behind):
+    """The rows with another condition for this number, and others behind them."""
+    return lambda limits: (*((row, condition if row == number else right)
+                             for row, right in ROWS), *behind)
 
 
 def ends_where(holds, told=lambda numbers: numbers[0]):
@@ -61,36 +62,36 @@ def one_then_other(one, other):
 
 
 REFUSALS = [
-    ("no 19", estimate, "ROWS", in_order(1, 2, 3, 4, 5, 6, 13, 7), TABLE),
-    ("19 at equal", estimate, "ROWS",
+    ("no 19", estimate, "rows", in_order(1, 2, 3, 4, 5, 6, 13, 7), TABLE),
+    ("19 at equal", estimate, "rows",
      with_row(19, ends_where(lambda low, high: low >= high)), ACCEPTED),
-    ("19 behind 7", estimate, "ROWS", in_order(1, 2, 3, 4, 5, 6, 13, 7, 19), PAIRS),
-    ("19 before 13", estimate, "ROWS", in_order(1, 2, 3, 4, 5, 6, 19, 13, 7), PAIRS),
-    ("19 before 6", estimate, "ROWS", in_order(1, 2, 3, 4, 5, 19, 6, 13, 7), PAIRS),
-    ("19 before 5", estimate, "ROWS", in_order(1, 2, 3, 4, 19, 5, 6, 13, 7), PAIRS),
-    ("19 before 1 to 4", estimate, "ROWS",
+    ("19 behind 7", estimate, "rows", in_order(1, 2, 3, 4, 5, 6, 13, 7, 19), PAIRS),
+    ("19 before 13", estimate, "rows", in_order(1, 2, 3, 4, 5, 6, 19, 13, 7), PAIRS),
+    ("19 before 6", estimate, "rows", in_order(1, 2, 3, 4, 5, 19, 6, 13, 7), PAIRS),
+    ("19 before 5", estimate, "rows", in_order(1, 2, 3, 4, 19, 5, 6, 13, 7), PAIRS),
+    ("19 before 1 to 4", estimate, "rows",
      in_order(19, 1, 2, 3, 4, 5, 6, 13, 7), TABLE),
-    ("19 tells the last such job", estimate, "ROWS",
+    ("19 tells the last such job", estimate, "rows",
      with_row(19, ends_where(above, max)), SMALL_ENDS),
-    ("19 without the job", estimate, "ROWS",
+    ("19 without the job", estimate, "rows",
      with_row(19, ends_where(above, lambda numbers: 0)), TABLE),
-    ("19 judged in 16 bits", estimate, "ROWS",
+    ("19 judged in 16 bits", estimate, "rows",
      with_row(19, ends_where(lambda low, high: low % 65536 > high % 65536)), TABLE),
-    ("a low above its high let through in 16 bits", estimate, "ROWS",
+    ("a low above its high let through in 16 bits", estimate, "rows",
      with_row(19, ends_where(lambda low, high: low % 65536 > high % 65536)), ACCEPTED),
-    ("5 of lows only", estimate, "ROWS", with_row(5, low_bad), EITHER_END),
-    ("5 of highs only", estimate, "ROWS", with_row(5, high_bad), EITHER_END),
-    ("5 where both ends are bad only", estimate, "ROWS",
+    ("5 of lows only", estimate, "rows", with_row(5, low_bad), EITHER_END),
+    ("5 of highs only", estimate, "rows", with_row(5, high_bad), EITHER_END),
+    ("5 where both ends are bad only", estimate, "rows",
      with_row(5, ends_where(lambda low, high: not (
          estimate.in_range(low) or estimate.in_range(high)))), EITHER_END),
-    ("5 tells a bad low before a bad high of an earlier job", estimate, "ROWS",
+    ("5 tells a bad low before a bad high of an earlier job", estimate, "rows",
      with_row(5, one_then_other(low_bad, high_bad)), TABLE),
-    ("5 tells a bad high before a bad low of an earlier job", estimate, "ROWS",
+    ("5 tells a bad high before a bad low of an earlier job", estimate, "rows",
      with_row(5, one_then_other(high_bad, low_bad)), PAIRS),
-    ("5 tells the last such job", estimate, "ROWS",
+    ("5 tells the last such job", estimate, "rows",
      with_row(5, ends_where(bad, max)), SMALL_ENDS),
-    ("5 of highs behind all others", estimate, "ROWS",
-     (*with_row(5, low_bad), (5, high_bad)), PAIRS),
+    ("5 of highs behind all others", estimate, "rows",
+     with_row(5, low_bad, (5, high_bad)), PAIRS),
     ("highs up to 99,999", estimate, "in_range", lambda time: 1 <= time <= 99999,
      ACCEPTED),
     ("a high of 0 let through", estimate, "in_range", lambda time: time <= 100000,

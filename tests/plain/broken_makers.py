@@ -25,19 +25,21 @@ TABLE = "test_orders.Refusals.test_table"
 RANGE = "test_orders.Refusals.test_makers"
 EVERY_ENTRY = "test_answers.Answers.test_13_by_every_entry_point"
 NO_OTHER_PLAN = "test_answers.Answers.test_makers_change_no_plan"
-ROWS = orders.ROWS
+ROWS = orders.rows(orders.DOCK)
 PLACE_OF_13 = [number for number, _ in ROWS].index(13)
 WITHOUT_13 = ROWS[:PLACE_OF_13] + ROWS[PLACE_OF_13 + 1:]
 
 
 def moved_13(place):
     """Row 13 judged at this place of the others."""
-    return WITHOUT_13[:place] + (ROWS[PLACE_OF_13],) + WITHOUT_13[place:]
+    return lambda limits: (WITHOUT_13[:place] + (ROWS[PLACE_OF_13],)
+                           + WITHOUT_13[place:])
 
 
 def with_13(condition):
     """Row 13 with another condition."""
-    return ROWS[:PLACE_OF_13] + ((13, condition),) + ROWS[PLACE_OF_13 + 1:]
+    return lambda limits: (ROWS[:PLACE_OF_13] + ((13, condition),)
+                           + ROWS[PLACE_OF_13 + 1:])
 
 
 def makers_in(an_order, maker_of):
@@ -54,7 +56,7 @@ def carrying(told):
     return condition
 
 
-def no_13(an_order):
+def no_13(an_order, limits):
     """What an entry point answers that does not know of 13."""
     return next((orders.Refusal(number, condition(an_order))
                  for number, condition in WITHOUT_13
@@ -84,25 +86,25 @@ MAKERS = [
     ("maker 17 let through", orders, "MAKER_MOST", 17, RANGE),
     ("maker 16 refused", orders, "MAKER_MOST", 15, RANGE),
     ("maker 1 refused", orders, "MAKER_LEAST", 2, RANGE),
-    ("any maker let through", orders, "ROWS", WITHOUT_13, RANGE),
-    ("a maker's first byte alone looked at", orders, "ROWS",
+    ("any maker let through", orders, "rows", lambda limits: WITHOUT_13, RANGE),
+    ("a maker's first byte alone looked at", orders, "rows",
      with_13(lambda order: makers_in(order, lambda maker: maker % 256)), RANGE),
-    ("a maker's first two bytes alone looked at", orders, "ROWS",
+    ("a maker's first two bytes alone looked at", orders, "rows",
      with_13(lambda order: makers_in(order, lambda maker: maker % 65536)), RANGE),
-    ("the maker of job 1 alone looked at", orders, "ROWS",
+    ("the maker of job 1 alone looked at", orders, "rows",
      with_13(lambda order: makers_in(
          order._replace(jobs=order.jobs[:1]), lambda maker: maker)), RANGE),
-    ("13 after 7", orders, "ROWS", moved_13(7), TABLE),
-    ("13 before 6", orders, "ROWS", moved_13(5), TABLE),
-    ("13 before 5", orders, "ROWS", moved_13(4), TABLE),
-    ("13 before 4", orders, "ROWS", moved_13(3), TABLE),
-    ("13 before all", orders, "ROWS", moved_13(0), TABLE),
-    ("13 carries 0", orders, "ROWS", with_13(carrying(lambda bad: 0)), TABLE),
-    ("13 carries the last such job", orders, "ROWS",
+    ("13 after 7", orders, "rows", moved_13(7), TABLE),
+    ("13 before 6", orders, "rows", moved_13(5), TABLE),
+    ("13 before 5", orders, "rows", moved_13(4), TABLE),
+    ("13 before 4", orders, "rows", moved_13(3), TABLE),
+    ("13 before all", orders, "rows", moved_13(0), TABLE),
+    ("13 carries 0", orders, "rows", with_13(carrying(lambda bad: 0)), TABLE),
+    ("13 carries the last such job", orders, "rows",
      with_13(carrying(lambda bad: bad[-1][0])), TABLE),
-    ("13 carries the maker", orders, "ROWS",
+    ("13 carries the maker", orders, "rows",
      with_13(carrying(lambda bad: bad[0][1].maker)), TABLE),
-    ("13 counts jobs from 0", orders, "ROWS",
+    ("13 counts jobs from 0", orders, "rows",
      with_13(carrying(lambda bad: bad[0][0] - 1)), TABLE),
     ("no 13 in the check", plan_check, "orders", NO_13, EVERY_ENTRY),
     ("no 13 in reader and writer", order_file, "orders", NO_13, EVERY_ENTRY),
@@ -458,15 +460,19 @@ BOOKS = [
     ("a book of fifteen counts", book, "OPENED", (0,) * 15,
      "test_book.Book.test_opened"),
     ("the least lateness does not book", book, "least_lateness",
-     lambda order, room, given: (answers.least_lateness(order, room), given), BOTH),
+     lambda order, room, given, *limits: (
+         answers.least_lateness(order, room, *limits), given),
+     BOTH),
     ("planning at a bound does not book", book, "plan",
-     lambda order, bound, room, given: (answers.plan(order, bound, room), given), BOTH),
+     lambda order, bound, room, given, *limits: (
+         answers.plan(order, bound, room, *limits), given), BOTH),
     ("the least lateness does not book, from opening on", book, "least_lateness",
-     lambda order, room, given: (answers.least_lateness(order, room), given),
+     lambda order, room, given, *limits: (
+         answers.least_lateness(order, room, *limits), given),
      FROM_OPENING),
     ("planning at a bound does not book, from opening on", book, "plan",
-     lambda order, bound, room, given: (answers.plan(order, bound, room), given),
-     FROM_OPENING),
+     lambda order, bound, room, given, *limits: (
+         answers.plan(order, bound, room, *limits), given), FROM_OPENING),
     ("a booked call answers another least", book, "after",
      lambda lines, order, given: (["meets"], right_after(lines, order, given)[1]),
      "test_book.Book.test_answers_as_without_a_book"),

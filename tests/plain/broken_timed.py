@@ -69,8 +69,8 @@ def signed(number):
 
 def times_after_8(*numbers):
     """These of the two judged after 8, the other before it."""
-    def refusal(order, bound, given):
-        refused = right_refusal(order, bound, given)
+    def refusal(order, bound, given, limits):
+        refused = right_refusal(order, bound, given, limits)
         if refused and refused.number in numbers and not orders.bound_in_range(bound):
             return orders.Refusal(8, 0)
         return refused
@@ -79,8 +79,8 @@ def times_after_8(*numbers):
 
 def times_before(number):
     """The times judged before this row of the order."""
-    def refusal(order, bound, given):
-        refused = right_refusal(order, bound, given)
+    def refusal(order, bound, given, limits):
+        refused = right_refusal(order, bound, given, limits)
         if refused and refused.number == number:
             return timed.refusal_of_times(given) or refused
         return refused
@@ -98,20 +98,20 @@ def asked_without_times(order, bound, given):
     return [f"asked {timed.rows_asked(order, bound, given)}"]
 
 
-def planner_without_times(order, bound, given, room):
-    refused = right_planner_refusal(order, bound, given, room)
+def planner_without_times(order, bound, given, room, limits):
+    refused = right_planner_refusal(order, bound, given, room, limits)
     if refused and refused.number in (15, 16):
         return without_times(order, bound, given)
     return refused
 
 
-def check_without_times(order, bound, given, lent):
-    return plan_check.refusal(order, bound, lent[:4])
+def check_without_times(order, bound, given, lent, limits):
+    return plan_check.refusal(order, bound, lent[:4], limits)
 
 
 def nine_before(number):
-    def refusal(order, bound, given, room):
-        refused = right_planner_refusal(order, bound, given, room)
+    def refusal(order, bound, given, room, limits):
+        refused = right_planner_refusal(order, bound, given, room, limits)
         if (refused and refused.number == number
                 and room // 4 < timed.rows_asked(order, bound, given)):
             return orders.Refusal(9, 0)
@@ -119,8 +119,8 @@ def nine_before(number):
     return refusal
 
 
-def tight_before_9(order, bound, given, room):
-    refused = right_planner_refusal(order, bound, given, room)
+def tight_before_9(order, bound, given, room, limits):
+    refused = right_planner_refusal(order, bound, given, room, limits)
     if refused and refused.number == 9 and not timed_plan.meets(order, bound, given):
         return None
     return refused
@@ -197,11 +197,11 @@ REFUSALS = [
     ("9 before 16", timed_answers, "planner_refusal", nine_before(16), BEFORE_8),
     ("10 before 9", timed_answers, "planner_refusal", tight_before_9, ROOM),
     ("numbers left over are a row of the buffer", timed_answers, "planner_refusal",
-     lambda order, bound, given, room: right_planner_refusal(
-         order, bound, given, room + 3), ROOM),
+     lambda order, bound, given, room, limits: right_planner_refusal(
+         order, bound, given, room + 3, limits), ROOM),
     ("room in numbers taken for room in rows", timed_answers, "planner_refusal",
-     lambda order, bound, given, room: right_planner_refusal(
-         order, bound, given, 4 * room), ROOM),
+     lambda order, bound, given, room, limits: right_planner_refusal(
+         order, bound, given, 4 * room, limits), ROOM),
 ]
 
 
@@ -354,18 +354,18 @@ def times_alone(order, bound, given, rows, parts=1):
                  if rule(given, rows, parts)), None)
 
 
-def rows_before_8(order, bound, given, lent):
+def rows_before_8(order, bound, given, lent, limits):
     if len(plan_check.rows(lent)) > timed_check.ROWS_MOST:
         return orders.Refusal(11, 0)
-    return right_check_refusal(order, bound, given, lent)
+    return right_check_refusal(order, bound, given, lent, limits)
 
 
-def whole_rows_counted(order, bound, given, lent):
-    return right_check_refusal(order, bound, given, lent[:len(lent) // 4 * 4])
+def whole_rows_counted(order, bound, given, lent, limits):
+    return right_check_refusal(order, bound, given, lent[:len(lent) // 4 * 4], limits)
 
 
-def left_over_forgotten(order, bound, given, lent):
-    return right_check(order, bound, given, lent[:len(lent) // 4 * 4])
+def left_over_forgotten(order, bound, given, lent, *limits):
+    return right_check(order, bound, given, lent[:len(lent) // 4 * 4], *limits)
 
 
 right_check = timed_check.answer
@@ -452,12 +452,12 @@ RULES = [
     ("11 before 8, 15 and 16", timed_check, "refusal", rows_before_8,
      "test_timed.Check.test_11_is_last"),
     ("an empty list answered yes", timed_check, "answer",
-     lambda order, bound, given, lent: right_check(order, bound, given, lent)
-     if lent else True, LEFT_OVER),
+     lambda order, bound, given, lent, *limits: right_check(
+         order, bound, given, lent, *limits) if lent else True, LEFT_OVER),
     ("rows in the planner's order only", timed_check, "answer",
-     lambda order, bound, given, lent: plan_check.rows(lent) == sorted(
+     lambda order, bound, given, lent, *limits: plan_check.rows(lent) == sorted(
          plan_check.rows(lent), key=lambda row: row[2:]) and right_check(
-             order, bound, given, lent), "test_timed.Check.test_any_order"),
+             order, bound, given, lent, *limits), "test_timed.Check.test_any_order"),
 ]
 
 

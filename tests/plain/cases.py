@@ -22,6 +22,7 @@ import cases_join
 import cases_needs
 import cases_planner
 import cases_read
+import cases_screen
 import cases_sentence
 import cases_timed
 import cases_timed_check
@@ -30,6 +31,7 @@ import classes
 import estimate
 import flow
 import needs
+import orders
 import stream_form
 import timed_answers
 
@@ -37,7 +39,7 @@ HERE = pathlib.Path(__file__).resolve().parent
 PROGRAM = HERE.parent.parent / "crates" / "cases"
 PARTS = (cases_read, cases_check, cases_write, cases_planner, cases_sentence,
          cases_join, cases_book, cases_timed, cases_timed_check, cases_classes,
-         cases_needs, cases_held, cases_estimate)
+         cases_needs, cases_held, cases_estimate, cases_screen)
 # What the program reads, what it has to print, and what each case shows.
 STORED = {"stdin": PROGRAM / "stdin", "stdout": PROGRAM / "stdout",
           "list": HERE / "streams" / "cases.list"}
@@ -47,7 +49,7 @@ ANSWER = {"read": answers.read, "check": answers.check, "write": answers.write,
           "asked": timed_answers.asked, "timed": timed_answers.planned,
           "watch": timed_answers.checked, "classes": classes.told,
           "needs": needs.told, "between": estimate.told}
-BYTES_MOST = 2200000
+BYTES_MOST = 2300000
 
 
 def between(record, lines):
@@ -78,11 +80,19 @@ def planned(record, lines):
             yield order, number - 1, "tight"
 
 
+def answered(record):
+    """The lines of one case, by the table of its caller's limits."""
+    answer = ANSWER[record.kind]
+    if record.kind in stream_form.OF_NO_CALLER:
+        return answer(*record.values)
+    return answer(*record.values, limits=record.limits)
+
+
 def expected(record):
     """The lines of one case. A planner's answer, and the least lateness of many
     minutes between a low and a high, is given by the staircases and has to agree with
     the flow."""
-    lines = ANSWER[record.kind](*record.values)
+    lines = answered(record)
     for order, bound, line in planned(record, lines):
         if (not line.startswith("refused")
                 and flow.meets(order, bound) != (line == "meets")):
@@ -97,7 +107,8 @@ def made():
     for number, (story, record) in enumerate(of_parts, 1):
         lines = expected(record)
         told += lines
-        listed.append(f"{number} {record.kind}: {story}")
+        caller = "screen's " * (record.limits == orders.SCREEN)
+        listed.append(f"{number} {caller}{record.kind}: {story}")
     data = stream_form.stream(record for _, record in of_parts)
     if len(data) > BYTES_MOST:
         raise AssertionError(f"the stream would have {len(data)} bytes")

@@ -141,7 +141,7 @@ def largest():
 def of_table():
     """The first known order of each refusal about an order, as they are judged."""
     known = {number: order for _, order, number, _ in reversed(known_orders.REFUSED)}
-    return {number: known[number] for number, _ in orders.ROWS}
+    return {number: known[number] for number, _ in orders.rows(orders.DOCK)}
 
 
 def precedence():

@@ -59,25 +59,27 @@ def of_order(condition):
     return lambda given: condition(given.order)
 
 
-# The rows of the refusal table that are about an estimate, each with its condition, in
-# the order in which they are judged: 19 stands "after 6 and 13". A condition gives the
-# number that the refusal carries (a job's, else 0), or None.
-ROWS = (
-    (1, of_order(orders.no_processor)),
-    (2, of_order(orders.over_16_processors)),
-    (3, of_order(orders.no_job)),
-    (4, of_order(orders.over_48_jobs)),
-    (5, end_not_in_range),
-    (6, of_order(orders.due_not_in_range)),
-    (13, of_order(orders.maker_not_in_range)),
-    (19, low_above_high),
-    (7, of_order(orders.fits_no_processor)),
-)
+def rows(limits):
+    """The rows of the refusal table that are about an estimate, each with its
+    condition, in the order in which they are judged: 19 stands "after 6 and 13". A
+    condition gives the number that the refusal carries (a job's, else 0), or None."""
+    return (
+        (1, of_order(orders.no_processor)),
+        (limits.over_processors, of_order(orders.over_processors(limits))),
+        (3, of_order(orders.no_job)),
+        (limits.over_jobs, of_order(orders.over_jobs(limits))),
+        (5, end_not_in_range),
+        (6, of_order(orders.due_not_in_range)),
+        (13, of_order(orders.maker_not_in_range)),
+        (19, low_above_high),
+        (7, of_order(orders.fits_no_processor)),
+    )
 
 
-def refusal(given):
-    """None if the estimate is accepted, else the first row that applies."""
-    for number, condition in ROWS:
+def refusal(given, limits=orders.DOCK):
+    """None if the estimate is accepted from a caller of these limits, else the first
+    row that applies."""
+    for number, condition in rows(limits):
         carried = condition(given)
         if carried is not None:
             return orders.Refusal(number, carried)
@@ -171,15 +173,15 @@ def met(given, number):
     return halved(given, number)
 
 
-def least_between(given):
+def least_between(given, limits=orders.DOCK):
     """A refusal, or the two numbers."""
-    return refusal(given) or leasts(given)
+    return refusal(given, limits) or leasts(given)
 
 
-def order_between(given, number):
+def order_between(given, number, limits=orders.DOCK):
     """A refusal, the order met, or None where "a number outside the two yields no
     order"."""
-    return refusal(given) or met(given, number)
+    return refusal(given, limits) or met(given, number)
 
 
 def written(given, number, buffer):
@@ -193,21 +195,21 @@ def written(given, number, buffer):
     return found, buffer
 
 
-def told_leasts(given):
-    found = least_between(given)
+def told_leasts(given, limits=orders.DOCK):
+    found = least_between(given, limits)
     if isinstance(found, orders.Refusal):
         return answers.refused(found)
     return ["between {} {}".format(*found)]
 
 
-def told_order(given, number):
-    found = order_between(given, number)
+def told_order(given, number, limits=orders.DOCK):
+    found = order_between(given, number, limits)
     if isinstance(found, orders.Refusal):
         return answers.refused(found)
     return ["nowhere"] if found is None else answers.order_lines(found)
 
 
-def told(order, highs, number):
+def told(order, highs, number, limits=orders.DOCK):
     """The lines of the expected outputs: the two numbers, then the order met."""
     given = estimate(order, highs)
-    return told_leasts(given) + told_order(given, number)
+    return told_leasts(given, limits) + told_order(given, number, limits)

@@ -81,11 +81,11 @@ def first(held, holds):
                key=lambda one: one.number, default=None)
 
 
-def refusal(order):
-    """None if the order is accepted, else the first row that applies. A row is about
-    counts, or about a job by itself."""
+def refusal(order, limits=orders.DOCK):
+    """None if the order is accepted from a caller of these limits, else the first row
+    that applies. A row is about counts, or about a job by itself."""
     held = table(order)
-    for number, condition in orders.ROWS:
+    for number, condition in orders.rows(limits):
         if condition(order._replace(jobs=())) is not None:
             return orders.Refusal(number, 0)
         bad = first(held, lambda job: condition(

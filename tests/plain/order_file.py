@@ -68,18 +68,18 @@ def lists(data):
     return orders.order(memories, jobs)
 
 
-def read(data):
-    """The reader: an order or a refusal; "12 precedes all"."""
+def read(data, limits=orders.DOCK):
+    """The reader: an order or a refusal; "12 precedes all", whoever calls."""
     order = lists(data)
     if order is None:
         return REFUSED_12
-    return orders.refusal(order) or order
+    return orders.refusal(order, limits) or order
 
 
-def write(order, room):
+def write(order, room, limits=orders.DOCK):
     """The writer with a lent buffer of so many bytes: a file or a refusal.
     It uses rows 1 to 7, 13 and 9; row 9: below "the file's length"."""
-    refused = orders.refusal(order)
+    refused = orders.refusal(order, limits)
     if refused:
         return refused
     if room < length(order):

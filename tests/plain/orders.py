@@ -1,4 +1,4 @@
-"""An order, its limits, the end of a job, and refusals 1 to 7 and 13.
+"""An order, its limits, the end of a job, and refusals 1 to 7, 13, 20 and 21.
 
 Document 01: "A processor has a memory, 0 to 4,294,967,295. There are 1 to 16."
 "A job has a time of 1 to 100,000, a due time of -1,000,000 to 1,000,000 and a
@@ -10,6 +10,9 @@ bound plus 1 from here on, in plans, checks and staircases alike."
 Document 02, §4: "Each job gains a maker number, 1 to 16, in the record". "In
 document 01's cases the maker is 1. A maker number out of range is 13, right
 after 6 in the order".
+Document 02, §10: "A screen in boathouses calls the same planner and holds 12 jobs and
+4 processors." "the limit belongs to the call". "A screen order over 12 jobs is 20 and
+over 4 processors is 21, given in place of 4 and 2 and where those stand."
 """
 
 from collections import namedtuple
@@ -29,6 +32,12 @@ Job = namedtuple("Job", "time due need maker",
                  defaults=(MAKER_OF_DOCUMENT_01,))
 Order = namedtuple("Order", "memories jobs m n")
 Refusal = namedtuple("Refusal", "number carried")
+
+# The most processors and jobs that a caller's order may have, and the number of the
+# refusal for more of either.
+Limits = namedtuple("Limits", "processors jobs over_processors over_jobs")
+DOCK = Limits(PROCESSORS_MOST, JOBS_MOST, 2, 4)
+SCREEN = Limits(4, 12, 21, 20)
 
 
 def order(memories, jobs, m=None, n=None):
@@ -73,16 +82,16 @@ def no_processor(an_order):
     return 0 if an_order.m == 0 else None
 
 
-def over_16_processors(an_order):
-    return 0 if an_order.m > PROCESSORS_MOST else None
+def over_processors(limits):
+    return lambda an_order: 0 if an_order.m > limits.processors else None
 
 
 def no_job(an_order):
     return 0 if an_order.n == 0 else None
 
 
-def over_48_jobs(an_order):
-    return 0 if an_order.n > JOBS_MOST else None
+def over_jobs(limits):
+    return lambda an_order: 0 if an_order.n > limits.jobs else None
 
 
 def time_not_in_range(an_order):
@@ -105,24 +114,27 @@ def fits_no_processor(an_order):
         fits(job, memory) for memory in an_order.memories))
 
 
-# The rows of the refusal table that are about an order, each with its
-# condition, in the order in which they are judged: 13 stands "right after 6". A
-# condition gives the number that the refusal carries (a job's, else 0), or None.
-ROWS = (
-    (1, no_processor),
-    (2, over_16_processors),
-    (3, no_job),
-    (4, over_48_jobs),
-    (5, time_not_in_range),
-    (6, due_not_in_range),
-    (13, maker_not_in_range),
-    (7, fits_no_processor),
-)
+def rows(limits):
+    """The rows of the refusal table that are about an order, each with its condition,
+    in the order in which they are judged: 13 stands "right after 6", 20 and 21 where 4
+    and 2 stand. A condition gives the number that the refusal carries (a job's, else
+    0), or None."""
+    return (
+        (1, no_processor),
+        (limits.over_processors, over_processors(limits)),
+        (3, no_job),
+        (limits.over_jobs, over_jobs(limits)),
+        (5, time_not_in_range),
+        (6, due_not_in_range),
+        (13, maker_not_in_range),
+        (7, fits_no_processor),
+    )
 
 
-def refusal(an_order):
-    """None if the order is accepted, else the first row that applies."""
-    for number, condition in ROWS:
+def refusal(an_order, limits=DOCK):
+    """None if the order is accepted from a caller of these limits, else the first row
+    that applies."""
+    for number, condition in rows(limits):
         carried = condition(an_order)
         if carried is not None:
             return Refusal(number, carried)

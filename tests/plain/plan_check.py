@@ -18,9 +18,9 @@ def rows(numbers):
     return [tuple(numbers[i:i + 4]) for i in range(0, len(numbers), 4)]
 
 
-def refusal(order, bound, numbers):
+def refusal(order, bound, numbers, limits=orders.DOCK):
     """Rows 1 to 7 and 13, then 8, then 11."""
-    refused = orders.refusal(order)
+    refused = orders.refusal(order, limits)
     if refused:
         return refused
     if not orders.bound_in_range(bound):
@@ -30,9 +30,9 @@ def refusal(order, bound, numbers):
     return None
 
 
-def answer(order, bound, numbers):
+def answer(order, bound, numbers, limits=orders.DOCK):
     """A refusal, or True for yes and False for no."""
-    refused = refusal(order, bound, numbers)
+    refused = refusal(order, bound, numbers, limits)
     if refused:
         return refused
     return plan_rules.right(order, bound, rows(numbers))

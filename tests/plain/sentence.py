@@ -108,9 +108,9 @@ def composed(order, bound, given):
     return line(order, bound, why)
 
 
-def refusal(order, bound):
+def refusal(order, bound, limits=orders.DOCK):
     """Rows 1 to 7 and 13, then 8."""
-    refused = orders.refusal(order)
+    refused = orders.refusal(order, limits)
     if refused:
         return refused
     return None if orders.bound_in_range(bound) else orders.Refusal(8, 0)
@@ -121,9 +121,9 @@ def too_long(text, room):
     return len(text) > room
 
 
-def compose(order, bound, given, room):
+def compose(order, bound, given, room, limits=orders.DOCK):
     """A refusal, or the line written to a lent buffer of so many bytes."""
-    refused = refusal(order, bound)
+    refused = refusal(order, bound, limits)
     if refused:
         return refused
     text = composed(order, bound, given)
@@ -157,9 +157,9 @@ def same(text, data):
     return text.encode() == data
 
 
-def read_back(order, bound, data):
+def read_back(order, bound, data, limits=orders.DOCK):
     """A refusal, or the one reason whose line these bytes are, or None."""
-    refused = refusal(order, bound)
+    refused = refusal(order, bound, limits)
     if refused:
         return refused
     for why in candidates(order, bound, data):

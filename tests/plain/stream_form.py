@@ -18,6 +18,10 @@ A stream is a sequence of records; every number takes 4 bytes, little-endian
     12 classes  ORDER
     13 needs    T, then T numbers (the table), L, then L lengths, room (needs)
     14 between  ORDER, HIGHS, number (two's complement)
+    15 a screen's case: the kind of a case, then what such a case has behind its kind
+
+Every other case is a dock's. Classes and needs are no caller's: neither kind stands
+behind 15. Document 02, §10: "the limit belongs to the call".
 
 ORDER is m, n, then min(m, 16) memories, then min(n, 48) jobs as time, due, need,
 maker. A count beyond its array stands for the list of that many: the given ones,
@@ -54,6 +58,10 @@ import timed
 KINDS = {"read": 1, "check": 2, "least": 3, "plan": 4, "write": 5, "compose": 6,
          "parse": 7, "book": 8, "asked": 9, "timed": 10, "watch": 11, "classes": 12,
          "needs": 13, "between": 14}
+# The case behind this number is a screen's.
+OF_A_SCREEN = 15
+# The kinds that are no caller's.
+OF_NO_CALLER = ("classes", "needs")
 # The kinds that are given times.
 TIMED = ("asked", "timed", "watch")
 # One for each class that there can be.
@@ -65,8 +73,8 @@ WORD_COUNT = 4294967296
 # `values` are the arguments of the entry point, as answers.py takes them; of
 # `book` they are the book and its calls, as book.told takes them, of `needs` the
 # table, the lengths and the room, as needs.told takes them, of `between` the order, the
-# highs and the number, as estimate.told takes them.
-Record = namedtuple("Record", "kind values")
+# highs and the number, as estimate.told takes them. `limits` are the caller's.
+Record = namedtuple("Record", "kind values limits", defaults=(orders.DOCK,))
 Call = namedtuple("Call", "which order bound room")
 LEAST, PLAN = 1, 2
 
@@ -110,9 +118,17 @@ def pack_call(call):
             + words(call.bound, call.room))
 
 
+def pack_kind(record):
+    """What a record has before the numbers of its case."""
+    if record.limits == orders.DOCK:
+        return words(KINDS[record.kind])
+    assert record.limits == orders.SCREEN and record.kind not in OF_NO_CALLER
+    return words(OF_A_SCREEN, KINDS[record.kind])
+
+
 def pack(record):
     """The bytes of one record."""
-    head = words(KINDS[record.kind])
+    head = pack_kind(record)
     if record.kind == "read":
         data, = record.values
         return head + words(len(data)) + data
@@ -227,9 +243,11 @@ def unpack(data):
     names = {number: name for name, number in KINDS.items()}
     source, records = Source(data), []
     while True:
-        number = source.word()
+        number, limits = source.word(), orders.DOCK
         if number == 0:
             assert source.at == len(data)
             return records
+        if number == OF_A_SCREEN:
+            number, limits = source.word(), orders.SCREEN
         kind = names[number]
-        records.append(Record(kind, source.values(kind)))
+        records.append(Record(kind, source.values(kind), limits))

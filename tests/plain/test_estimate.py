@@ -58,7 +58,7 @@ class Refusals(unittest.TestCase):
                 self.assertEqual(estimate.refusal(given), (number, carried))
 
     def test_rows_in_their_order(self):
-        self.assertEqual([number for number, _ in estimate.ROWS],
+        self.assertEqual([number for number, _ in estimate.rows(orders.DOCK)],
                          [1, 2, 3, 4, 5, 6, 13, 19, 7])
         jobs = BAD_NEED, TURNED, BAD_MAKER, BAD_DUE, (1, 100001, 5, 1)
         for count, number in enumerate((7, 19, 13, 6, 5), 1):

@@ -43,7 +43,7 @@ class Refusals(unittest.TestCase):
             self.assertEqual({job.maker for job in order.jobs}, {1})
 
     def test_rows_in_their_order(self):
-        self.assertEqual([number for number, _ in orders.ROWS],
+        self.assertEqual([number for number, _ in orders.rows(orders.DOCK)],
                          [1, 2, 3, 4, 5, 6, 13, 7])
         jobs = [(1, 5, 9), (1, 5, 1, 17), (1, 1000001, 1), (0, 5, 1)]
         for count, number in enumerate((7, 13, 6, 5), 1):

@@ -189,30 +189,52 @@ class Form(unittest.TestCase):
                 "between", (many, (5,) * count, 0)))
             self.assertEqual(len(data), 4 * (3 + 16 + 4 * 48 + 48 + 1))
 
+    def test_screens_by_hand(self):
+        order = orders.order([8], [(3, -1, 8, 16)])
+        words = "01000000 01000000 08000000 03000000 ffffffff 08000000 10000000"
+        for kind, rest, wanted in (
+                ("least", (4,), f"03000000 {words} 04000000"),
+                ("plan", (-2, 4), f"04000000 {words} feffffff 04000000"),
+                ("between", ((5,), -2), f"0e000000 {words} 05000000 feffffff")):
+            for limits, head in ((orders.DOCK, ""), (orders.SCREEN, "0f000000 ")):
+                record = stream_form.Record(kind, (order, *rest), limits)
+                data = stream_form.pack(record)
+                self.assertEqual(data.hex(" ", 4), head + wanted)
+                self.assertEqual(stream_form.unpack(data + bytes(4)), [record])
+        for kind, values in (("classes", (order,)), ("needs", ([], [], 0))):
+            with self.assertRaises(AssertionError):
+                stream_form.pack(stream_form.Record(kind, values, orders.SCREEN))
+
     def test_sizes(self):
         data = cases.STORED["stdin"].read_bytes()
         self.assertLess(len(data), cases.BYTES_MOST)
         records = stream_form.unpack(data)
         self.assertEqual({record.kind for record in records}, set(stream_form.KINDS))
+        self.assertEqual({record.kind for record in records
+                          if record.limits == orders.SCREEN},
+                         set(stream_form.KINDS) - set(stream_form.OF_NO_CALLER))
         listed = cases.STORED["list"].read_text().splitlines()
         self.assertEqual(len(listed), len(records))
 
 
 class Stored(unittest.TestCase):
     def test_every_refusal_occurs(self):
-        told = {kind: set() for kind in stream_form.KINDS}
+        told = {limits: {} for limits in (orders.DOCK, orders.SCREEN)}
         for record, lines in stored():
-            told[record.kind] |= {int(line.split()[1]) for line in lines
-                                  if line.startswith("refused")}
-        of_order = {*range(1, 8), 13}
-        self.assertEqual(told, {
-            "read": {*of_order, 12}, "check": {*of_order, 8, 11},
-            "write": {*of_order, 9}, "least": {*of_order, 9},
-            "plan": {*of_order, 8, 9}, "compose": {*of_order, 8, 9},
-            "parse": {*of_order, 8}, "book": {*of_order, 8, 9, 14},
-            "asked": {*of_order, 8, 15, 16}, "timed": {*of_order, 8, 9, 15, 16},
-            "watch": {*of_order, 8, 11, 15, 16}, "classes": of_order,
-            "needs": {17, 18, 5, 9}, "between": {*of_order, 19}})
+            told[record.limits].setdefault(record.kind, set()).update(
+                int(line.split()[1]) for line in lines if line.startswith("refused"))
+        of_order, later = {*range(1, 8), 13}, {
+            "read": {12}, "check": {8, 11}, "write": {9}, "least": {9}, "plan": {8, 9},
+            "compose": {8, 9}, "parse": {8}, "book": {8, 9, 14}, "asked": {8, 15, 16},
+            "timed": {8, 9, 15, 16}, "watch": {8, 11, 15, 16}, "between": {19}}
+        self.assertEqual(told[orders.DOCK], {
+            **{kind: of_order | numbers for kind, numbers in later.items()},
+            "classes": of_order, "needs": {17, 18, 5, 9}})
+        # 11 of a check with times has over 8,064 rows, for which no screen's case is.
+        later["watch"].remove(11)
+        self.assertEqual(told[orders.SCREEN], {
+            kind: {1, 21, 3, 20, 5, 6, 13, 7} | numbers
+            for kind, numbers in later.items()})
 
     def test_a_file_of_over_844_bytes(self):
         lengths = {len(record.values[0]) for record, _ in stored()
@@ -260,7 +282,7 @@ class Stored(unittest.TestCase):
             if record.kind not in ("least", "plan"):
                 continue
             order, word = record.values[0], line.split()[0]
-            refused = held.refusal(order)
+            refused = held.refusal(order, record.limits)
             if refused:
                 self.assertEqual(line, f"refused {refused.number} {refused.carried}")
             elif word in ("tight", "meets"):

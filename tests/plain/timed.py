@@ -59,9 +59,9 @@ def refusal_of_times(given):
     return None
 
 
-def refusal(order, bound, given):
+def refusal(order, bound, given, limits=orders.DOCK):
     """Rows 1 to 7 and 13, then 15 and 16, "directly before 8", then 8."""
-    refused = orders.refusal(order) or refusal_of_times(given)
+    refused = orders.refusal(order, limits) or refusal_of_times(given)
     if refused:
         return refused
     if not orders.bound_in_range(bound):

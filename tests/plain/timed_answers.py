@@ -12,17 +12,17 @@ import timed_plan
 from answers import refused
 
 
-def asked(order, bound, given):
+def asked(order, bound, given, limits=orders.DOCK):
     """How many rows to lend."""
-    refusal = timed.refusal(order, bound, given)
+    refusal = timed.refusal(order, bound, given, limits)
     if refusal:
         return refused(refusal)
     return [f"asked {timed.rows_asked(order, bound, given)}"]
 
 
-def planner_refusal(order, bound, given, room):
+def planner_refusal(order, bound, given, room, limits=orders.DOCK):
     """Rows 1 to 7 and 13, then 15, 16 and 8, then 9."""
-    refusal = timed.refusal(order, bound, given)
+    refusal = timed.refusal(order, bound, given, limits)
     if refusal:
         return refusal
     if room // 4 < timed.rows_asked(order, bound, given):
@@ -30,9 +30,9 @@ def planner_refusal(order, bound, given, room):
     return None
 
 
-def planned(order, bound, given, room):
+def planned(order, bound, given, room, limits=orders.DOCK):
     """`meets` and what the check answers to the rows written, or `tight`."""
-    refusal = planner_refusal(order, bound, given, room)
+    refusal = planner_refusal(order, bound, given, room, limits)
     if refusal:
         return refused(refusal)
     shares = timed_plan.amounts(order, bound, given)
@@ -40,11 +40,11 @@ def planned(order, bound, given, room):
         return ["tight"]
     rows = timed_plan.plan(order, bound, given, shares)
     return ["meets", *checked(order, bound, given, [
-        number for row in rows for number in row])]
+        number for row in rows for number in row], limits)]
 
 
-def checked(order, bound, given, numbers):
-    answer = timed_check.answer(order, bound, given, numbers)
+def checked(order, bound, given, numbers, limits=orders.DOCK):
+    answer = timed_check.answer(order, bound, given, numbers, limits)
     if isinstance(answer, orders.Refusal):
         return refused(answer)
     return ["yes" if answer else "no"]

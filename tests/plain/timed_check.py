@@ -13,9 +13,9 @@ import timed_rules
 ROWS_MOST = 8064
 
 
-def refusal(order, bound, given, numbers):
+def refusal(order, bound, given, numbers, limits=orders.DOCK):
     """Rows 1 to 7 and 13, then 15, 16 and 8, then 11."""
-    refused = timed.refusal(order, bound, given)
+    refused = timed.refusal(order, bound, given, limits)
     if refused:
         return refused
     if len(plan_check.rows(numbers)) > ROWS_MOST:
@@ -23,9 +23,9 @@ def refusal(order, bound, given, numbers):
     return None
 
 
-def answer(order, bound, given, numbers):
+def answer(order, bound, given, numbers, limits=orders.DOCK):
     """A refusal, or True for yes and False for no."""
-    refused = refusal(order, bound, given, numbers)
+    refused = refusal(order, bound, given, numbers, limits)
     if refused:
         return refused
     return timed_rules.right(order, bound, given, plan_check.rows(numbers))

@@ -6,15 +6,16 @@ use estimate::Estimate;
 use estimate::Leasts;
 use estimate::Meeting;
 use estimate::OrderMet;
+use order::Caller;
 
 // An order, whose times are the lows, with its highs: the least lateness at both, and the first order met at a number.
-pub fn between_case() {
+pub fn between_case(caller: Caller) {
     let order = stream::order();
     let highs = stream::of_jobs(order.jobs);
     let number = order_file::bytes::to_signed(stream::number());
     let given = Estimate { order, highs };
-    print_leasts(estimate::between::least_between(given));
-    print_met(estimate::met::order_between(given, number));
+    print_leasts(callers::estimating::least_between_for(caller, given));
+    print_met(callers::estimating::order_between_for(caller, given, number));
 }
 
 // The line of the two numbers.

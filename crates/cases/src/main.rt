@@ -1,5 +1,5 @@
-// Runs cases through the entry points and prints what they answer. The cases and the expected lines are made by tests/plain,
-// which says the form of the stream (stream_form.py).
+// Runs cases through the entry points, each as a dock's or as a screen's, and prints what they answer. The cases and the expected
+// lines are made by tests/plain, which says the form of the stream (stream_form.py).
 mod books; // booked calls, one after the other
 mod estimating; // times known only between a low and a high
 mod filling; // needs from a table
@@ -11,15 +11,16 @@ mod timing; // the cases with ready minutes and windows
 
 use libc::STDOUT_FILENO;
 use order::Acceptance;
+use order::Caller;
 use order_file::OrderWritten;
 use plan::Checked;
 use planner::Least;
 
 // A file through the reader: the order, or the refusal.
-fn read_case() {
+fn read_case(caller: Caller) {
     let mut file = [0u8; 900];
     let n = stream::bytes(&mut file);
-    let got = order_file::read::read_order(&file[..n]);
+    let got = callers::files::read_order_for(caller, &file[..n]);
     let status = got.status;
     match status {
         Acceptance::Refused(refusal) => print::refused(refusal),
@@ -60,12 +61,12 @@ fn print_jobs(order: order::Order) {
 }
 
 // Rows through the plan check.
-fn check_case() {
+fn check_case(caller: Caller) {
     let order = stream::order();
     let bound = order_file::bytes::to_signed(stream::number());
     let mut rows = [0u32; 12104];
     let n = stream::numbers(&mut rows);
-    print_checked(plan::check::check_plan(order, bound, &rows[..n]));
+    print_checked(callers::check::check_plan_for(caller, order, bound, &rows[..n]));
 }
 
 // The line of a check.
@@ -78,7 +79,7 @@ fn print_checked(checked: Checked) {
 }
 
 // An order through the writer, in a buffer of the stated length; beyond what is written the buffer keeps its bytes.
-fn write_case() {
+fn write_case(caller: Caller) {
     let order = stream::order();
     let room = stream::number() as usize;
     if 900 < room {
@@ -86,7 +87,7 @@ fn write_case() {
     }
     let mut out = [170u8; 900];
     let mut written: usize = 0;
-    match order_file::write::write_order(order, &mut out[..room]) {
+    match callers::files::write_order_for(caller, order, &mut out[..room]) {
         OrderWritten::Bytes(n) => {
             written = n;
             print_file(out, n);
@@ -120,14 +121,14 @@ fn print_changes(out: [u8; 900], written: usize) {
 }
 
 // The least lateness, with a row buffer of the stated length.
-fn least_case() {
+fn least_case(caller: Caller) {
     let order = stream::order();
     let room = stream::number() as usize;
     if 12104 < room {
         return;
     }
     let mut rows = [0u32; 12104];
-    print_least(planner::lateness::least_lateness(order, &mut rows[..room]));
+    print_least(callers::planning::least_lateness_for(caller, order, &mut rows[..room]));
 }
 
 // The line of a least lateness.
@@ -143,7 +144,7 @@ fn print_least(least: Least) {
 }
 
 // A plan at a bound, with a row buffer of the stated length.
-fn plan_case() {
+fn plan_case(caller: Caller) {
     let order = stream::order();
     let bound = order_file::bytes::to_signed(stream::number());
     let room = stream::number() as usize;
@@ -151,27 +152,37 @@ fn plan_case() {
         return;
     }
     let mut rows = [0u32; 12104];
-    print::planned(planner::bound::plan_at(order, bound, &mut rows[..room]));
+    print::planned(callers::planning::plan_at_for(caller, order, bound, &mut rows[..room]));
+}
+
+// A case of this kind, run as this caller's; nothing at any other kind.
+fn run_case(kind: u32, caller: Caller) {
+    match kind {
+        1 => read_case(caller),
+        2 => check_case(caller),
+        3 => least_case(caller),
+        4 => plan_case(caller),
+        5 => write_case(caller),
+        6 => sentences::compose_case(caller),
+        7 => sentences::parse_case(caller),
+        8 => books::book_case(caller),
+        9 => timing::asked_case(caller),
+        10 => timing::timed_case(caller),
+        11 => timing::watch_case(caller),
+        14 => estimating::between_case(caller),
+        _ => return,
+    }
 }
 
 fn main() {
     for k in 0..1000000u32 {
-        match stream::number() {
-            1 => read_case(),
-            2 => check_case(),
-            3 => least_case(),
-            4 => plan_case(),
-            5 => write_case(),
-            6 => sentences::compose_case(),
-            7 => sentences::parse_case(),
-            8 => books::book_case(),
-            9 => timing::asked_case(),
-            10 => timing::timed_case(),
-            11 => timing::watch_case(),
+        let kind = stream::number();
+        match kind {
+            0 => return,
             12 => listing::classes_case(),
             13 => filling::needs_case(),
-            14 => estimating::between_case(),
-            _ => return,
+            15 => run_case(stream::number(), Caller::Screen),
+            _ => run_case(kind, Caller::Dock),
         }
     }
 }

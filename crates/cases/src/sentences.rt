@@ -3,13 +3,14 @@ use super::print;
 use super::print_changes;
 use super::stream;
 use order::Acceptance;
+use order::Caller;
 use reason::Reason;
 use reason::Tightness;
 use reason::Why;
 use sentence::Composed;
 
 // A reason through composing, in a buffer of the stated length; beyond what is written the buffer keeps its bytes.
-pub fn compose_case() {
+pub fn compose_case(caller: Caller) {
     let order = stream::order();
     let bound = order_file::bytes::to_signed(stream::number());
     let why = stream::why();
@@ -19,7 +20,7 @@ pub fn compose_case() {
     }
     let mut out = [170u8; 900];
     let mut written: usize = 0;
-    match sentence::compose::compose(order, bound, why, &mut out[..room]) {
+    match callers::telling::compose_for(caller, order, bound, why, &mut out[..room]) {
         Composed::Length(n) => {
             written = n as usize;
             print_line(out, n);
@@ -44,12 +45,12 @@ fn print_line(out: [u8; 900], n: u32) {
 }
 
 // A line through reading back: its reason, or the refusal.
-pub fn parse_case() {
+pub fn parse_case(caller: Caller) {
     let order = stream::order();
     let bound = order_file::bytes::to_signed(stream::number());
     let mut line = [0u8; 900];
     let n = stream::bytes(&mut line);
-    let got = sentence::recover::read_back(order, bound, &line[..n]);
+    let got = callers::telling::read_back_for(caller, order, bound, &line[..n]);
     let status = got.status;
     match status {
         Acceptance::Refused(refusal) => print::refused(refusal),

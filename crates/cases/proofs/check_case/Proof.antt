@@ -9,7 +9,6 @@ use Rattle.cases.proofs.stream.number.Reads as number-reads
 use Rattle.cases.proofs.stream.numbers.Reads as numbers-reads
 use Rattle.cases.proofs.stream.order.Reads as order-reads
 use Rattle.order_file.proofs.bytes.to_signed.Reads as to-signed-reads
-use Rattle.plan.proofs.check.check_plan.Reads as check-plan-reads
 
 order-requires : tie.Need-order-requires
 order-requires c κs = search needs
@@ -29,11 +28,11 @@ numbers-requires c κs = search needs
 array-share-prefix-rows : tie.Need-array-share-prefix-rows
 array-share-prefix-rows c = search needs
 
-slice-aggregate-check-plan : tie.Need-slice-aggregate-check-plan
-slice-aggregate-check-plan c = simp length-take (omega arith)
+slice-aggregate-check-plan-for : tie.Need-slice-aggregate-check-plan-for
+slice-aggregate-check-plan-for c = simp length-take (omega arith)
 
-check-plan-requires : tie.Need-check-plan-requires
-check-plan-requires c κs = search needs
+check-plan-for-requires : tie.Need-check-plan-for-requires
+check-plan-for-requires c κs = search needs
 
 print-checked-requires : tie.Need-print-checked-requires
 print-checked-requires c κs = search needs
@@ -51,7 +50,7 @@ check-case-spec =
     slice-aggregate-numbers
     numbers-requires
     array-share-prefix-rows
-    slice-aggregate-check-plan
-    check-plan-requires
+    slice-aggregate-check-plan-for
+    check-plan-for-requires
     print-checked-requires
     returns)

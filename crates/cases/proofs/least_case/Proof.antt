@@ -19,11 +19,11 @@ returns c = search needs
 array-borrow-prefix-rows : tie.Need-array-borrow-prefix-rows
 array-borrow-prefix-rows c = search needs
 
-slice-aggregate-least-lateness : tie.Need-slice-aggregate-least-lateness
-slice-aggregate-least-lateness c = simp length-take (omega arith)
+slice-aggregate-least-lateness-for : tie.Need-slice-aggregate-least-lateness-for
+slice-aggregate-least-lateness-for c = simp length-take (omega arith)
 
-least-lateness-requires : tie.Need-least-lateness-requires
-least-lateness-requires c κs = search needs
+least-lateness-for-requires : tie.Need-least-lateness-for-requires
+least-lateness-for-requires c κs = search needs
 
 print-least-requires : tie.Need-print-least-requires
 print-least-requires c κs = search needs
@@ -40,7 +40,7 @@ least-case-spec =
     cast-room
     returns
     array-borrow-prefix-rows
-    slice-aggregate-least-lateness
-    least-lateness-requires
+    slice-aggregate-least-lateness-for
+    least-lateness-for-requires
     print-least-requires
     returns-2)

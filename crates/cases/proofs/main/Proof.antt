@@ -15,38 +15,8 @@ loop-holds c = search needs
 number-requires : tie.Need-number-requires Inv-loop μ-loop
 number-requires c κs = search needs
 
-read-case-requires : tie.Need-read-case-requires Inv-loop μ-loop
-read-case-requires c κs = search needs
-
-check-case-requires : tie.Need-check-case-requires Inv-loop μ-loop
-check-case-requires c κs = search needs
-
-least-case-requires : tie.Need-least-case-requires Inv-loop μ-loop
-least-case-requires c κs = search needs
-
-plan-case-requires : tie.Need-plan-case-requires Inv-loop μ-loop
-plan-case-requires c κs = search needs
-
-write-case-requires : tie.Need-write-case-requires Inv-loop μ-loop
-write-case-requires c κs = search needs
-
-compose-case-requires : tie.Need-compose-case-requires Inv-loop μ-loop
-compose-case-requires c κs = search needs
-
-parse-case-requires : tie.Need-parse-case-requires Inv-loop μ-loop
-parse-case-requires c κs = search needs
-
-book-case-requires : tie.Need-book-case-requires Inv-loop μ-loop
-book-case-requires c κs = search needs
-
-asked-case-requires : tie.Need-asked-case-requires Inv-loop μ-loop
-asked-case-requires c κs = search needs
-
-timed-case-requires : tie.Need-timed-case-requires Inv-loop μ-loop
-timed-case-requires c κs = search needs
-
-watch-case-requires : tie.Need-watch-case-requires Inv-loop μ-loop
-watch-case-requires c κs = search needs
+returns : tie.Need-returns Inv-loop μ-loop
+returns c = search needs
 
 classes-case-requires : tie.Need-classes-case-requires Inv-loop μ-loop
 classes-case-requires c κs = search needs
@@ -54,11 +24,14 @@ classes-case-requires c κs = search needs
 needs-case-requires : tie.Need-needs-case-requires Inv-loop μ-loop
 needs-case-requires c κs = search needs
 
-between-case-requires : tie.Need-between-case-requires Inv-loop μ-loop
-between-case-requires c κs = search needs
+number-requires-2 : tie.Need-number-requires-2 Inv-loop μ-loop
+number-requires-2 c κs = search needs
 
-returns : tie.Need-returns Inv-loop μ-loop
-returns c = search needs
+run-case-requires : tie.Need-run-case-requires Inv-loop μ-loop
+run-case-requires c κs = search needs
+
+run-case-requires-2 : tie.Need-run-case-requires-2 Inv-loop μ-loop
+run-case-requires-2 c κs = search needs
 
 add-k : tie.Need-add-k Inv-loop μ-loop
 add-k c = search needs
@@ -80,21 +53,12 @@ main-spec =
     μ-loop
     loop-holds
     number-requires
-    read-case-requires
-    check-case-requires
-    least-case-requires
-    plan-case-requires
-    write-case-requires
-    compose-case-requires
-    parse-case-requires
-    book-case-requires
-    asked-case-requires
-    timed-case-requires
-    watch-case-requires
+    returns
     classes-case-requires
     needs-case-requires
-    between-case-requires
-    returns
+    number-requires-2
+    run-case-requires
+    run-case-requires-2
     add-k
     loop-less
     loop-again

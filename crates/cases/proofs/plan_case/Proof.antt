@@ -9,7 +9,6 @@ use Rattle.cases.proofs.stream.number.Reads as number-reads
 use Rattle.cases.proofs.stream.order.Reads as order-reads
 use Rattle.cases.proofs.print.planned.Reads as planned-reads
 use Rattle.order_file.proofs.bytes.to_signed.Reads as to-signed-reads
-use Rattle.planner.proofs.bound.plan_at.Reads as plan-at-reads
 
 order-requires : tie.Need-order-requires
 order-requires c κs = search needs
@@ -32,11 +31,11 @@ returns c = search needs
 array-borrow-prefix-rows : tie.Need-array-borrow-prefix-rows
 array-borrow-prefix-rows c = search needs
 
-slice-aggregate-plan-at : tie.Need-slice-aggregate-plan-at
-slice-aggregate-plan-at c = simp length-take (omega arith)
+slice-aggregate-plan-at-for : tie.Need-slice-aggregate-plan-at-for
+slice-aggregate-plan-at-for c = simp length-take (omega arith)
 
-plan-at-requires : tie.Need-plan-at-requires
-plan-at-requires c κs = search needs
+plan-at-for-requires : tie.Need-plan-at-for-requires
+plan-at-for-requires c κs = search needs
 
 planned-requires : tie.Need-planned-requires
 planned-requires c κs = search needs
@@ -55,7 +54,7 @@ plan-case-spec =
     cast-room
     returns
     array-borrow-prefix-rows
-    slice-aggregate-plan-at
-    plan-at-requires
+    slice-aggregate-plan-at-for
+    plan-at-for-requires
     planned-requires
     returns-2)

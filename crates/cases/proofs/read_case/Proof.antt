@@ -8,7 +8,6 @@ use Rattle.cases.proofs.read_case.Lts as lts
 use Rattle.cases.proofs.print_order.Reads as print-order-reads
 use Rattle.cases.proofs.stream.bytes.Reads as bytes-reads
 use Rattle.cases.proofs.print.refused.Reads as refused-reads
-use Rattle.order_file.proofs.read.read_order.Reads as read-order-reads
 
 slice-aggregate-bytes : tie.Need-slice-aggregate-bytes
 slice-aggregate-bytes c = search needs
@@ -19,11 +18,11 @@ bytes-requires c κs = search needs
 array-share-prefix-file : tie.Need-array-share-prefix-file
 array-share-prefix-file c = search needs
 
-slice-aggregate-read-order : tie.Need-slice-aggregate-read-order
-slice-aggregate-read-order c = simp length-take (omega arith)
+slice-aggregate-read-order-for : tie.Need-slice-aggregate-read-order-for
+slice-aggregate-read-order-for c = simp length-take (omega arith)
 
-read-order-requires : tie.Need-read-order-requires
-read-order-requires c κs = search needs
+read-order-for-requires : tie.Need-read-order-for-requires
+read-order-for-requires c κs = search needs
 
 enum-known-status : tie.Need-enum-known-status
 enum-known-status c = search needs
@@ -50,8 +49,8 @@ read-case-spec =
     slice-aggregate-bytes
     bytes-requires
     array-share-prefix-file
-    slice-aggregate-read-order
-    read-order-requires
+    slice-aggregate-read-order-for
+    read-order-for-requires
     enum-known-status
     refused-requires
     enum-told

@@ -10,7 +10,6 @@ use Rattle.cases.proofs.print_file.Reads as print-file-reads
 use Rattle.cases.proofs.stream.number.Reads as number-reads
 use Rattle.cases.proofs.stream.order.Reads as order-reads
 use Rattle.cases.proofs.print.refused.Reads as refused-reads
-use Rattle.order_file.proofs.write.write_order.Reads as write-order-reads
 
 order-requires : tie.Need-order-requires
 order-requires c κs = search needs
@@ -27,11 +26,11 @@ returns c = search needs
 array-borrow-prefix-out : tie.Need-array-borrow-prefix-out
 array-borrow-prefix-out c = search needs
 
-slice-aggregate-write-order : tie.Need-slice-aggregate-write-order
-slice-aggregate-write-order c = simp length-take (omega arith)
+slice-aggregate-write-order-for : tie.Need-slice-aggregate-write-order-for
+slice-aggregate-write-order-for c = simp length-take (omega arith)
 
-write-order-requires : tie.Need-write-order-requires
-write-order-requires c κs = search needs
+write-order-for-requires : tie.Need-write-order-for-requires
+write-order-for-requires c κs = search needs
 
 enum-known-n : tie.Need-enum-known-n
 enum-known-n c = search needs
@@ -60,8 +59,8 @@ write-case-spec =
     cast-room
     returns
     array-borrow-prefix-out
-    slice-aggregate-write-order
-    write-order-requires
+    slice-aggregate-write-order-for
+    write-order-for-requires
     enum-known-n
     print-file-requires
     enum-known-refusal

@@ -4,10 +4,10 @@ use Rattle.cases.proofs.books.book_case.Statement.{statement}
 use Rattle.cases.proofs.books.book_case.Tie as tie
 
 abbrev Inv-loop : tie.InvT-loop
-Inv-loop book₀ calls k₀ book k = k ≤ calls
+Inv-loop caller book₀ calls k₀ book k = k ≤ calls
 
 abbrev μ-loop : tie.MeasureT-loop
-μ-loop book₀ calls k₀ book k = calls - k
+μ-loop caller book₀ calls k₀ book k = calls - k
 
 book-requires : tie.Need-book-requires Inv-loop μ-loop
 book-requires c κs = search needs

@@ -22,11 +22,11 @@ returns c = search needs
 array-borrow-prefix-rows : tie.Need-array-borrow-prefix-rows
 array-borrow-prefix-rows c = search needs
 
-slice-aggregate-least-booked : tie.Need-slice-aggregate-least-booked
-slice-aggregate-least-booked c = simp length-take (omega arith)
+slice-aggregate-least-booked-for : tie.Need-slice-aggregate-least-booked-for
+slice-aggregate-least-booked-for c = simp length-take (omega arith)
 
-least-booked-requires : tie.Need-least-booked-requires
-least-booked-requires c κs = search needs
+least-booked-for-requires : tie.Need-least-booked-for-requires
+least-booked-for-requires c κs = search needs
 
 print-least-requires : tie.Need-print-least-requires
 print-least-requires c κs = search needs
@@ -47,8 +47,8 @@ least-call-spec =
     cast-room
     returns
     array-borrow-prefix-rows
-    slice-aggregate-least-booked
-    least-booked-requires
+    slice-aggregate-least-booked-for
+    least-booked-for-requires
     print-least-requires
     print-book-requires
     returns-2)

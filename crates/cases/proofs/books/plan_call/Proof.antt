@@ -25,11 +25,11 @@ returns c = search needs
 array-borrow-prefix-rows : tie.Need-array-borrow-prefix-rows
 array-borrow-prefix-rows c = search needs
 
-slice-aggregate-plan-booked : tie.Need-slice-aggregate-plan-booked
-slice-aggregate-plan-booked c = simp length-take (omega arith)
+slice-aggregate-plan-booked-for : tie.Need-slice-aggregate-plan-booked-for
+slice-aggregate-plan-booked-for c = simp length-take (omega arith)
 
-plan-booked-requires : tie.Need-plan-booked-requires
-plan-booked-requires c κs = search needs
+plan-booked-for-requires : tie.Need-plan-booked-for-requires
+plan-booked-for-requires c κs = search needs
 
 planned-requires : tie.Need-planned-requires
 planned-requires c κs = search needs
@@ -51,8 +51,8 @@ plan-call-spec =
     cast-room
     returns
     array-borrow-prefix-rows
-    slice-aggregate-plan-booked
-    plan-booked-requires
+    slice-aggregate-plan-booked-for
+    plan-booked-for-requires
     planned-requires
     print-book-requires
     returns-2)

@@ -12,7 +12,6 @@ use Rattle.cases.proofs.stream.number.Reads as number-reads
 use Rattle.cases.proofs.stream.order.Reads as order-reads
 use Rattle.cases.proofs.stream.why.Reads as why-reads
 use Rattle.order_file.proofs.bytes.to_signed.Reads as to-signed-reads
-use Rattle.sentence.proofs.compose.compose.Reads as compose-reads
 
 order-requires : tie.Need-order-requires
 order-requires c κs = search needs
@@ -38,11 +37,11 @@ returns c = search needs
 array-borrow-prefix-out : tie.Need-array-borrow-prefix-out
 array-borrow-prefix-out c = search needs
 
-slice-aggregate-compose : tie.Need-slice-aggregate-compose
-slice-aggregate-compose c = simp length-take (omega arith)
+slice-aggregate-compose-for : tie.Need-slice-aggregate-compose-for
+slice-aggregate-compose-for c = simp length-take (omega arith)
 
-compose-requires : tie.Need-compose-requires
-compose-requires c κs = search needs
+compose-for-requires : tie.Need-compose-for-requires
+compose-for-requires c κs = search needs
 
 enum-known-n : tie.Need-enum-known-n
 enum-known-n c = search needs
@@ -77,8 +76,8 @@ compose-case-spec =
     cast-room
     returns
     array-borrow-prefix-out
-    slice-aggregate-compose
-    compose-requires
+    slice-aggregate-compose-for
+    compose-for-requires
     enum-known-n
     cast-written
     print-line-requires

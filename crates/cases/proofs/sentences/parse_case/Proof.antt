@@ -11,7 +11,6 @@ use Rattle.cases.proofs.stream.bytes.Reads as bytes-reads
 use Rattle.cases.proofs.stream.number.Reads as number-reads
 use Rattle.cases.proofs.stream.order.Reads as order-reads
 use Rattle.order_file.proofs.bytes.to_signed.Reads as to-signed-reads
-use Rattle.sentence.proofs.recover.read_back.Reads as read-back-reads
 
 order-requires : tie.Need-order-requires
 order-requires c κs = search needs
@@ -31,11 +30,11 @@ bytes-requires c κs = search needs
 array-share-prefix-line : tie.Need-array-share-prefix-line
 array-share-prefix-line c = search needs
 
-slice-aggregate-read-back : tie.Need-slice-aggregate-read-back
-slice-aggregate-read-back c = simp length-take (omega arith)
+slice-aggregate-read-back-for : tie.Need-slice-aggregate-read-back-for
+slice-aggregate-read-back-for c = simp length-take (omega arith)
 
-read-back-requires : tie.Need-read-back-requires
-read-back-requires c κs = search needs
+read-back-for-requires : tie.Need-read-back-for-requires
+read-back-for-requires c κs = search needs
 
 enum-known-status : tie.Need-enum-known-status
 enum-known-status c = search needs
@@ -65,8 +64,8 @@ parse-case-spec =
     slice-aggregate-bytes
     bytes-requires
     array-share-prefix-line
-    slice-aggregate-read-back
-    read-back-requires
+    slice-aggregate-read-back-for
+    read-back-for-requires
     enum-known-status
     refused-requires
     enum-told

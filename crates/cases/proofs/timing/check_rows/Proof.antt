@@ -10,11 +10,11 @@ mul-n c = search needs
 returns : tie.Need-returns
 returns c = search needs
 
-slice-aggregate-check-timed : tie.Need-slice-aggregate-check-timed
-slice-aggregate-check-timed c = simp length-take (omega arith)
+slice-aggregate-check-timed-for : tie.Need-slice-aggregate-check-timed-for
+slice-aggregate-check-timed-for c = simp length-take (omega arith)
 
-check-timed-requires : tie.Need-check-timed-requires
-check-timed-requires c κs = search needs
+check-timed-for-requires : tie.Need-check-timed-for-requires
+check-timed-for-requires c κs = search needs
 
 print-checked-requires : tie.Need-print-checked-requires
 print-checked-requires c κs = search needs
@@ -28,7 +28,7 @@ check-rows-spec =
     (tie.spec
     mul-n
     returns
-    slice-aggregate-check-timed
-    check-timed-requires
+    slice-aggregate-check-timed-for
+    check-timed-for-requires
     print-checked-requires
     returns-2)

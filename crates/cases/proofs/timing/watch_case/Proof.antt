@@ -25,11 +25,11 @@ numbers-requires c κs = search needs
 array-share-prefix-rows : tie.Need-array-share-prefix-rows
 array-share-prefix-rows c = search needs
 
-slice-aggregate-check-timed : tie.Need-slice-aggregate-check-timed
-slice-aggregate-check-timed c = simp length-take (omega arith)
+slice-aggregate-check-timed-for : tie.Need-slice-aggregate-check-timed-for
+slice-aggregate-check-timed-for c = simp length-take (omega arith)
 
-check-timed-requires : tie.Need-check-timed-requires
-check-timed-requires c κs = search needs
+check-timed-for-requires : tie.Need-check-timed-for-requires
+check-timed-for-requires c κs = search needs
 
 print-checked-requires : tie.Need-print-checked-requires
 print-checked-requires c κs = search needs
@@ -48,7 +48,7 @@ watch-case-spec =
     slice-aggregate-numbers
     numbers-requires
     array-share-prefix-rows
-    slice-aggregate-check-timed
-    check-timed-requires
+    slice-aggregate-check-timed-for
+    check-timed-for-requires
     print-checked-requires
     returns)
