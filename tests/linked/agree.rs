@@ -4,7 +4,8 @@
 //! laid out, its files against their reader, its two readers of lines against each other, its books
 //! against the orders, its two ways to list classes against each other, its plans with ready minutes
 //! and windows against a search with them, its tables of needs against their ends, all that it finds
-//! against the same with the jobs by falling need, its walks from lows to highs against the same halved.
+//! against the same with the jobs by falling need, its walks from lows to highs against the same halved, and
+//! its refusals for a screen against those for the dock.
 
 mod books;
 mod classes;
@@ -12,6 +13,7 @@ mod estimates;
 mod held;
 mod joins;
 pub mod needs;
+mod screen;
 mod times;
 
 use crate::draw::held::HELD_FAMILIES;
@@ -64,7 +66,10 @@ pub fn run(small: u64, large: u64) -> Result<u64, String> {
         let order = family(&mut random);
         estimates::agree(&mut random, &order)?;
     }
-    Ok(2 * (small + small / 2) + large + small / 10 + small / 4)
+    for seed in 0..small / 2 {
+        screen::agree(&mut Random::new(seed), seed)?;
+    }
+    Ok(2 * (small + small / 2) + large + small / 10 + small / 4 + small / 2)
 }
 
 fn agrees(order: &Order) -> Result<(), String> {

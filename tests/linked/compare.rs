@@ -147,7 +147,7 @@ fn wrong_rows(made: &Made, numbers: &[u32]) -> Option<String> {
 }
 
 /// The first place at which a buffer, guards included, is not as it should be.
-fn unequal(should: &Call, is: &Call) -> Option<String> {
+pub fn unequal(should: &Call, is: &Call) -> Option<String> {
     let buffers = [
         ("file", is.file.unequal_at(&should.file)),
         ("memories", is.memories.unequal_at(&should.memories)),

@@ -1,5 +1,5 @@
 //! Seeded draws: the same seed gives the same memories, orders, files, row lists, reasons, lines,
-//! books, times, tables of needs, estimates and buffers on every machine.
+//! books, times, tables of needs, estimates, counts around the callers' limits and buffers on every machine.
 
 pub mod books;
 pub mod bounds;
@@ -17,6 +17,7 @@ pub mod needs;
 pub mod orders;
 mod packed;
 pub mod reasons;
+pub mod screen;
 pub mod sharp;
 pub mod times;
 

@@ -1,12 +1,12 @@
 //! What a call must answer, wholly by the independent implementation. "Of several refusals that
 //! apply the first is told": 255, 254 or 253, 12, then 1 to 11 upwards with 13 right after 6, 19 after it, 15
 //! and 16 right before 8, and 14 last of all; but 253 of ready minutes and windows and of highs comes after
-//! 12, and 17 and 18 of a table of needs before 5.
+//! 12, and 17 and 18 of a table of needs before 5. From a screen 21 stands for 2 and 20 for 4.
 
 mod estimates;
 mod times;
 
-use crate::independent::{self, Job, Order, Reason, Refusal, Times, MAKERS, MOST_ROWS};
+use crate::independent::{self, Job, Limits, Order, Reason, Refusal, Times, MAKERS, MOST_ROWS};
 use crate::lent::Call;
 use crate::library::{Function, CLASS_NUMBERS, MOST_LENGTHS, REASON_NUMBERS};
 use estimates::{estimated, Estimated};
@@ -40,29 +40,36 @@ pub enum Expected {
     Order(Vec<u8>),
 }
 
-/// The order of the file that was read last, its least lateness once that was asked for, and what was
-/// found of the highs that were lent with it last.
+/// The order of the file that was read last, by the limits of the caller who read it, its least lateness once
+/// that was asked for, and what was found of the highs that were lent with it last.
 pub struct Known {
     file: Vec<u8>,
+    limits: &'static Limits,
     order: Result<Order, Refusal>,
     least: Option<i32>,
     estimated: Option<Estimated>,
 }
 
 impl Known {
-    pub fn of(file: &[u8]) -> Known {
+    pub fn of(limits: &'static Limits, file: &[u8]) -> Known {
         Known {
             file: file.to_vec(),
-            order: independent::read(file),
+            limits,
+            order: independent::read_within(limits, file),
             least: None,
             estimated: None,
         }
     }
 
-    /// Turns to this file.
-    pub fn turn_to(&mut self, file: &[u8]) {
+    /// Turns to this file and to a caller with these limits. The least lateness is the order's own, whoever
+    /// asks for it.
+    pub fn turn_to(&mut self, limits: &'static Limits, file: &[u8]) {
         if self.file != file {
-            *self = Known::of(file);
+            *self = Known::of(limits, file);
+        }
+        if self.limits != limits {
+            self.limits = limits;
+            self.order = independent::read_within(limits, file);
         }
     }
 
@@ -80,8 +87,10 @@ impl Known {
     }
 }
 
-/// What the function must do with what it is lent.
+/// What the function must do with what it is lent: what the dock's of the same parameters must, by the limits
+/// of its own caller.
 pub fn expected(function: Function, call: &Call, known: &mut Known) -> Expected {
+    let (limits, function) = (function.limits(), function.at_dock());
     if call.answer.len() < function.answer_length() {
         return refused(255, 0);
     }
@@ -106,7 +115,7 @@ pub fn expected(function: Function, call: &Call, known: &mut Known) -> Expected 
     if function.takes_highs() {
         return estimated(function, call, known);
     }
-    known.turn_to(call.file.content());
+    known.turn_to(limits, call.file.content());
     match refusal(function, call, known) {
         Some(refusal) => Expected::Refused(refusal),
         None => answer(function, call, known),
@@ -223,6 +232,12 @@ fn answer(function: Function, call: &Call, known: &mut Known) -> Expected {
             timed(function, call, known)
         }
         Function::Between | Function::BetweenOrder => estimated(function, call, known),
+        Function::ScreenJudge
+        | Function::ScreenLeast
+        | Function::ScreenPlan
+        | Function::ScreenReason
+        | Function::ScreenSentence
+        | Function::ScreenCheck => answer(function.at_dock(), call, known),
     }
 }
 

@@ -1,8 +1,8 @@
 //! Document 01's "Orders to try", the small examples of its refusal table and its order file of C,
 //! with the values that stand there, the leasts and the bounds one lower as document 02's §3 has
 //! them, each job of maker 1 as its §4 has it; the lines, the joined rows, the ends, the makers, the
-//! books, the classes, the ready minutes and windows, the needs, the jobs held by need, and the lows and
-//! highs of document 02 in `fixed/`.
+//! books, the classes, the ready minutes and windows, the needs, the jobs held by need, the lows and highs,
+//! and the screen's orders of document 02 in `fixed/`.
 
 mod books;
 mod classes;
@@ -16,6 +16,8 @@ mod lines;
 mod makers;
 mod needs;
 mod others;
+mod replies;
+mod screen;
 mod times;
 mod untimed;
 
@@ -70,7 +72,8 @@ fn d() -> Order {
 }
 
 /// Puts all fixed cases before the library, but those with ready minutes and windows, those with a table
-/// of needs, those of jobs that lie elsewhere than they are given and those of lows and highs.
+/// of needs, those of jobs that lie elsewhere than they are given, those of lows and highs and those of a
+/// screen.
 pub fn run(trial: &mut Trial) {
     trial.begin("document 01", 0);
     lateness(trial);
@@ -120,6 +123,13 @@ pub fn run_estimates(trial: &mut Trial) {
     highs::run(trial);
 }
 
+/// Puts the cases of a screen's orders before the library, from both callers.
+pub fn run_screen(trial: &mut Trial) {
+    trial.begin("document 02, the club screen", 0);
+    screen::run(trial);
+    replies::run(trial);
+}
+
 /// A call on the order's file, all of whose buffers are long enough, with a book just opened; jobs are
 /// there from the start on, processors always open, and times known.
 fn on(random: &mut Random, order: &Order) -> Call {
@@ -146,11 +156,21 @@ fn on_with_room(random: &mut Random, order: &Order, numbers: usize) -> Call {
 
 /// Compares a call with the result and the first numbers of the answer that the document gives.
 fn case(trial: &mut Trial, function: Function, call: Call, result: u32, answer: &[i32]) {
-    let Some((told, after)) = trial.call(function, call) else {
-        return;
-    };
+    if let Some(reply) = trial.call(function, call) {
+        compare(trial, function, &reply, result, answer);
+    }
+}
+
+/// The same of a call that was made.
+fn compare(
+    trial: &mut Trial,
+    function: Function,
+    (told, after): &(u32, Call),
+    result: u32,
+    answer: &[i32],
+) {
     let numbers = after.answer.content();
-    if told != result || !numbers.starts_with(answer) {
+    if *told != result || !numbers.starts_with(answer) {
         let (name, bound) = (function.name(), after.bound);
         let is = format!("result {told}, answer {numbers:?}");
         trial.differs(format!(

@@ -1,8 +1,8 @@
 //! Documents 01 and 02 in plain Rust, made apart from the proved code and from their text alone:
 //! orders, order files, classes, right plans and their joining, the least lateness, reasons and their
 //! lines, books, plans with ready minutes and windows, needs from a table, jobs by falling need, times known
-//! only between two numbers. Whether a bound is met is decided by a maximum flow, never by the staircase
-//! sums, so that each of the two can be held against the other.
+//! only between two numbers, the limits of dock and screen. Whether a bound is met is decided by a maximum
+//! flow, never by the staircase sums, so that each of the two can be held against the other.
 
 // a program that takes this module in may use only a part of it
 #![allow(dead_code, unused_imports)]
@@ -25,6 +25,8 @@ mod flow;
 mod held;
 #[path = "independent/join.rs"]
 mod join;
+#[path = "independent/limits.rs"]
+mod limits;
 #[path = "independent/needs.rs"]
 mod needs;
 #[path = "independent/order_file.rs"]
@@ -46,7 +48,7 @@ mod times;
 #[path = "independent/wrap.rs"]
 mod wrap;
 
-pub use accept::{fits, is_due, is_made, is_time, judge, judge_counts};
+pub use accept::{fits, is_due, is_made, is_time, judge, judge_counts, judge_within};
 pub use amounts::{amounts, least, least_between, meets, plan};
 pub use book::{booked, minutes_of, MAKERS, MOST_BOOKED};
 pub use classes::{class_list, Classes};
@@ -54,11 +56,12 @@ pub use clip::{clipped, clipped_to, joins, joins_over};
 pub use estimate::{first_met, judge_estimate, leasts, met_by_halving, walk, Estimate};
 pub use held::{held, order_of, times_of, Held};
 pub use join::{join, joined};
+pub use limits::{Limits, DOCK, SCREEN};
 pub use needs::{
     counted_lines, good_line, is_length, judge_lengths, judge_lines, meets_length, need_of,
     needs_of, times_met, Line, LONGEST_LENGTH, TABLE_LINES,
 };
-pub use order_file::{lists, read, write};
+pub use order_file::{lists, read, read_within, write};
 pub use pairs::{join_pairs, left_to_join};
 pub use reading::{read_back, read_by_form, read_by_trying, taken_apart, true_of, Said, Sentence};
 pub use reasons::{overfull, reason, reason_by_table, reason_by_trying, staircases};

@@ -1,6 +1,7 @@
-//! The seventeen functions of the header: what they are called, how long their answers are, which
-//! refusals each can give, and a library as seventeen entries of one form.
+//! The twenty-three functions of the header: what they are called, how long their answers are, which
+//! refusals each can give, by whose limits each judges, and a library as twenty-three entries of one form.
 
+use crate::independent::{Limits, DOCK, SCREEN};
 use crate::lent::Call;
 
 #[derive(Clone, Copy, Debug, PartialEq)]
@@ -22,9 +23,15 @@ pub enum Function {
     Between,
     BetweenOrder,
     Write,
+    ScreenJudge,
+    ScreenLeast,
+    ScreenPlan,
+    ScreenReason,
+    ScreenSentence,
+    ScreenCheck,
 }
 
-pub const FUNCTIONS: [Function; 17] = [
+pub const FUNCTIONS: [Function; 23] = [
     Function::Judge,
     Function::Classes,
     Function::Least,
@@ -42,9 +49,15 @@ pub const FUNCTIONS: [Function; 17] = [
     Function::Between,
     Function::BetweenOrder,
     Function::Write,
+    Function::ScreenJudge,
+    Function::ScreenLeast,
+    Function::ScreenPlan,
+    Function::ScreenReason,
+    Function::ScreenSentence,
+    Function::ScreenCheck,
 ];
 
-/// Those that read an order file.
+/// Those of the dock that read an order file.
 pub const READERS: [Function; 15] = [
     Function::Judge,
     Function::Classes,
@@ -72,6 +85,16 @@ pub const TIMED: [Function; 3] = [
 
 /// Those that take highs.
 pub const ESTIMATED: [Function; 2] = [Function::Between, Function::BetweenOrder];
+
+/// What both callers have: a function of the dock, and the screen's that takes and answers the same.
+pub const BOTH: [[Function; 2]; 6] = [
+    [Function::Judge, Function::ScreenJudge],
+    [Function::Least, Function::ScreenLeast],
+    [Function::Plan, Function::ScreenPlan],
+    [Function::Reason, Function::ScreenReason],
+    [Function::Sentence, Function::ScreenSentence],
+    [Function::Check, Function::ScreenCheck],
+];
 
 /// The numbers of a reason.
 pub const REASON_NUMBERS: usize = 19;
@@ -102,12 +125,32 @@ impl Function {
             Function::Between => "hbr_between",
             Function::BetweenOrder => "hbr_between_order",
             Function::Write => "hbr_write",
+            Function::ScreenJudge => "hbr_screen_judge",
+            Function::ScreenLeast => "hbr_screen_least",
+            Function::ScreenPlan => "hbr_screen_plan",
+            Function::ScreenReason => "hbr_screen_reason",
+            Function::ScreenSentence => "hbr_screen_sentence",
+            Function::ScreenCheck => "hbr_screen_check",
+        }
+    }
+
+    /// The dock's function that takes and answers the same.
+    pub fn at_dock(self) -> Function {
+        let both = BOTH.iter().find(|[_, screen]| *screen == self);
+        both.map_or(self, |[dock, _]| *dock)
+    }
+
+    /// The limits of its caller: "the limit belongs to the call".
+    pub fn limits(self) -> &'static Limits {
+        match self.at_dock() == self {
+            true => &DOCK,
+            false => &SCREEN,
         }
     }
 
     /// The header's HBR_.._ANSWER.
     pub fn answer_length(self) -> usize {
-        match self {
+        match self.at_dock() {
             Function::Judge => 3,
             Function::Least | Function::BookLeast | Function::Between => 2,
             Function::Reason | Function::Parse => REASON_NUMBERS,
@@ -134,12 +177,19 @@ impl Function {
             Function::Between => &[1, 2, 3, 4, 5, 6, 13, 19, 7, 12, 253, 255],
             Function::BetweenOrder => &[1, 2, 3, 4, 5, 6, 13, 19, 7, 9, 12, 253, 255],
             Function::Write => &[1, 2, 3, 4, 5, 6, 13, 7, 9, 254, 255],
+            Function::ScreenJudge => &[1, 21, 3, 20, 5, 6, 13, 7, 12, 255],
+            Function::ScreenLeast => &[1, 21, 3, 20, 5, 6, 13, 7, 9, 12, 255],
+            Function::ScreenPlan => &[1, 21, 3, 20, 5, 6, 13, 7, 8, 9, 10, 12, 255],
+            Function::ScreenReason => &[1, 21, 3, 20, 5, 6, 13, 7, 8, 12, 255],
+            Function::ScreenSentence => &[1, 21, 3, 20, 5, 6, 13, 7, 8, 9, 12, 253, 255],
+            Function::ScreenCheck => &[1, 21, 3, 20, 5, 6, 13, 7, 8, 11, 12, 255],
         }
     }
 
     /// Whether it writes rows: then a short buffer is refused.
     pub fn plans(self) -> bool {
-        self.books() || matches!(self, Function::Least | Function::Plan | Function::TimedPlan)
+        let plans = [Function::Least, Function::Plan, Function::TimedPlan];
+        self.books() || plans.contains(&self.at_dock())
     }
 
     /// Whether it takes ready minutes and windows: then lists of a wrong length are refused.
@@ -159,12 +209,12 @@ impl Function {
 
     /// Whether it plans at the least lateness, which it answers before the row count.
     pub fn finds_least(self) -> bool {
-        matches!(self, Function::Least | Function::BookLeast)
+        matches!(self.at_dock(), Function::Least | Function::BookLeast)
     }
 
     /// Whether it writes or reads a line.
     pub fn takes_line(self) -> bool {
-        matches!(self, Function::Sentence | Function::Parse)
+        matches!(self.at_dock(), Function::Sentence | Function::Parse)
     }
 
     pub fn takes_bound(self) -> bool {
@@ -174,7 +224,7 @@ impl Function {
             Function::Needs,
             Function::Write,
         ];
-        !self.finds_least() && !self.takes_highs() && !without.contains(&self)
+        !self.finds_least() && !self.takes_highs() && !without.contains(&self.at_dock())
     }
 }
 
@@ -200,6 +250,12 @@ pub struct Library {
     pub between: Entry,
     pub between_order: Entry,
     pub write: Entry,
+    pub screen_judge: Entry,
+    pub screen_least: Entry,
+    pub screen_plan: Entry,
+    pub screen_reason: Entry,
+    pub screen_sentence: Entry,
+    pub screen_check: Entry,
 }
 
 impl Library {
@@ -222,6 +278,12 @@ impl Library {
             Function::Between => self.between,
             Function::BetweenOrder => self.between_order,
             Function::Write => self.write,
+            Function::ScreenJudge => self.screen_judge,
+            Function::ScreenLeast => self.screen_least,
+            Function::ScreenPlan => self.screen_plan,
+            Function::ScreenReason => self.screen_reason,
+            Function::ScreenSentence => self.screen_sentence,
+            Function::ScreenCheck => self.screen_check,
         }
     }
 
@@ -245,6 +307,12 @@ impl Library {
             Function::Between => &mut self.between,
             Function::BetweenOrder => &mut self.between_order,
             Function::Write => &mut self.write,
+            Function::ScreenJudge => &mut self.screen_judge,
+            Function::ScreenLeast => &mut self.screen_least,
+            Function::ScreenPlan => &mut self.screen_plan,
+            Function::ScreenReason => &mut self.screen_reason,
+            Function::ScreenSentence => &mut self.screen_sentence,
+            Function::ScreenCheck => &mut self.screen_check,
         };
         *place = entry;
         self

@@ -2,6 +2,7 @@
 //! buffers, in the header's order. Only here and in `linked/` there is unsafe code.
 
 mod estimates;
+mod screen;
 
 use crate::highboyrobin::raw;
 use crate::lent::Call;
@@ -25,6 +26,12 @@ pub const LINKED: Library = Library {
     between: estimates::between,
     between_order: estimates::between_order,
     write,
+    screen_judge: screen::judge,
+    screen_least: screen::least,
+    screen_plan: screen::plan,
+    screen_reason: screen::reason,
+    screen_sentence: screen::sentence,
+    screen_check: screen::check,
 };
 
 fn judge(call: &mut Call) -> u32 {

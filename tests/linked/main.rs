@@ -24,6 +24,7 @@ mod tally;
 mod trial;
 mod wrong;
 
+use draw::screen::TURNS;
 use rounds::Rounds;
 use std::process::ExitCode;
 use trial::Trial;
@@ -65,6 +66,7 @@ fn compare_linked(times: u64) -> Result<String, String> {
     fixed::run_long_lists(&mut trial);
     fixed::run_held(&mut trial);
     fixed::run_estimates(&mut trial);
+    fixed::run_screen(&mut trial);
     let rounds = Rounds {
         small: 2_340 * times,
         large: 660 * times,
@@ -79,6 +81,8 @@ fn compare_linked(times: u64) -> Result<String, String> {
         held: 100 * times,
         estimates: 500 * times,
         large_estimates: 36 * times,
+        screen: 1_400 * times,
+        screen_counts: 3 * TURNS * times,
     };
     rounds::run(&mut trial, &rounds);
     if let Some(difference) = trial.difference {

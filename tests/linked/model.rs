@@ -1,4 +1,4 @@
-//! The independent implementation as a library of seventeen functions: what a linked library would do
+//! The independent implementation as a library of twenty-three functions: what a linked library would do
 //! that does just what is expected. The wrong libraries are made from it.
 
 use crate::expect::{expected, Expected, Known};
@@ -24,10 +24,16 @@ pub const MODEL: Library = Library {
     between: |call| run(Function::Between, call),
     between_order: |call| run(Function::BetweenOrder, call),
     write: |call| run(Function::Write, call),
+    screen_judge: |call| run(Function::ScreenJudge, call),
+    screen_least: |call| run(Function::ScreenLeast, call),
+    screen_plan: |call| run(Function::ScreenPlan, call),
+    screen_reason: |call| run(Function::ScreenReason, call),
+    screen_sentence: |call| run(Function::ScreenSentence, call),
+    screen_check: |call| run(Function::ScreenCheck, call),
 };
 
 fn run(function: Function, call: &mut Call) -> u32 {
-    let mut known = Known::of(call.file.content());
+    let mut known = Known::of(function.limits(), call.file.content());
     match expected(function, call, &mut known) {
         Expected::Refused(refusal) => return refusal.number + 256 * refusal.job,
         Expected::Answer(numbers) => call.answer.put(&numbers),

@@ -1,28 +1,30 @@
 //! The drawn calls: accepted orders with bounds, row lists, reasons, lines and books around their
 //! least lateness, orders that are refused, doubtful files, lists for the writer, processors of few
 //! and of many memories, books that go through many calls, orders with ready minutes and windows,
-//! tables of needs, orders whose jobs lie, by falling need, elsewhere than they are given, and times known
-//! only between lows and highs.
+//! tables of needs, orders whose jobs lie, by falling need, elsewhere than they are given, times known
+//! only between lows and highs, and orders from both callers.
 
+mod accepted;
 mod books;
 mod classes;
 mod estimates;
 mod held;
 mod needs;
 mod refused;
+mod screen;
 mod times;
 
 use crate::draw::bounds::Around;
 use crate::draw::files::file_of;
-use crate::draw::lengths::{answer_length, book_length, file_room, line_room, reason_length, room};
+use crate::draw::lengths::{answer_length, book_length, file_room, room};
 use crate::draw::orders::{Family, LARGE_FAMILIES, SMALL_FAMILIES};
 use crate::draw::Random;
-use crate::draw::{books as drawn_books, lines, lists, reasons, sharp};
-use crate::expect::reason_named;
-use crate::independent::{composed, plan, rows_asked, write, Order, MOST_ROWS};
+use crate::draw::{books as drawn_books, lines, lists};
+use crate::independent::{rows_asked, write, Order};
 use crate::lent::{job_numbers, Call};
 use crate::library::Function;
 use crate::trial::Trial;
+use accepted::Accepted;
 
 /// How many rounds of each part.
 pub struct Rounds {
@@ -39,11 +41,13 @@ pub struct Rounds {
     pub held: u64,
     pub estimates: u64,
     pub large_estimates: u64,
+    pub screen: u64,
+    pub screen_counts: u64,
 }
 
 /// Runs all parts, up to the first difference.
 pub fn run(trial: &mut Trial, rounds: &Rounds) {
-    let parts: [(&str, u64, fn(&mut Trial, u64)); 13] = [
+    let parts: [(&str, u64, fn(&mut Trial, u64)); 15] = [
         ("small orders", rounds.small, small_order),
         ("large orders", rounds.large, large_order),
         ("refused orders", rounds.refused, refused::any_order),
@@ -61,6 +65,8 @@ pub fn run(trial: &mut Trial, rounds: &Rounds) {
             rounds.large_estimates,
             estimates::large,
         ),
+        ("both callers", rounds.screen, screen::any_order),
+        ("counts", rounds.screen_counts, screen::any_counts),
     ];
     for (part, times, round) in parts {
         for seed in 0..times {
@@ -87,6 +93,11 @@ fn accepted_order(trial: &mut Trial, families: &[Family], seed: u64) {
     let least = trial.least(&file);
     let around = Around::of(&order, least);
     let asked = rows_asked(&order);
+    let accepted = Accepted {
+        order: &order,
+        file: &file,
+        around,
+    };
     trial_of(trial, Function::Judge, |random, answer| {
         Call::with_file(random, &file, answer)
     });
@@ -99,16 +110,12 @@ fn accepted_order(trial: &mut Trial, families: &[Family], seed: u64) {
     }
     for _ in 0..6 {
         trial_of(trial, Function::Plan, |random, answer| {
-            let (room, bound) = (room(random, asked), around.bound(random));
-            Call::with_file(random, &file, answer)
-                .with_room(random, room)
-                .at(bound)
+            accepted.planning(random, answer)
         });
     }
     for _ in 0..8 {
         trial_of(trial, Function::Reason, |random, answer| {
-            let bound = around.bound(random);
-            Call::with_file(random, &file, answer).at(bound)
+            accepted.asking_why(random, answer)
         });
     }
     for function in [Function::BookLeast, Function::BookPlan] {
@@ -123,8 +130,8 @@ fn accepted_order(trial: &mut Trial, families: &[Family], seed: u64) {
             });
         }
     }
-    sentences(trial, &order, &file, around);
-    checks(trial, &order, &file, around);
+    sentences(trial, &accepted);
+    checks(trial, &accepted);
     for _ in 0..2 {
         write_order(trial, &order);
     }
@@ -145,20 +152,17 @@ fn book(random: &mut Random, order: &Order) -> Vec<u32> {
 }
 
 /// Reasons before hbr_sentence and lines before hbr_parse.
-fn sentences(trial: &mut Trial, order: &Order, file: &[u8], around: Around) {
+fn sentences(trial: &mut Trial, accepted: &Accepted) {
     for _ in 0..6 {
         trial_of(trial, Function::Sentence, |random, answer| {
-            let bound = around.tight(random);
-            let mut reason = reasons::numbers(random, order, bound, around.least - 1);
-            let line = reason_named(&reason).map(|reason| composed(order, bound, &reason));
-            let room = line_room(random, line.unwrap_or_default().len());
-            reason.resize(reason_length(random), random.number() as i32);
-            Call::with_file(random, file, answer)
-                .with_reason(random, &reason)
-                .with_line_room(random, room)
-                .at(bound)
+            accepted.composing(random, answer)
         });
     }
+    let Accepted {
+        order,
+        file,
+        around,
+    } = *accepted;
     for _ in 0..8 {
         trial_of(trial, Function::Parse, |random, answer| {
             let bound = around.tight(random);
@@ -170,29 +174,12 @@ fn sentences(trial: &mut Trial, order: &Order, file: &[u8], around: Around) {
     }
 }
 
-/// Row lists before the plan check, at the bound that they were made for or at one next to it.
-fn checks(trial: &mut Trial, order: &Order, file: &[u8], around: Around) {
-    let loose = around.least + trial.random.between(0, 4) as i32;
-    let made_at = trial.random.pick(&[around.least, loose]);
-    let made = plan(order, made_at).expect("the least lateness and what is above it are met");
+/// Row lists before the plan check.
+fn checks(trial: &mut Trial, accepted: &Accepted) {
+    let made = accepted.made(&mut trial.random);
     for turn in 0..12 {
         trial_of(trial, Function::Check, |random, answer| {
-            let rows = match turn {
-                0 => made.concat(),
-                1 => lists::senseless(random),
-                2 => at_most_rows(random, &made, MOST_ROWS),
-                3..=6 => sharp::one_rule_broken(random, order, made_at, &made),
-                _ => lists::hostile(random, &made),
-            };
-            let bound = match random.below(12) {
-                0..=1 => around.bound(random),
-                2 => made_at - 1,
-                3 => made_at + random.between(1, 20) as i32,
-                _ => made_at,
-            };
-            Call::with_file(random, file, answer)
-                .with_rows(random, &rows)
-                .at(bound)
+            accepted.checking(random, &made, turn, answer)
         });
     }
 }

@@ -1,14 +1,15 @@
 //! Counts the calls by function and by what they had to do, so that a reader sees that every
 //! refusal and every kind of answer was met; the joins of the plans that were written; the books that
-//! went through many calls; and the orders between lows and highs that were planned.
+//! went through many calls; the orders between lows and highs that were planned; and the replies to a screen
+//! beside the dock's.
 
 use crate::expect::Expected;
-use crate::library::{Function, FUNCTIONS};
+use crate::library::{Function, BOTH, FUNCTIONS};
 use std::collections::BTreeMap;
 
 /// The kinds of answers that each function must have given.
 fn kinds(function: Function) -> &'static [&'static str] {
-    match function {
+    match function.at_dock() {
         Function::Classes => &["one class", "several", "16 classes"],
         Function::Reason | Function::Parse => &["none", "job", "level stairs", "falling stairs"],
         Function::Sentence => &["empty", "job", "stairs"],
@@ -28,6 +29,7 @@ pub struct Tally {
     opened: Sequences,
     drawn: Sequences,
     between: Between,
+    replies: BTreeMap<&'static str, Replies>,
 }
 
 /// How many plans had a join, and how many joins there were in all.
@@ -51,6 +53,13 @@ struct Sequences {
 struct Between {
     drawn: u64,
     written: u64,
+}
+
+/// Replies to a screen beside the dock's, of orders within the screen's limits, which are equal, and of others.
+#[derive(Clone, Copy, Default)]
+struct Replies {
+    within: u64,
+    over: u64,
 }
 
 impl Tally {
@@ -95,6 +104,15 @@ impl Tally {
         }
     }
 
+    /// Counts a reply to a screen beside the dock's, of an order that is over the screen's limits or not.
+    pub fn count_replies(&mut self, function: Function, over: bool) {
+        let replies = self.replies.entry(function.name()).or_default();
+        match over {
+            true => replies.over += 1,
+            false => replies.within += 1,
+        }
+    }
+
     fn joined(&self, function: Function) -> Joined {
         let joined = self.joined.get(function.name());
         joined.copied().unwrap_or_default()
@@ -105,7 +123,13 @@ impl Tally {
         self.counts.get(&key).copied().unwrap_or(0)
     }
 
-    /// A line for each function, one for the books, and one for the orders between lows and highs.
+    fn replies(&self, function: Function) -> Replies {
+        let replies = self.replies.get(function.name());
+        replies.copied().unwrap_or_default()
+    }
+
+    /// A line for each function, one for the books, one for the orders between lows and highs, and one for the
+    /// replies to a screen.
     pub fn lines(&self) -> Vec<String> {
         let functions = FUNCTIONS.iter().map(|function| self.line(*function));
         let told = |sequences: Sequences, from: &str| {
@@ -122,7 +146,12 @@ impl Tally {
         let Between { drawn, written } = self.between;
         let between =
             format!("between lows and highs: {drawn} drawn, {written} written, all planned");
-        functions.chain([books, between]).collect()
+        let replies = BOTH.map(|[_, screen]| self.replies(screen));
+        let within: u64 = replies.iter().map(|of_one| of_one.within).sum();
+        let over: u64 = replies.iter().map(|of_one| of_one.over).sum();
+        let screen =
+            format!("from both callers: {within} replies equal, {over} over the screen's limits");
+        functions.chain([books, between, screen]).collect()
     }
 
     fn line(&self, function: Function) -> String {
@@ -143,7 +172,7 @@ impl Tally {
         let (answered, refused) = (answered.join(", "), refused.join(", "));
         let all: u64 = self.of(function);
         format!(
-            "{:<17} {all} calls; {answered}; refused {refused}",
+            "{:<19} {all} calls; {answered}; refused {refused}",
             function.name()
         )
     }
@@ -178,6 +207,12 @@ impl Tally {
         if self.between.drawn == 0 || self.between.written == 0 {
             never.push("a plan between lows and highs".to_string());
         }
+        for [_, screen] in BOTH {
+            let Replies { within, over } = self.replies(screen);
+            if within == 0 || over == 0 {
+                never.push(format!("{} beside the dock's", screen.name()));
+            }
+        }
         never
     }
 }
@@ -185,7 +220,7 @@ impl Tally {
 /// The kind of an answer. Stairs whose times fall are told apart: only they show more than sums at
 /// one common time do.
 fn kind(function: Function, numbers: &[i32]) -> &'static str {
-    match (function, numbers[0]) {
+    match (function.at_dock(), numbers[0]) {
         (Function::Check | Function::TimedCheck, 0) => "no",
         (Function::Check | Function::TimedCheck, _) => "yes",
         (Function::Between, at_lows) if numbers[1] == at_lows => "equal",

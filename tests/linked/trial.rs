@@ -1,10 +1,10 @@
-//! Puts calls before a library one by one, compares each with what it had to do, and stops at the
-//! first difference, with all that is needed to see it again.
+//! Puts calls before a library one by one, compares each with what it had to do, what a screen is told also
+//! with what the dock is, and stops at the first difference, with all that is needed to see it again.
 
-use crate::compare::wrong;
+use crate::compare::{unequal, wrong};
 use crate::draw::Random;
 use crate::expect::{expected, Expected, Known};
-use crate::independent::{joins_over, stretches, timed_stretches};
+use crate::independent::{joins_over, lists, stretches, timed_stretches, DOCK, SCREEN};
 use crate::lent::{rows_of, Call};
 use crate::library::{Function, Library};
 use crate::tally::Tally;
@@ -26,7 +26,7 @@ impl Trial {
     pub fn of(library: Library) -> Trial {
         Trial {
             library,
-            known: Known::of(&[]),
+            known: Known::of(&DOCK, &[]),
             part: "",
             seed: 0,
             random: Random::new(0),
@@ -46,7 +46,7 @@ impl Trial {
 
     /// The least lateness of an accepted file.
     pub fn least(&mut self, file: &[u8]) -> i32 {
-        self.known.turn_to(file);
+        self.known.turn_to(&DOCK, file);
         self.known.least()
     }
 
@@ -73,6 +73,36 @@ impl Trial {
         }
         self.count_joins(function, &expected, &after);
         Some((result, after))
+    }
+
+    /// Makes one call from the dock and from a screen, lent the same. "An order within the screen's limits
+    /// gets the dock's own reply from either caller": the amounts, free to the dock, are not to a screen.
+    pub fn call_from_both(
+        &mut self,
+        [dock, screen]: [Function; 2],
+        call: Call,
+    ) -> Option<[(u32, Call); 2]> {
+        let own = self.call(dock, call.clone())?;
+        let reply = self.call(screen, call)?;
+        let over = lists(own.1.file.content()).is_some_and(|order| !SCREEN.hold(&order));
+        let differs = match own.0 == reply.0 {
+            true => unequal(&own.1, &reply.1),
+            false => Some(format!("result {}, not {}", reply.0, own.0)),
+        };
+        self.tally.count_replies(screen, over);
+        match differs {
+            Some(differs) if !over => {
+                let (name, part, seed) = (screen.name(), self.part, self.seed);
+                let lines = [
+                    format!("{name} is not the dock's in part {part}, seed {seed}: {differs}"),
+                    told("left by the dock's", &own.1),
+                    told("left", &reply.1),
+                ];
+                self.difference = Some(lines.join("\n"));
+                None
+            }
+            _ => Some([own, reply]),
+        }
     }
 
     /// Counts the joins of a plan that was written.

@@ -21,6 +21,7 @@ mod highs;
 mod joins;
 mod kept;
 mod leasts;
+mod limits;
 mod lines;
 mod long_lists;
 mod lying;
@@ -38,6 +39,8 @@ mod ranges;
 mod readings;
 mod reasons;
 mod refusals;
+mod replies;
+mod screen;
 mod sentences;
 mod spans;
 mod tight;
@@ -47,7 +50,7 @@ mod untimed;
 mod words;
 
 use crate::expect::Known;
-use crate::independent::{judge_estimate, lists, read, Estimate, Job, Order, Row, Times};
+use crate::independent::{judge_estimate, lists, read, Estimate, Job, Order, Row, Times, DOCK};
 use crate::lent::{rows_of, Call};
 use crate::library::{Entry, Function, Library};
 use crate::model::MODEL;
@@ -82,7 +85,7 @@ pub fn run() -> Result<String, String> {
     Err(format!("broken: NOT caught: {}", missed.join("; ")))
 }
 
-/// The wrong things that need no times, no table of needs, no jobs that lie elsewhere and no highs.
+/// The wrong things that need no times, no table of needs, no jobs that lie elsewhere, no highs and no screen.
 fn others() -> Vec<&'static [Wrong]> {
     let parts = [
         buffers::WRONG,
@@ -134,18 +137,17 @@ fn libraries() -> Vec<(String, Library, Cases)> {
         order_room::PARTS,
     ]
     .concat();
+    let of_screen = [limits::PARTS, screen::PARTS, replies::PARTS].concat();
     let in_one = in_one_function(&others(), Cases::Others);
     let of_times = in_one_function(&of_times, Cases::Timed);
     let of_needs = in_one_function(&of_needs, Cases::Needs);
     let of_long_lists = in_one_function(long_lists::PARTS, Cases::LongLists);
     let of_held = in_one_function(&of_held, Cases::Held);
     let of_estimates = in_one_function(&of_estimates, Cases::Estimates);
+    let of_screen = in_one_function(&of_screen, Cases::Screen);
     let in_several = [ends::LIBRARIES, books::LIBRARIES].concat();
-    let in_several = in_several.into_iter().map(|(what, library)| {
-        let name = format!("the library {what}");
-        (name, library, Cases::Others)
-    });
-    let in_several = in_several.collect();
+    let in_several = in_several_functions(&in_several, Cases::Others);
+    let of_both_callers = in_several_functions(limits::LIBRARIES, Cases::Screen);
     [
         in_one,
         of_times,
@@ -153,7 +155,9 @@ fn libraries() -> Vec<(String, Library, Cases)> {
         of_long_lists,
         of_held,
         of_estimates,
+        of_screen,
         in_several,
+        of_both_callers,
     ]
     .concat()
 }
@@ -165,6 +169,15 @@ fn in_one_function(parts: &[&[Wrong]], cases: Cases) -> Vec<(String, Library, Ca
         (name, MODEL.with(function, entry), cases)
     };
     parts.concat().iter().map(library).collect()
+}
+
+/// The libraries that are wrong in several functions, which are put before these cases.
+fn in_several_functions(wrong: &[(&str, Library)], cases: Cases) -> Vec<(String, Library, Cases)> {
+    let library = |(what, library): &(&str, Library)| {
+        let name = format!("the library {what}");
+        (name, *library, cases)
+    };
+    wrong.iter().map(library).collect()
 }
 
 /// The unbroken call, then a change where it succeeded.
@@ -251,7 +264,7 @@ fn estimate(function: Function, call: &Call) -> Option<Estimate> {
 
 /// The least lateness of a call's accepted file.
 fn least(call: &Call) -> i32 {
-    Known::of(call.file.content()).least()
+    Known::of(&DOCK, call.file.content()).least()
 }
 
 /// The memory of a job's class: the smallest that still suffices.

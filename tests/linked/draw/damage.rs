@@ -37,7 +37,8 @@ fn lengthen<T: Copy>(random: &mut Random, list: &mut Vec<T>, least: usize) {
     }
 }
 
-fn damage_job(random: &mut Random, order: &mut Order, number: u32) {
+/// Gives some job this refusal, where there is a job.
+pub fn damage_job(random: &mut Random, order: &mut Order, number: u32) {
     if order.jobs.is_empty() {
         return;
     }

@@ -50,6 +50,26 @@ pub fn doubtful(random: &mut Random, order: &Order) -> Vec<u8> {
     file
 }
 
+/// Damages the trailer alone; some damages only look so.
+pub fn damage_trailer(random: &mut Random, file: &mut [u8]) {
+    match random.below(4) {
+        0 => flip_in_trailer(random, file),
+        1 => swap_places(file),
+        2 => change_place(random, file),
+        _ => change_count(random, file),
+    }
+}
+
+/// Cuts bytes off or adds some, before the lists, among them or after the trailer.
+pub fn damage_length(random: &mut Random, file: &mut Vec<u8>) {
+    match random.below(4) {
+        0 => file.truncate(random.below(file.len())),
+        1 => drop(file.remove(random.below(file.len()))),
+        2 => lengthen_front(random, file),
+        _ => file.extend(vec![random.number() as u8; 1 + random.below(12)]),
+    }
+}
+
 /// Flips one bit of a byte at or after `from`.
 fn flip(random: &mut Random, file: &mut [u8], from: usize) {
     let place = from + random.below(file.len() - from);

@@ -1,5 +1,5 @@
 //! Accepted orders in families, each with what it is apt to show. Small ones are many; large ones
-//! have up to 16 processors and 48 jobs.
+//! have up to 16 processors and 48 jobs; those for a screen are around 4 processors and 12 jobs.
 
 use super::packed::packed;
 use super::Random;
@@ -135,6 +135,54 @@ pub const LARGE_FAMILIES: &[Family] = &[
     ("middle, packed", |random| packed(random, 9, 30)),
     ("full, last class", last_class),
 ];
+
+/// Most are within the screen's limits, many of them just so, and some are not.
+pub const SCREEN_FAMILIES: &[Family] = &[
+    ("at the limits", |random| drawn(random, AT_LIMITS)),
+    ("a job more", |random| drawn(random, AT_LIMITS.jobs(13, 13))),
+    ("packed", |random| packed(random, 4, 12)),
+    ("a processor more", |random| {
+        drawn(random, AT_LIMITS.processors(5, 5))
+    }),
+    ("crowded", |random| {
+        crowded(random, SMALL.processors(2, 4).jobs(6, 12))
+    }),
+    ("steep", |random| {
+        steep(random, SMALL.processors(2, 4).jobs(6, 12))
+    }),
+    ("around the limits", |random| {
+        drawn(random, SMALL.processors(3, 5).jobs(11, 13))
+    }),
+    ("small", |random| drawn(random, SMALL)),
+    ("tight dues", |random| {
+        drawn(random, AT_LIMITS.dues(10, 13).jobs(6, 12))
+    }),
+    ("both more", |random| {
+        drawn(random, AT_LIMITS.processors(5, 5).jobs(13, 13))
+    }),
+    ("far dues", |random| {
+        drawn(random, AT_LIMITS.dues(-1_000_000, 1_000_000))
+    }),
+    ("wide", |random| {
+        let shape = AT_LIMITS.times(1, 100_000).dues(0, 300_000);
+        drawn(random, shape.memories(0, LARGEST))
+    }),
+    ("tiny", tiny),
+    ("packed wider", |random| packed(random, 7, 20)),
+];
+
+const AT_LIMITS: Shape = SMALL.processors(4, 4).jobs(12, 12);
+
+/// So many processors and jobs: none, as many as an order may have, or more.
+pub fn of_counts(random: &mut Random, processors: usize, jobs: usize) -> Order {
+    let some = |count: usize| count.max(1) as i64;
+    let (of_processors, of_jobs) = (some(processors), some(jobs));
+    let shape = SMALL.processors(of_processors, of_processors);
+    let mut order = drawn(random, shape.jobs(of_jobs, of_jobs));
+    order.memories.truncate(processors);
+    order.jobs.truncate(jobs);
+    order
+}
 
 pub fn tiny(random: &mut Random) -> Order {
     drawn(random, TINY)

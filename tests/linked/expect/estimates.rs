@@ -2,7 +2,7 @@
 //! found of it is kept, since several numbers are asked for of one estimate.
 
 use super::{refused, Expected, Known};
-use crate::independent::{self, met_by_halving, Estimate, Order};
+use crate::independent::{self, met_by_halving, Estimate, Order, DOCK};
 use crate::lent::Call;
 use crate::library::Function;
 
@@ -65,7 +65,7 @@ pub fn estimated(function: Function, call: &Call, known: &mut Known) -> Expected
     if let Some(refusal) = independent::judge_estimate(&estimate) {
         return Expected::Refused(refusal);
     }
-    known.turn_to(file);
+    known.turn_to(&DOCK, file);
     let known = known.estimated(estimate);
     if function == Function::Between {
         let (at_lows, at_highs) = known.leasts();

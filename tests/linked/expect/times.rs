@@ -1,7 +1,7 @@
 //! What a function with ready minutes and windows must do.
 
 use super::{refused, Expected, Known, BOUNDS};
-use crate::independent::{self, Order, Times, MOST_TIMED_ROWS};
+use crate::independent::{self, Order, Times, DOCK, MOST_TIMED_ROWS};
 use crate::lent::Call;
 use crate::library::Function;
 
@@ -14,7 +14,7 @@ pub fn timed(function: Function, call: &Call, known: &mut Known) -> Expected {
     let Some(times) = Times::of(&listed, call.ready.content(), call.windows.content()) else {
         return refused(253, 0);
     };
-    known.turn_to(file);
+    known.turn_to(&DOCK, file);
     let order = match &known.order {
         Err(refusal) => return Expected::Refused(*refusal),
         Ok(order) => order,

@@ -1,15 +1,22 @@
 //! The refusal table's rows 1 to 7: "The lowest applicable number is given"; rows 5 to 7 carry "the
-//! first such job". "A maker number out of range is 13, right after 6 in the order".
+//! first such job". "A maker number out of range is 13, right after 6 in the order". Rows 2 and 4 are those
+//! of the caller's limits.
 
+use super::limits::{Limits, DOCK};
 use super::{Job, Order, Refusal, MAKERS};
 use std::ops::RangeInclusive;
 
 const TIMES: RangeInclusive<u32> = 1..=100_000;
 const DUES: RangeInclusive<i32> = -1_000_000..=1_000_000;
 
-/// The refusal of an order, or none where it is accepted.
+/// The refusal of an order, or none where it is accepted, from the dock.
 pub fn judge(order: &Order) -> Option<Refusal> {
-    judge_counts(order)
+    judge_within(&DOCK, order)
+}
+
+/// The same from a caller with these limits.
+pub fn judge_within(limits: &Limits, order: &Order) -> Option<Refusal> {
+    judge_counts(limits, order)
         .or_else(|| first(order, 5, |_, job| !is_time(job.time)))
         .or_else(|| first(order, 6, |_, job| !is_due(job)))
         .or_else(|| first(order, 13, |_, job| !is_made(job)))
@@ -17,12 +24,15 @@ pub fn judge(order: &Order) -> Option<Refusal> {
 }
 
 /// Rows 1 to 4.
-pub fn judge_counts(order: &Order) -> Option<Refusal> {
+pub fn judge_counts(limits: &Limits, order: &Order) -> Option<Refusal> {
     let about_counts = [
         (1, order.memories.is_empty()),
-        (2, order.memories.len() > 16),
+        (
+            limits.over_processors,
+            order.memories.len() > limits.processors,
+        ),
         (3, order.jobs.is_empty()),
-        (4, order.jobs.len() > 48),
+        (limits.over_jobs, order.jobs.len() > limits.jobs),
     ];
     let (number, _) = about_counts.into_iter().find(|(_, holds)| *holds)?;
     Some(Refusal { number, job: 0 })

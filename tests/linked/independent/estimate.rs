@@ -4,6 +4,7 @@
 //! by minute or, where it is long, halved.
 
 use super::accept::{first, fits, is_due, is_made, is_time, judge_counts};
+use super::limits::DOCK;
 use super::{least, meets, Job, Order, Refusal};
 
 /// An order that has the lows for its times, and a high to each job, in input order.
@@ -56,7 +57,7 @@ impl Estimate {
 pub fn judge_estimate(estimate: &Estimate) -> Option<Refusal> {
     let Estimate { lows, highs } = estimate;
     let in_range = |place: usize, low: u32| is_time(low) && is_time(highs[place]);
-    judge_counts(lows)
+    judge_counts(&DOCK, lows)
         .or_else(|| first(lows, 5, |place, job| !in_range(place, job.time)))
         .or_else(|| first(lows, 6, |_, job| !is_due(job)))
         .or_else(|| first(lows, 13, |_, job| !is_made(job)))

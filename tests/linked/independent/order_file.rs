@@ -2,18 +2,24 @@
 //! order, the first from byte 0, the second from where the first ends up to the trailer exactly".
 //! A job has its maker number "as 4 further bytes at the end".
 
-use super::{judge, Job, Order, Refusal};
+use super::limits::{Limits, DOCK};
+use super::{judge_within, Job, Order, Refusal};
 use std::ops::RangeInclusive;
 
 const TRAILER: usize = 12;
 const JOB: usize = 16;
 const LENGTHS: RangeInclusive<usize> = 12..=844;
 
-/// The order of a file, or refusal 12, then 1 to 6, 13, 7.
+/// The order of a file, or refusal 12, then 1 to 6, 13, 7, from the dock.
 pub fn read(file: &[u8]) -> Result<Order, Refusal> {
+    read_within(&DOCK, file)
+}
+
+/// The same from a caller with these limits: how long a file may be is no matter of them.
+pub fn read_within(limits: &Limits, file: &[u8]) -> Result<Order, Refusal> {
     let bad_file = Refusal { number: 12, job: 0 };
     let order = lists(file).ok_or(bad_file)?;
-    match judge(&order) {
+    match judge_within(limits, &order) {
         Some(refusal) => Err(refusal),
         None => Ok(order),
     }

@@ -43,34 +43,39 @@ const NO_ORDER: Order = Order {
 pub fn read_all(trial: &mut Trial, file: &[u8]) {
     for function in READERS {
         trial_of(trial, function, |random, answer| {
-            let bound = Around::any(random).bound(random);
-            let call = Call::with_file(random, file, answer).at(bound);
-            if function.takes_line() {
-                let reason = vec![random.pick(&[0, 1, 2]); reason_length(random)];
-                let line = random.pick(&[0, 1, 39, 541, 600]);
-                return call
-                    .with_reason(random, &reason)
-                    .with_line_room(random, line);
-            }
-            if function == Function::Classes {
-                let room = class_room(random);
-                return call.with_class_room(random, room);
-            }
-            let room = random.pick(&[0, 3, 4, 200, 4 * MOST_ROWS, 4 * MOST_ROWS + 1]);
-            let call = call.with_room(random, room);
-            if function.books() {
-                let book = book(random, &NO_ORDER);
-                return call.with_book(random, &book);
-            }
-            if function.takes_times() {
-                return times::with_any_times(random, file, call);
-            }
-            if function.takes_highs() {
-                return estimates::with_any_highs(random, file, call);
-            }
-            call
+            lent_any(random, function, file, answer)
         });
     }
+}
+
+/// A file, and other arguments that are good or not.
+pub fn lent_any(random: &mut Random, function: Function, file: &[u8], answer: usize) -> Call {
+    let bound = Around::any(random).bound(random);
+    let call = Call::with_file(random, file, answer).at(bound);
+    if function.takes_line() {
+        let reason = vec![random.pick(&[0, 1, 2]); reason_length(random)];
+        let line = random.pick(&[0, 1, 39, 541, 600]);
+        return call
+            .with_reason(random, &reason)
+            .with_line_room(random, line);
+    }
+    if function == Function::Classes {
+        let room = class_room(random);
+        return call.with_class_room(random, room);
+    }
+    let room = random.pick(&[0, 3, 4, 200, 4 * MOST_ROWS, 4 * MOST_ROWS + 1]);
+    let call = call.with_room(random, room);
+    if function.books() {
+        let book = book(random, &NO_ORDER);
+        return call.with_book(random, &book);
+    }
+    if function.takes_times() {
+        return times::with_any_times(random, file, call);
+    }
+    if function.takes_highs() {
+        return estimates::with_any_highs(random, file, call);
+    }
+    call
 }
 
 /// Any lists before the writer: counts up to the limits and beyond, parts of jobs. Counts of 257

@@ -1,5 +1,6 @@
 //! What the unbroken library and the wrong ones are put before.
 
+use crate::draw::screen::TURNS;
 use crate::fixed;
 use crate::library::Library;
 use crate::rounds::{self, Rounds};
@@ -39,6 +40,13 @@ const ESTIMATE_ROUNDS: Rounds = Rounds {
     ..NO_ROUNDS
 };
 
+/// The rounds of both callers.
+const SCREEN_ROUNDS: Rounds = Rounds {
+    screen: 84,
+    screen_counts: TURNS,
+    ..NO_ROUNDS
+};
+
 const NO_ROUNDS: Rounds = Rounds {
     small: 0,
     large: 0,
@@ -53,6 +61,8 @@ const NO_ROUNDS: Rounds = Rounds {
     held: 0,
     estimates: 0,
     large_estimates: 0,
+    screen: 0,
+    screen_counts: 0,
 };
 
 /// What a library is put before.
@@ -68,16 +78,19 @@ pub enum Cases {
     Held,
     /// with lows and highs
     Estimates,
+    /// from both callers
+    Screen,
     Others,
 }
 
-pub const ALL: [Cases; 6] = [
+pub const ALL: [Cases; 7] = [
     Cases::Others,
     Cases::Timed,
     Cases::Needs,
     Cases::LongLists,
     Cases::Held,
     Cases::Estimates,
+    Cases::Screen,
 ];
 
 /// The difference that is found in a library, if any, and the number of calls made, by these cases.
@@ -100,6 +113,10 @@ pub fn tried(library: Library, cases: Cases) -> (Option<String>, u64) {
         Cases::Estimates => {
             fixed::run_estimates(&mut trial);
             rounds::run(&mut trial, &ESTIMATE_ROUNDS);
+        }
+        Cases::Screen => {
+            fixed::run_screen(&mut trial);
+            rounds::run(&mut trial, &SCREEN_ROUNDS);
         }
         Cases::Others => {
             fixed::run(&mut trial);

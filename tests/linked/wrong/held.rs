@@ -16,29 +16,17 @@ type Change = fn(&[Held], &mut Order);
 /// Another ready minute to each job.
 type Move = fn(&[Held], &[u32]) -> Vec<u32>;
 
-/// A wrong thing of each function that answers otherwise if jobs are otherwise, made by a helper that
-/// takes the function, the call and how it is wrong.
+/// A wrong thing of each function that answers otherwise if jobs are otherwise.
 macro_rules! of_answers {
-    ($with:ident, $type:ident: $($what:literal => $how:expr,)*) => {{
-        const ALL: &[[Wrong; 12]] = &[$({
-            const HOW: $type = $how;
+    ($($listed:tt)*) => {
+        of_these!(
             [
-                (Function::Least, $what, |call| $with(Function::Least, call, HOW)),
-                (Function::Plan, $what, |call| $with(Function::Plan, call, HOW)),
-                (Function::BookLeast, $what, |call| $with(Function::BookLeast, call, HOW)),
-                (Function::BookPlan, $what, |call| $with(Function::BookPlan, call, HOW)),
-                (Function::Reason, $what, |call| $with(Function::Reason, call, HOW)),
-                (Function::Sentence, $what, |call| $with(Function::Sentence, call, HOW)),
-                (Function::Parse, $what, |call| $with(Function::Parse, call, HOW)),
-                (Function::Check, $what, |call| $with(Function::Check, call, HOW)),
-                (Function::TimedPlan, $what, |call| $with(Function::TimedPlan, call, HOW)),
-                (Function::TimedCheck, $what, |call| $with(Function::TimedCheck, call, HOW)),
-                (Function::Between, $what, |call| $with(Function::Between, call, HOW)),
-                (Function::BetweenOrder, $what, |call| $with(Function::BetweenOrder, call, HOW)),
-            ]
-        },)*];
-        ALL.as_flattened()
-    }};
+                Least, Plan, BookLeast, BookPlan, Reason, Sentence, Parse, Check, TimedPlan,
+                TimedCheck, Between, BetweenOrder
+            ],
+            $($listed)*
+        )
+    };
 }
 
 /// One column by falling need, the others in input order; or a job twice.

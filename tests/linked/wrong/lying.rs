@@ -17,21 +17,11 @@ type Rank = fn(&Order, &mut Vec<Held>);
 /// The number that a row names for the job of a number.
 type Name = fn(&[Held], u32) -> u32;
 
-/// A wrong thing of each planner but hbr_plan, made by a helper that takes the function, the call and
-/// how it is wrong.
+/// A wrong thing of each planner of the dock but hbr_plan.
 macro_rules! of_other_planners {
-    ($with:ident, $type:ident: $($what:literal => $how:expr,)*) => {{
-        const ALL: &[[Wrong; 4]] = &[$({
-            const HOW: $type = $how;
-            [
-                (Function::Least, $what, |call| $with(Function::Least, call, HOW)),
-                (Function::BookLeast, $what, |call| $with(Function::BookLeast, call, HOW)),
-                (Function::BookPlan, $what, |call| $with(Function::BookPlan, call, HOW)),
-                (Function::TimedPlan, $what, |call| $with(Function::TimedPlan, call, HOW)),
-            ]
-        },)*];
-        ALL.as_flattened()
-    }};
+    ($($listed:tt)*) => {
+        of_these!([Least, BookLeast, BookPlan, TimedPlan], $($listed)*)
+    };
 }
 
 const LAID_OUT: &[Wrong] = of_other_planners!(along, Rank:

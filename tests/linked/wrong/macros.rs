@@ -11,34 +11,61 @@ macro_rules! of_both {
     };
 }
 
-/// A wrong thing of each of the three functions that take ready minutes and windows, made likewise;
-/// how it is wrong is of this type.
-macro_rules! of_timed {
-    ($with:ident, $type:ident: $($what:literal => $how:expr,)*) => {{
-        const ALL: &[[Wrong; 3]] = &[$({
+/// A wrong thing of each of these functions, made likewise; how it is wrong is of this type.
+macro_rules! of_these {
+    ($functions:tt, $with:ident, $type:ident: $($what:literal => $how:expr,)*) => {{
+        const COUNT: usize = functions!($functions).len();
+        const ALL: &[[Wrong; COUNT]] = &[$({
             const HOW: $type = $how;
-            [
-                (Function::TimedRows, $what, |call| $with(Function::TimedRows, call, HOW)),
-                (Function::TimedPlan, $what, |call| $with(Function::TimedPlan, call, HOW)),
-                (Function::TimedCheck, $what, |call| $with(Function::TimedCheck, call, HOW)),
-            ]
+            wrong_in!($functions, $with, $what)
         },)*];
         ALL.as_flattened()
     }};
 }
 
-/// A wrong thing of both functions that take highs, made likewise.
+/// The functions of these names.
+macro_rules! functions {
+    ([$($function:ident),*]) => {
+        [$(Function::$function),*]
+    };
+}
+
+/// One wrong thing of each of these functions, HOW it is.
+macro_rules! wrong_in {
+    ([$($function:ident),*], $with:ident, $what:literal) => {
+        [$((Function::$function, $what, |call| $with(Function::$function, call, HOW))),*]
+    };
+}
+
+/// A wrong thing of each of the three functions that take ready minutes and windows.
+macro_rules! of_timed {
+    ($($listed:tt)*) => {
+        of_these!([TimedRows, TimedPlan, TimedCheck], $($listed)*)
+    };
+}
+
+/// A wrong thing of both functions that take highs.
 macro_rules! of_estimated {
-    ($with:ident, $type:ident: $($what:literal => $how:expr,)*) => {{
-        const ALL: &[[Wrong; 2]] = &[$({
-            const HOW: $type = $how;
-            [
-                (Function::Between, $what, |call| $with(Function::Between, call, HOW)),
-                (Function::BetweenOrder, $what, |call| $with(Function::BetweenOrder, call, HOW)),
-            ]
-        },)*];
-        ALL.as_flattened()
-    }};
+    ($($listed:tt)*) => {
+        of_these!([Between, BetweenOrder], $($listed)*)
+    };
+}
+
+/// A wrong thing of each of the six functions that a screen calls.
+macro_rules! of_screen {
+    ($($listed:tt)*) => {
+        of_these!(
+            [ScreenJudge, ScreenLeast, ScreenPlan, ScreenReason, ScreenSentence, ScreenCheck],
+            $($listed)*
+        )
+    };
+}
+
+/// A wrong thing of each of the dock's six that take the same.
+macro_rules! of_dock {
+    ($($listed:tt)*) => {
+        of_these!([Judge, Least, Plan, Reason, Sentence, Check], $($listed)*)
+    };
 }
 
 /// A wrong thing of one function, made by a helper that takes the call and how it is wrong.
@@ -50,30 +77,15 @@ macro_rules! of_one {
     };
 }
 
-/// A wrong thing of each of the sixteen functions that take an order, made likewise.
+/// A wrong thing of each of the sixteen functions of the dock that take an order.
 macro_rules! of_all {
-    ($with:ident, $type:ident: $($what:literal => $how:expr,)*) => {{
-        const ALL: &[[Wrong; 16]] = &[$({
-            const HOW: $type = $how;
+    ($($listed:tt)*) => {
+        of_these!(
             [
-                (Function::Judge, $what, |call| $with(Function::Judge, call, HOW)),
-                (Function::Classes, $what, |call| $with(Function::Classes, call, HOW)),
-                (Function::Least, $what, |call| $with(Function::Least, call, HOW)),
-                (Function::Plan, $what, |call| $with(Function::Plan, call, HOW)),
-                (Function::BookLeast, $what, |call| $with(Function::BookLeast, call, HOW)),
-                (Function::BookPlan, $what, |call| $with(Function::BookPlan, call, HOW)),
-                (Function::Reason, $what, |call| $with(Function::Reason, call, HOW)),
-                (Function::Sentence, $what, |call| $with(Function::Sentence, call, HOW)),
-                (Function::Parse, $what, |call| $with(Function::Parse, call, HOW)),
-                (Function::Check, $what, |call| $with(Function::Check, call, HOW)),
-                (Function::TimedRows, $what, |call| $with(Function::TimedRows, call, HOW)),
-                (Function::TimedPlan, $what, |call| $with(Function::TimedPlan, call, HOW)),
-                (Function::TimedCheck, $what, |call| $with(Function::TimedCheck, call, HOW)),
-                (Function::Between, $what, |call| $with(Function::Between, call, HOW)),
-                (Function::BetweenOrder, $what, |call| $with(Function::BetweenOrder, call, HOW)),
-                (Function::Write, $what, |call| $with(Function::Write, call, HOW)),
-            ]
-        },)*];
-        ALL.as_flattened()
-    }};
+                Judge, Classes, Least, Plan, BookLeast, BookPlan, Reason, Sentence, Parse, Check,
+                TimedRows, TimedPlan, TimedCheck, Between, BetweenOrder, Write
+            ],
+            $($listed)*
+        )
+    };
 }

@@ -66,7 +66,7 @@ pub const WRONG: &[Wrong] = &[
 ];
 
 /// 8 at the largest bound, but where an earlier refusal holds.
-fn refuses_largest(function: Function, call: &mut Call) -> u32 {
+pub fn refuses_largest(function: Function, call: &mut Call) -> u32 {
     let result = MODEL.entry(function)(&mut call.clone());
     if call.bound == LARGEST && [0, 9, 10, 11, 14].contains(&result) {
         8
@@ -76,7 +76,7 @@ fn refuses_largest(function: Function, call: &mut Call) -> u32 {
 }
 
 /// At one below the smallest bound what should be done at the smallest.
-fn takes_below_smallest(function: Function, call: &mut Call) -> u32 {
+pub fn takes_below_smallest(function: Function, call: &mut Call) -> u32 {
     if call.bound != -LARGEST - 1 {
         return MODEL.entry(function)(call);
     }

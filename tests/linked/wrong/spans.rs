@@ -3,7 +3,9 @@
 
 use super::makers::remade;
 use super::{lent_estimate, Wrong};
-use crate::independent::{fits, is_due, is_made, is_time, judge_counts, judge_estimate, Estimate};
+use crate::independent::{
+    fits, is_due, is_made, is_time, judge_counts, judge_estimate, Estimate, DOCK,
+};
 use crate::lent::Call;
 use crate::library::Function;
 use crate::model::MODEL;
@@ -99,7 +101,7 @@ fn jobs_of(own: &Estimate, holds: fn(&Estimate, usize) -> bool) -> Vec<u32> {
 /// The call by other rows; what these let through is taken for the nearest that is good.
 fn by_rows(function: Function, call: &mut Call, rows: Rows) -> u32 {
     let lent = lent_estimate(function, call);
-    let Some(own) = lent.filter(|own| judge_counts(&own.lows).is_none()) else {
+    let Some(own) = lent.filter(|own| judge_counts(&DOCK, &own.lows).is_none()) else {
         return MODEL.entry(function)(call);
     };
     for (number, holds) in rows {
