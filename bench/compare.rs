@@ -39,6 +39,7 @@ pub fn compare(place: usize, case: &Case) {
     check_tight(case, &order);
     check_lines(case, &order);
     check_plans(case, &order);
+    check_screen(case, &order);
     check_between(case, &order);
     check_estimates(case, &order);
 }
@@ -250,6 +251,23 @@ fn judged(case: &Case, order: &independent::Order, bound: i32, rows: &[u32], rig
         right,
         "checks differ"
     );
+}
+
+/// Within a screen's limits its plan is the dock's, rows and answer; over them it is refused.
+fn check_screen(case: &Case, order: &independent::Order) {
+    let refusal = independent::judge_within(&independent::SCREEN, order);
+    let told = refusal.map_or(0, |refusal| refusal.number + 256 * refusal.job);
+    for functions in [LIBRARY, PLAIN] {
+        let mut at_dock = Buffers::new();
+        let mut from_screen = Buffers::new();
+        if told == 0 {
+            run(&functions, Task::PlanAtLeast, case, &mut at_dock);
+        }
+        let result = run(&functions, Task::ScreenPlan, case, &mut from_screen);
+        assert_eq!(result, told, "a screen's result differs");
+        assert!(from_screen.rows == at_dock.rows, "a screen's rows differ");
+        assert_eq!(from_screen.answer, at_dock.answer, "answers differ");
+    }
 }
 
 /// All three tell the same two numbers at the lows and at the highs, and write the same orders for both

@@ -39,6 +39,13 @@ pub fn wide(random: &mut Random) -> Order {
     WIDE.draw(random)
 }
 
+/// As large as a screen holds.
+pub fn screen(random: &mut Random) -> Order {
+    let mut order = SCREEN.draw(random);
+    order.jobs.truncate(SCREEN_JOBS);
+    order
+}
+
 /// Needs spread over all classes, times and due times over a range.
 struct Shape {
     processors: usize,
@@ -48,6 +55,7 @@ struct Shape {
 }
 
 const JOBS: i32 = 48;
+const SCREEN_JOBS: usize = 12;
 
 /// The difference between the memories of two neighbouring classes.
 const STEP: i32 = 1000;
@@ -100,6 +108,12 @@ const FOUR: Shape = Shape {
     classes: 4,
     times: (1, 1000),
     dues: (0, 6000),
+};
+
+/// The work of 12 jobs just fits before the last due time.
+const SCREEN: Shape = Shape {
+    dues: (0, 1500),
+    ..FOUR
 };
 
 const ONE: Shape = Shape {

@@ -66,6 +66,21 @@ pub fn plan(file: &[u8], bound: i32, rows: &mut [u32], answer: &mut [i32]) -> u3
     }
 }
 
+pub fn screen_plan(file: &[u8], bound: i32, rows: &mut [u32], answer: &mut [i32]) -> u32 {
+    // SAFETY: as above.
+    unsafe {
+        raw::hbr_screen_plan(
+            file.as_ptr(),
+            file.len(),
+            bound,
+            rows.as_mut_ptr(),
+            rows.len(),
+            answer.as_mut_ptr(),
+            answer.len(),
+        )
+    }
+}
+
 pub fn book_least(file: &[u8], rows: &mut [u32], book: &mut [u32], answer: &mut [i32]) -> u32 {
     // SAFETY: as above.
     unsafe {

@@ -19,6 +19,7 @@ mod orders;
 mod plain;
 mod random;
 mod report;
+mod screens;
 mod slow;
 mod subjects;
 mod tables;
@@ -28,14 +29,15 @@ mod worst;
 use cases::Case;
 use clock::Times;
 use families::FAMILIES;
-use subjects::{Task, TASKS, TIMED_TASKS};
+use subjects::{Task, SCREEN_TASKS, TASKS, TIMED_TASKS};
 
 const SEED: u64 = 2;
 
 fn main() {
     let cases = cases::draw(SEED);
     let slow = slow::draw(SEED);
-    for (place, case) in cases.iter().chain(&slow).enumerate() {
+    let screens = screens::draw(SEED);
+    for (place, case) in cases.iter().chain(&slow).chain(&screens).enumerate() {
         compare::compare(place, case);
     }
     let timed = timed::draw(SEED);
@@ -44,10 +46,11 @@ fn main() {
     }
     println!("{}", origin());
     println!(
-        "{} orders of 48 jobs, {} that are slow to check and {} with ready minutes and windows, all answers \
-         equal.",
+        "{} orders of 48 jobs, {} that are slow to check, {} within a screen's limits and {} with ready minutes \
+         and windows, all answers equal.",
         cases.len(),
         slow.len(),
+        screens.len(),
         timed.len()
     );
     println!("{}", clock::manner());
@@ -64,6 +67,10 @@ fn main() {
     let slow: Vec<&Case> = slow.iter().collect();
     let times = clock::time(Task::CheckLong, &slow);
     report::row("check of 3,024 shuffled rows of one minute", &times);
+    for (task, name) in SCREEN_TASKS {
+        let times = clock::time(task, &with_task(task, &screens));
+        report::row(name, &times);
+    }
     let mut timed_plans = Vec::new();
     for (task, name) in TIMED_TASKS {
         let times = clock::time(task, &with_task(task, &timed));

@@ -1,5 +1,5 @@
 //! The library's method in plain Rust, for the benchmark to compare with: the same algorithms,
-//! tables and passes, each value computed once and handed on by reference. Sixteen functions of the
+//! tables and passes, each value computed once and handed on by reference. Seventeen functions of the
 //! C interface, with the same results.
 
 mod amounts;
@@ -70,6 +70,11 @@ pub fn least(file: &[u8], rows: &mut [u32], answer: &mut [i32]) -> u32 {
 /// A plan that meets the bound in `rows`: the number of rows.
 pub fn plan(file: &[u8], bound: i32, rows: &mut [u32], answer: &mut [i32]) -> u32 {
     code(try_plan(file, bound, rows, answer))
+}
+
+/// `plan` with a screen's limits.
+pub fn screen_plan(file: &[u8], bound: i32, rows: &mut [u32], answer: &mut [i32]) -> u32 {
+    code(try_screen_plan(file, bound, rows, answer))
 }
 
 /// `least`, and the times of each maker's jobs are added to that maker's count in `book`.
@@ -291,6 +296,19 @@ fn try_plan(file: &[u8], bound: i32, rows: &mut [u32], answer: &mut [i32]) -> Re
     ask_loose(&setting, bound)?;
     answer[0] = make_plan(&order, &setting, bound, rows) as i32;
     Ok(())
+}
+
+/// The counts by a screen's limits, then the dock's call.
+fn try_screen_plan(
+    file: &[u8],
+    bound: i32,
+    rows: &mut [u32],
+    answer: &mut [i32],
+) -> Result<(), Refusal> {
+    ask_answer(answer, 1)?;
+    let (processors, jobs) = read::counts(file)?;
+    order::accept_counts(&order::SCREEN, processors, jobs)?;
+    try_plan(file, bound, rows, answer)
 }
 
 fn try_book_plan(

@@ -1,6 +1,6 @@
 //! The stack that each call takes, in bytes: every call runs on a stack of its own, and the lowest byte that it changed is looked
-//! up. All drawn orders of the benchmark with their tables of needs and their highs, those with ready minutes and windows too; calls
-//! that succeed and calls that are refused, at several bounds.
+//! up. All drawn orders of the benchmark with their tables of needs and their highs, those with ready minutes and windows and those
+//! that a screen holds too; calls that succeed and calls that are refused, at several bounds.
 
 #[allow(dead_code)]
 mod cases;
@@ -14,6 +14,7 @@ mod orders;
 #[allow(dead_code)]
 mod plain;
 mod random;
+mod screens;
 mod tables;
 #[allow(dead_code)]
 mod timed;
@@ -50,7 +51,14 @@ const TIMED_CHECK: Function = function("hbr_timed_check", raw::hbr_timed_check a
 const TIMED_PLAN: Function = function("hbr_timed_plan", raw::hbr_timed_plan as *const ());
 const BETWEEN: Function = function("hbr_between", raw::hbr_between as *const ());
 const BETWEEN_ORDER: Function = function("hbr_between_order", raw::hbr_between_order as *const ());
-const FUNCTIONS: [Function; 17] = [
+const SCREEN_JUDGE: Function = function("hbr_screen_judge", raw::hbr_screen_judge as *const ());
+const SCREEN_CHECK: Function = function("hbr_screen_check", raw::hbr_screen_check as *const ());
+const SCREEN_SENTENCE: Function =
+    function("hbr_screen_sentence", raw::hbr_screen_sentence as *const ());
+const SCREEN_REASON: Function = function("hbr_screen_reason", raw::hbr_screen_reason as *const ());
+const SCREEN_PLAN: Function = function("hbr_screen_plan", raw::hbr_screen_plan as *const ());
+const SCREEN_LEAST: Function = function("hbr_screen_least", raw::hbr_screen_least as *const ());
+const FUNCTIONS: [Function; 23] = [
     WRITE,
     JUDGE,
     CLASSES,
@@ -68,6 +76,12 @@ const FUNCTIONS: [Function; 17] = [
     TIMED_PLAN,
     BETWEEN,
     BETWEEN_ORDER,
+    SCREEN_JUDGE,
+    SCREEN_CHECK,
+    SCREEN_SENTENCE,
+    SCREEN_REASON,
+    SCREEN_PLAN,
+    SCREEN_LEAST,
 ];
 
 const fn function(name: &'static str, address: *const ()) -> Function {
@@ -379,6 +393,64 @@ fn between_calls(case: &Case, jobs: &[u32], lent: &mut Lent) -> Vec<Call> {
     calls
 }
 
+/// The six calls of a screen on an order that it holds: at several bounds, and with room for no row; then refusals.
+fn screen_calls(case: &Case, lent: &mut Lent) -> Vec<Call> {
+    let file = read(&case.file);
+    let (rows, no_rows) = (lend(&mut lent.rows), lend(&mut lent.rows[..3]));
+    let (line, answer) = (lend(&mut lent.line), lend(&mut lent.answer));
+    let (reason, plan) = (read(&case.reason), read(&case.plan));
+    let mut calls = Vec::new();
+    let mut add = |function: Function, arguments: &[&Vec<u64>], result: u32| {
+        let arguments: Vec<Vec<u64>> = arguments.iter().map(|&own| own.clone()).collect();
+        calls.push(Call::of(function, &arguments, result));
+    };
+    add(SCREEN_JUDGE, &[&file, &answer], 0);
+    add(SCREEN_JUDGE, &[&read(&case.file[1..]), &answer], 12);
+    add(SCREEN_LEAST, &[&file, &rows, &answer], 0);
+    add(SCREEN_LEAST, &[&file, &no_rows, &answer], 9);
+    for (bound, of_bound, of_plan) in [
+        (case.least, 0, 0),
+        (case.looser, 0, 0),
+        (10_000_000, 0, 0),
+        (case.least - 1, 0, 10),
+        (-10_000_000, 0, 10),
+        (10_000_001, 8, 8),
+    ] {
+        let bound = number(bound);
+        add(SCREEN_PLAN, &[&file, &bound, &rows, &answer], of_plan);
+        add(SCREEN_REASON, &[&file, &bound, &answer], of_bound);
+        let arguments = [&file, &bound, &reason, &line, &answer];
+        add(SCREEN_SENTENCE, &arguments, of_bound);
+        add(SCREEN_CHECK, &[&file, &bound, &plan, &answer], of_bound);
+    }
+    calls
+}
+
+/// The same six on an order of 48 jobs, of which a screen says 21 or 20.
+fn over_calls(case: &Case, lent: &mut Lent) -> Vec<Call> {
+    let processors = case.file[case.file.len() - 4];
+    let result = if 4 < processors { 21 } else { 20 };
+    let (file, bound) = (read(&case.file), number(case.least));
+    let (rows, line) = (lend(&mut lent.rows), lend(&mut lent.line));
+    let (reason, answer) = (read(&case.reason), lend(&mut lent.answer));
+    let given = [
+        (SCREEN_JUDGE, vec![&file, &answer]),
+        (SCREEN_LEAST, vec![&file, &rows, &answer]),
+        (SCREEN_PLAN, vec![&file, &bound, &rows, &answer]),
+        (SCREEN_REASON, vec![&file, &bound, &answer]),
+        (
+            SCREEN_SENTENCE,
+            vec![&file, &bound, &reason, &line, &answer],
+        ),
+        (SCREEN_CHECK, vec![&file, &bound, &rows, &answer]),
+    ];
+    let call = |(function, arguments): (Function, Vec<&Vec<u64>>)| {
+        let arguments: Vec<Vec<u64>> = arguments.into_iter().cloned().collect();
+        Call::of(function, &arguments, result)
+    };
+    given.map(call).into()
+}
+
 /// Ready minutes out of range, and windows that close as they open.
 static LATE: [u32; 48] = [u32::MAX; 48];
 static SHUT: [u32; 32] = [7; 32];
@@ -453,6 +525,14 @@ fn main() {
     let mut depths = Vec::new();
     for case in cases::draw(SEED) {
         for call in calls(&case, &lists(&case.file), &mut lent) {
+            depths.push((call.function.name, call.depth(&mut stack)));
+        }
+        for call in over_calls(&case, &mut lent) {
+            depths.push((call.function.name, call.depth(&mut stack)));
+        }
+    }
+    for case in screens::draw(SEED) {
+        for call in screen_calls(&case, &mut lent) {
             depths.push((call.function.name, call.depth(&mut stack)));
         }
     }

@@ -16,6 +16,7 @@ pub struct Functions {
     pub needs: fn(&[u32], &[u32], &mut [u32], &mut [i32]) -> u32,
     pub least: fn(&[u8], &mut [u32], &mut [i32]) -> u32,
     pub plan: fn(&[u8], i32, &mut [u32], &mut [i32]) -> u32,
+    pub screen_plan: fn(&[u8], i32, &mut [u32], &mut [i32]) -> u32,
     pub book_least: fn(&[u8], &mut [u32], &mut [u32], &mut [i32]) -> u32,
     pub book_plan: fn(&[u8], i32, &mut [u32], &mut [u32], &mut [i32]) -> u32,
     pub reason: fn(&[u8], i32, &mut [i32]) -> u32,
@@ -35,6 +36,7 @@ pub const LIBRARY: Functions = Functions {
     needs: library::needs,
     least: library::least,
     plan: library::plan,
+    screen_plan: library::screen_plan,
     book_least: library::book_least,
     book_plan: library::book_plan,
     reason: library::reason,
@@ -54,6 +56,7 @@ pub const PLAIN: Functions = Functions {
     needs: plain::needs,
     least: plain::least,
     plan: plain::plan,
+    screen_plan: plain::screen_plan,
     book_least: plain::book_least,
     book_plan: plain::book_plan,
     reason: plain::reason,
@@ -75,6 +78,7 @@ pub enum Task {
     Least,
     PlanAtLeast,
     PlanLooser,
+    ScreenPlan,
     BookLeast,
     BookPlan,
     Between,
@@ -106,6 +110,12 @@ pub const TASKS: [(Task, &str); 15] = [
     (Task::Parse, "reading that sentence back"),
     (Task::Check, "check of that plan"),
     (Task::CheckLong, "check of it in 3,024 shuffled rows"),
+];
+
+/// The tasks of cases within a screen's limits: the same plan from either caller.
+pub const SCREEN_TASKS: [(Task, &str); 2] = [
+    (Task::PlanAtLeast, "plan of 12 jobs on 4 processors"),
+    (Task::ScreenPlan, "the same plan from a screen"),
 ];
 
 /// The tasks of cases with ready minutes and windows.
@@ -168,6 +178,7 @@ pub fn run(functions: &Functions, task: Task, case: &Case, buffers: &mut Buffers
         Task::Least => (functions.least)(file, rows, answer),
         Task::PlanAtLeast => (functions.plan)(file, case.least, rows, answer),
         Task::PlanLooser => (functions.plan)(file, case.looser, rows, answer),
+        Task::ScreenPlan => (functions.screen_plan)(file, case.least, rows, answer),
         Task::BookLeast => (functions.book_least)(file, rows, book, answer),
         Task::BookPlan => (functions.book_plan)(file, case.least, rows, book, answer),
         Task::Reason => (functions.reason)(file, tight, answer),
@@ -230,7 +241,9 @@ pub fn run_independent(task: Task, case: &Case) {
             let least = independent::least(&order);
             drop(black_box(independent::plan(&order, least)));
         }
-        Task::PlanAtLeast => drop(black_box(independent::plan(&order, case.least))),
+        Task::PlanAtLeast | Task::ScreenPlan => {
+            drop(black_box(independent::plan(&order, case.least)));
+        }
         Task::PlanLooser => drop(black_box(independent::plan(&order, case.looser))),
         Task::BookLeast => {
             drop(black_box(independent::booked(&[0; MAKERS], &order)));

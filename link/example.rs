@@ -1,13 +1,13 @@
 // Plans an order from Rust: two processors, three jobs of two makers, whose needs a table has by their times. Prints the needs, the
 // least lateness, a plan that meets it, why -1 is too tight, in due times and as a sentence, the classes that it speaks of, and the
 // minutes booked for each maker. Then, where job 1 may take up to 7 minutes, between which two numbers the least lateness lies, and
-// the first order, minute by minute, at which it is 1.
+// the first order, minute by minute, at which it is 1. Last a screen asks for the first plan, and for a fifth processor.
 #[allow(dead_code)]
 mod highboyrobin;
 use highboyrobin::{between, between_order, least};
 use highboyrobin::{book_least, classes, judge, needs, reason, sentence, write};
-use highboyrobin::{Between, Book, Job, NeedLine, Reason, Refused, Row};
-use highboyrobin::{LONGEST_LENGTH, MOST_BYTES, MOST_LINE};
+use highboyrobin::{Between, Book, Caller, Job, NeedLine, Reason, Refused, Row};
+use highboyrobin::{LONGEST_LENGTH, MOST_BYTES, MOST_LINE, SCREEN_ROWS};
 
 fn main() -> Result<(), Refused> {
     let memories = [8, 4];
@@ -57,10 +57,23 @@ fn main() -> Result<(), Refused> {
     println!("job 1 of {low} to {high} minutes: least lateness {at_lows} to {at_highs}");
     let mut order = [0; MOST_BYTES];
     if let Some(length) = between_order(file, &highs, 1, &mut order)? {
-        let lateness = least(&order[..length], &mut rows)?.lateness;
+        let lateness = least(&order[..length], &mut rows.clone())?.lateness;
         // job 1 comes after two processors of 4 bytes each; the low byte of its time is first
         let time = order[8];
         println!("job 1 of {time} minutes: least lateness {lateness}");
     }
+    let mut screen_rows = [Row::default(); SCREEN_ROWS];
+    let told = Caller::Screen.least(file, &mut screen_rows)?;
+    let same = screen_rows[..told.rows] == rows[..answer.rows];
+    let which = if same { "the same" } else { "other" };
+    let lateness = told.lateness;
+    println!("from a screen: least lateness {lateness}, {which} rows");
+    let mut wide = [0; MOST_BYTES];
+    let length = write(&[8, 4, 4, 4, 4], &jobs, &mut wide)?;
+    let [at_dock, from_screen] = [Caller::Dock, Caller::Screen].map(|caller| {
+        let told = caller.judge(&wide[..length]);
+        told.map_or_else(|refused| refused.number, |_| 0)
+    });
+    println!("five processors: result {at_dock} at the dock, {from_screen} from a screen");
     Ok(())
 }

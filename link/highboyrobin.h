@@ -28,11 +28,14 @@
  * hbr_between_order take a high for each job beside it, in the order of the file: highs_length is the number of jobs. Due times,
  * needs and makers are those of the file whatever the times.
  *
+ * Screens. A dock holds HBR_MOST_PROCESSORS processors and HBR_MOST_JOBS jobs, a screen HBR_SCREEN_PROCESSORS and HBR_SCREEN_JOBS. A
+ * screen calls the same planner by the six functions hbr_screen_..; an order within its limits gets the dock's own reply.
+ *
  * Results. Each function returns 0 where it succeeds, else a refusal: its number is hbr_number(result), and the job that it is
  * about, of 16 the processor, of 17 and 18 the length, of 5 from hbr_needs the place in the list, 0 where it is about none,
  * hbr_job(result). Of several refusals that apply the first is told: HBR_SHORT_ANSWER, HBR_PART_JOB, HBR_SHORT_CLASSES,
  * HBR_SHORT_REASON, HBR_SHORT_BOOK or HBR_LONG_LIST, 12, HBR_WRONG_TIMES or HBR_WRONG_HIGHS, then 17, 18, 1 to 6, 13, 19, 7, 15, 16,
- * 8 to 11, 14.
+ * 8 to 11, 14. Of a screen 21 stands where 2 stands and 20 where 4 stands: 1, 21, 3, 20, 5, 6.
  *
  * Memory. You own every buffer; nothing is kept after a call, and nothing is allocated. Two buffers of one call must not overlap
  * unless both are const. Lengths count elements, not bytes. Pointers must be valid and aligned, not NULL, also where the length is
@@ -74,6 +77,12 @@ extern "C" {
 #define HBR_LONGEST_LENGTH 100000
 #define HBR_MOST_LENGTHS 16777215
 
+/* of a screen: the most processors and jobs of an order, bytes of its file, rows that it asks to be lent */
+#define HBR_SCREEN_PROCESSORS 4
+#define HBR_SCREEN_JOBS 12
+#define HBR_SCREEN_BYTES 220
+#define HBR_SCREEN_ROWS 180
+
 /* refusals */
 #define HBR_NO_PROCESSOR 1        /* the order has no processor */
 #define HBR_TOO_MANY_PROCESSORS 2 /* it has over 16 */
@@ -103,6 +112,10 @@ extern "C" {
 #define HBR_WRONG_HIGHS 253       /* the highs are not one to a job; after 12 */
 #define HBR_PART_JOB 254          /* the numbers of the jobs are not four to a job */
 #define HBR_SHORT_ANSWER 255      /* the answer is shorter than the function's HBR_.._ANSWER */
+
+/* refusals of a screen alone */
+#define HBR_SCREEN_TOO_MANY_JOBS 20       /* the order has over 12; in place of 4, so told after 3 and before 5 */
+#define HBR_SCREEN_TOO_MANY_PROCESSORS 21 /* it has over 4; in place of 2, so told after 1 and before 3 */
 
 #define hbr_number(result) ((result) % 256u)
 #define hbr_job(result) ((result) / 256u)
@@ -258,6 +271,23 @@ uint32_t hbr_needs(const uint32_t *table, size_t table_length, const uint32_t *l
 #define HBR_WRITE_ANSWER 1
 uint32_t hbr_write(const uint32_t *memories, size_t memories_length, const uint32_t *jobs, size_t jobs_length, uint8_t *file,
                    size_t file_length, int32_t *answer, size_t answer_length);
+
+/* From a screen: hbr_judge, hbr_least, hbr_plan, hbr_reason, hbr_sentence and hbr_check with the screen's limits. Parameters and
+ * answers are those of the dock's calls: HBR_JUDGE_ANSWER and so on serve both. Within HBR_SCREEN_PROCESSORS and HBR_SCREEN_JOBS the
+ * result and every lent buffer are those of the dock's call, refused or not. An order over them is refused, also where the dock takes
+ * it: 21 stands where 2 stands and 20 where 4 stands, and neither carries a job. Refusals, in the order in which they are told: 255,
+ * 253 of hbr_screen_sentence, 12, 1, 21, 3, 20, 5, 6, 13, 7, .. as of the dock's call. A file is 12 where it is 12 at the dock, so
+ * that one of 13 jobs is 20. 4 * HBR_SCREEN_ROWS numbers are enough for rows; hbr_screen_check takes up to HBR_MOST_ROWS rows. */
+uint32_t hbr_screen_judge(const uint8_t *file, size_t file_length, int32_t *answer, size_t answer_length);
+uint32_t hbr_screen_least(const uint8_t *file, size_t file_length, uint32_t *rows, size_t rows_length, int32_t *answer,
+                          size_t answer_length);
+uint32_t hbr_screen_plan(const uint8_t *file, size_t file_length, int32_t bound, uint32_t *rows, size_t rows_length, int32_t *answer,
+                         size_t answer_length);
+uint32_t hbr_screen_reason(const uint8_t *file, size_t file_length, int32_t bound, int32_t *answer, size_t answer_length);
+uint32_t hbr_screen_sentence(const uint8_t *file, size_t file_length, int32_t bound, const int32_t *reason, size_t reason_length,
+                             uint8_t *line, size_t line_length, int32_t *answer, size_t answer_length);
+uint32_t hbr_screen_check(const uint8_t *file, size_t file_length, int32_t bound, const uint32_t *rows, size_t rows_length,
+                          int32_t *answer, size_t answer_length);
 
 #ifdef __cplusplus
 }

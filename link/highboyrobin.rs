@@ -2,7 +2,8 @@
 //!
 //! Times are whole minutes from a common start, minute 0. Jobs and processors are numbered from 1, in the order in which they are
 //! listed. Due 10 means done by the close of minute 10, so the end is minute 11: a job's end is its due time plus the bound plus 1.
-//! An order is handed over as the bytes of an order file, which `write` makes. A refused call writes nothing.
+//! An order is handed over as the bytes of an order file, which `write` makes. A refused call writes nothing. A screen, which holds
+//! fewer processors and jobs than a dock, calls by `Caller::Screen`.
 
 /// The most processors, jobs and classes of an order, bytes of its file, rows of a plan, rows of a plan with times, bytes of a
 /// reason's line.
@@ -25,6 +26,12 @@ pub const MOST_MINUTE: u32 = 1_000_000;
 pub const TABLE_LINES: usize = 32;
 pub const LONGEST_LENGTH: u32 = 100_000;
 pub const MOST_LENGTHS: usize = 16_777_215;
+
+/// Of a screen: the most processors and jobs of an order, bytes of its file, rows that it asks to be lent.
+pub const SCREEN_PROCESSORS: usize = 4;
+pub const SCREEN_JOBS: usize = 12;
+pub const SCREEN_BYTES: usize = 220;
+pub const SCREEN_ROWS: usize = 180;
 
 /// The functions of the archive, as `highboyrobin.h` declares them. A slice is a pointer and a length in elements.
 pub mod raw {
@@ -193,6 +200,56 @@ pub mod raw {
             answer: *mut i32,
             answer_length: usize,
         ) -> u32;
+        pub fn hbr_screen_judge(
+            file: *const u8,
+            file_length: usize,
+            answer: *mut i32,
+            answer_length: usize,
+        ) -> u32;
+        pub fn hbr_screen_least(
+            file: *const u8,
+            file_length: usize,
+            rows: *mut u32,
+            rows_length: usize,
+            answer: *mut i32,
+            answer_length: usize,
+        ) -> u32;
+        pub fn hbr_screen_plan(
+            file: *const u8,
+            file_length: usize,
+            bound: i32,
+            rows: *mut u32,
+            rows_length: usize,
+            answer: *mut i32,
+            answer_length: usize,
+        ) -> u32;
+        pub fn hbr_screen_reason(
+            file: *const u8,
+            file_length: usize,
+            bound: i32,
+            answer: *mut i32,
+            answer_length: usize,
+        ) -> u32;
+        pub fn hbr_screen_sentence(
+            file: *const u8,
+            file_length: usize,
+            bound: i32,
+            reason: *const i32,
+            reason_length: usize,
+            line: *mut u8,
+            line_length: usize,
+            answer: *mut i32,
+            answer_length: usize,
+        ) -> u32;
+        pub fn hbr_screen_check(
+            file: *const u8,
+            file_length: usize,
+            bound: i32,
+            rows: *const u32,
+            rows_length: usize,
+            answer: *mut i32,
+            answer_length: usize,
+        ) -> u32;
     }
 }
 
@@ -264,6 +321,8 @@ impl Refused {
             17 => "no line of the table of needs meets a length",
             18 => "two lines of the table of needs meet a length",
             19 => "a job's low is above its high",
+            20 => "a screen's order has over 12 jobs",
+            21 => "a screen's order has over 4 processors",
             253 => "the reason has under 19 numbers, the book under 16, the classes under 32, the times are not one to each job and processor, the highs not one to a job, or over 16,777,215 lengths are listed",
             254 => "the numbers of the jobs are not four to a job",
             255 => "the answer is too short",
@@ -416,14 +475,7 @@ fn told(result: u32) -> Result<(), Refused> {
 
 /// Judges an order file. Refusals: 12, 1 to 6, 13, 7.
 pub fn judge(file: &[u8]) -> Result<Sizes, Refused> {
-    let mut answer = [0; 3];
-    told(unsafe { raw::hbr_judge(file.as_ptr(), file.len(), answer.as_mut_ptr(), answer.len()) })?;
-    let [processors, jobs, rows] = answer.map(|n| n as usize);
-    Ok(Sizes {
-        processors,
-        jobs,
-        rows,
-    })
+    Caller::Dock.judge(file)
 }
 
 /// The classes of an order: its distinct memories, the largest first, each with how many processors have it. Refusals: 12, 1 to 6,
@@ -450,41 +502,13 @@ pub fn classes(file: &[u8]) -> Result<Classes, Refused> {
 /// The least lateness, with a plan that meets it from `rows[0]` on, in which no row begins where another of its job on its
 /// processor ends. Refusals: 12, 1 to 6, 13, 7, 9.
 pub fn least(file: &[u8], rows: &mut [Row]) -> Result<Least, Refused> {
-    let mut answer = [0; 2];
-    let (at, length) = (rows.as_mut_ptr().cast(), rows.len() * 4);
-    told(unsafe {
-        raw::hbr_least(
-            file.as_ptr(),
-            file.len(),
-            at,
-            length,
-            answer.as_mut_ptr(),
-            answer.len(),
-        )
-    })?;
-    Ok(Least {
-        lateness: answer[0],
-        rows: answer[1] as usize,
-    })
+    Caller::Dock.least(file, rows)
 }
 
 /// A plan in which every job is done by its end, from `rows[0]` on, joined as that of `least`; its number of rows. Refusals: 12, 1
 /// to 6, 13, 7 to 10.
 pub fn plan(file: &[u8], bound: i32, rows: &mut [Row]) -> Result<usize, Refused> {
-    let mut answer = [0; 1];
-    let (at, length) = (rows.as_mut_ptr().cast(), rows.len() * 4);
-    told(unsafe {
-        raw::hbr_plan(
-            file.as_ptr(),
-            file.len(),
-            bound,
-            at,
-            length,
-            answer.as_mut_ptr(),
-            answer.len(),
-        )
-    })?;
-    Ok(answer[0] as usize)
+    Caller::Dock.plan(file, bound, rows)
 }
 
 /// `least`, and where a plan is written the times of each maker's jobs are added to that maker's count. Hand each call the book that
@@ -537,17 +561,7 @@ pub fn book_plan(
 
 /// Why no plan can meet the bound; `None` where one can. Refusals: 12, 1 to 6, 13, 7, 8.
 pub fn reason(file: &[u8], bound: i32) -> Result<Option<Reason>, Refused> {
-    let mut answer = [0; 19];
-    told(unsafe {
-        raw::hbr_reason(
-            file.as_ptr(),
-            file.len(),
-            bound,
-            answer.as_mut_ptr(),
-            answer.len(),
-        )
-    })?;
-    Ok(Reason::of(&answer))
+    Caller::Dock.reason(file, bound)
 }
 
 /// A reason as one English line, written from `line[0]` on, without a line feed; `MOST_LINE` bytes are always enough. The reason
@@ -558,23 +572,7 @@ pub fn sentence<'a>(
     reason: &Reason,
     line: &'a mut [u8],
 ) -> Result<&'a str, Refused> {
-    let (reason, mut answer) = (reason.numbers(), [0; 1]);
-    let (at, length) = (line.as_mut_ptr(), line.len());
-    told(unsafe {
-        raw::hbr_sentence(
-            file.as_ptr(),
-            file.len(),
-            bound,
-            reason.as_ptr(),
-            reason.len(),
-            at,
-            length,
-            answer.as_mut_ptr(),
-            answer.len(),
-        )
-    })?;
-    let written = &line[..answer[0] as usize];
-    Ok(core::str::from_utf8(written).expect("a line is ASCII"))
+    Caller::Dock.sentence(file, bound, reason, line)
 }
 
 /// The one reason that stands at this bound and whose line these bytes are; `None` for any other line. Refusals: 12, 1
@@ -598,20 +596,7 @@ pub fn parse(file: &[u8], bound: i32, line: &[u8]) -> Result<Option<Reason>, Ref
 /// Whether rows, made by anybody and in any order, are a right plan that meets the bound. Refusals: 12, 1 to 6, 13, 7, 8,
 /// 11.
 pub fn check(file: &[u8], bound: i32, rows: &[Row]) -> Result<bool, Refused> {
-    let mut answer = [0; 1];
-    let (at, length) = (rows.as_ptr().cast(), rows.len() * 4);
-    told(unsafe {
-        raw::hbr_check(
-            file.as_ptr(),
-            file.len(),
-            bound,
-            at,
-            length,
-            answer.as_mut_ptr(),
-            answer.len(),
-        )
-    })?;
-    Ok(answer[0] == 1)
+    Caller::Dock.check(file, bound, rows)
 }
 
 /// How many rows `timed_plan` asks to be lent at a bound, at most `MOST_TIMED_ROWS`: a ready minute for each job, a window for each
@@ -785,4 +770,149 @@ pub fn write(memories: &[u32], jobs: &[Job], file: &mut [u8]) -> Result<usize, R
         )
     })?;
     Ok(answer[0] as usize)
+}
+
+/// Who calls: a dock, or a screen, which holds `SCREEN_PROCESSORS` processors and `SCREEN_JOBS` jobs. An order within these gets the
+/// same reply from either. Over them a screen refuses: 21 stands where a dock has 2 and 20 where it has 4, so 12, 1, 21, 3, 20, 5,
+/// 6, 13, 7 and what follows. The functions above are a dock's.
+#[derive(Clone, Copy, Debug, PartialEq, Eq)]
+pub enum Caller {
+    Dock,
+    Screen,
+}
+
+impl Caller {
+    /// `judge` by this caller's limits.
+    pub fn judge(self, file: &[u8]) -> Result<Sizes, Refused> {
+        let call = match self {
+            Caller::Dock => raw::hbr_judge,
+            Caller::Screen => raw::hbr_screen_judge,
+        };
+        let mut answer = [0; 3];
+        told(unsafe { call(file.as_ptr(), file.len(), answer.as_mut_ptr(), answer.len()) })?;
+        let [processors, jobs, rows] = answer.map(|n| n as usize);
+        Ok(Sizes {
+            processors,
+            jobs,
+            rows,
+        })
+    }
+
+    /// `least` by this caller's limits.
+    pub fn least(self, file: &[u8], rows: &mut [Row]) -> Result<Least, Refused> {
+        let call = match self {
+            Caller::Dock => raw::hbr_least,
+            Caller::Screen => raw::hbr_screen_least,
+        };
+        let mut answer = [0; 2];
+        let (at, length) = (rows.as_mut_ptr().cast(), rows.len() * 4);
+        told(unsafe {
+            call(
+                file.as_ptr(),
+                file.len(),
+                at,
+                length,
+                answer.as_mut_ptr(),
+                answer.len(),
+            )
+        })?;
+        Ok(Least {
+            lateness: answer[0],
+            rows: answer[1] as usize,
+        })
+    }
+
+    /// `plan` by this caller's limits.
+    pub fn plan(self, file: &[u8], bound: i32, rows: &mut [Row]) -> Result<usize, Refused> {
+        let call = match self {
+            Caller::Dock => raw::hbr_plan,
+            Caller::Screen => raw::hbr_screen_plan,
+        };
+        let mut answer = [0; 1];
+        let (at, length) = (rows.as_mut_ptr().cast(), rows.len() * 4);
+        told(unsafe {
+            call(
+                file.as_ptr(),
+                file.len(),
+                bound,
+                at,
+                length,
+                answer.as_mut_ptr(),
+                answer.len(),
+            )
+        })?;
+        Ok(answer[0] as usize)
+    }
+
+    /// `reason` by this caller's limits.
+    pub fn reason(self, file: &[u8], bound: i32) -> Result<Option<Reason>, Refused> {
+        let call = match self {
+            Caller::Dock => raw::hbr_reason,
+            Caller::Screen => raw::hbr_screen_reason,
+        };
+        let mut answer = [0; 19];
+        told(unsafe {
+            call(
+                file.as_ptr(),
+                file.len(),
+                bound,
+                answer.as_mut_ptr(),
+                answer.len(),
+            )
+        })?;
+        Ok(Reason::of(&answer))
+    }
+
+    /// `sentence` by this caller's limits.
+    pub fn sentence<'a>(
+        self,
+        file: &[u8],
+        bound: i32,
+        reason: &Reason,
+        line: &'a mut [u8],
+    ) -> Result<&'a str, Refused> {
+        let call = match self {
+            Caller::Dock => raw::hbr_sentence,
+            Caller::Screen => raw::hbr_screen_sentence,
+        };
+        let (reason, mut answer) = (reason.numbers(), [0; 1]);
+        let (at, length) = (line.as_mut_ptr(), line.len());
+        told(unsafe {
+            call(
+                file.as_ptr(),
+                file.len(),
+                bound,
+                reason.as_ptr(),
+                reason.len(),
+                at,
+                length,
+                answer.as_mut_ptr(),
+                answer.len(),
+            )
+        })?;
+        let written = &line[..answer[0] as usize];
+        Ok(core::str::from_utf8(written).expect("a line is ASCII"))
+    }
+
+    /// `check` by this caller's limits.
+    pub fn check(self, file: &[u8], bound: i32, rows: &[Row]) -> Result<bool, Refused> {
+        let call = match self {
+            Caller::Dock => raw::hbr_check,
+            Caller::Screen => raw::hbr_screen_check,
+        };
+        let mut answer = [0; 1];
+        let (at, length) = (rows.as_ptr().cast(), rows.len() * 4);
+        told(unsafe {
+            call(
+                file.as_ptr(),
+                file.len(),
+                bound,
+                at,
+                length,
+                answer.as_mut_ptr(),
+                answer.len(),
+            )
+        })?;
+        Ok(answer[0] == 1)
+    }
 }

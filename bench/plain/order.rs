@@ -22,7 +22,30 @@ pub struct Order {
     pub jobs: [Job; MOST_JOBS],
 }
 
+/// The most processors and jobs of a caller's order, and the refusals of more.
+pub struct Limits {
+    processors: usize,
+    jobs: usize,
+    over_processors: Refusal,
+    over_jobs: Refusal,
+}
+
+pub const DOCK: Limits = Limits {
+    processors: MOST_PROCESSORS,
+    jobs: MOST_JOBS,
+    over_processors: Refusal::plain(2),
+    over_jobs: Refusal::plain(4),
+};
+
+pub const SCREEN: Limits = Limits {
+    processors: 4,
+    jobs: 12,
+    over_processors: Refusal::plain(21),
+    over_jobs: Refusal::plain(20),
+};
+
 /// A refusal's number, and the job, the length or the place in a list that it is about, or 0.
+#[derive(Clone, Copy)]
 pub struct Refusal {
     pub number: u32,
     pub job: u32,
@@ -50,19 +73,19 @@ impl Order {
     }
 }
 
-/// Refusals 1 to 4, by the counts alone.
-pub fn accept_counts(processors: usize, jobs: usize) -> Result<(), Refusal> {
+/// Refusals 1 to 4, or 1, 21, 3 and 20, by the counts alone.
+pub fn accept_counts(limits: &Limits, processors: usize, jobs: usize) -> Result<(), Refusal> {
     if processors == 0 {
         return Err(Refusal::plain(1));
     }
-    if MOST_PROCESSORS < processors {
-        return Err(Refusal::plain(2));
+    if limits.processors < processors {
+        return Err(limits.over_processors);
     }
     if jobs == 0 {
         return Err(Refusal::plain(3));
     }
-    if MOST_JOBS < jobs {
-        return Err(Refusal::plain(4));
+    if limits.jobs < jobs {
+        return Err(limits.over_jobs);
     }
     Ok(())
 }

@@ -62,7 +62,7 @@ pub fn read_by(
     accept: impl Fn(&Order) -> Result<(), Refusal>,
 ) -> Result<Order, Refusal> {
     let trailer = trailer(file).ok_or(BAD_FILE)?;
-    order::accept_counts(trailer.processors, trailer.jobs)?;
+    order::accept_counts(&order::DOCK, trailer.processors, trailer.jobs)?;
     let mut order = Order {
         processor_count: trailer.processors,
         job_count: trailer.jobs,

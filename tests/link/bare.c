@@ -1,6 +1,7 @@
 /* The archive without a C library: this program brings its own memcpy and memset. Order C, its need from a table, has the least
  * lateness -8; its job, ready at 5 on a processor that is open up to 100, runs from 5 to 8 at -3; it has one class, one processor
- * of memory 4; with a time of 3 to 5 minutes its least lateness is -8 to -6, and -7 at 4. Linux on x86-64. */
+ * of memory 4; with a time of 3 to 5 minutes its least lateness is -8 to -6, and -7 at 4. A screen has the same answers, and
+ * refuses 13 jobs. Linux on x86-64. */
 #include "../../link/highboyrobin.h"
 
 void *memcpy(void *to, const void *from, size_t count) {
@@ -13,6 +14,32 @@ void *memset(void *to, int value, size_t count) {
   for (size_t i = 0; i < count; i++)
     ((uint8_t *)to)[i] = (uint8_t)value;
   return to;
+}
+
+/* the same order from a screen, then one of 13 jobs; 0 where all is as it should be */
+static int from_screen(const uint8_t *file, size_t length) {
+  static uint8_t line[HBR_MOST_LINE], longer[HBR_MOST_BYTES];
+  static uint32_t rows[4], jobs[4 * (HBR_SCREEN_JOBS + 1)];
+  const uint32_t memories[] = {4};
+  int32_t told[HBR_REASON_ANSWER], count[HBR_CHECK_ANSWER];
+  if (hbr_screen_judge(file, length, told, HBR_JUDGE_ANSWER) != 0 || told[2] != 1)
+    return 15;
+  if (hbr_screen_least(file, length, rows, 4, told, HBR_LEAST_ANSWER) != 0 || told[0] != -8 || rows[3] != 3)
+    return 16;
+  if (hbr_screen_check(file, length, -8, rows, 4, count, HBR_CHECK_ANSWER) != 0 || count[0] != 1)
+    return 17;
+  if (hbr_screen_plan(file, length, -9, rows, 4, count, HBR_PLAN_ANSWER) != HBR_BOUND_TOO_TIGHT)
+    return 18;
+  if (hbr_screen_reason(file, length, -9, told, HBR_REASON_ANSWER) != 0 || told[0] != HBR_JOB)
+    return 19;
+  if (hbr_screen_sentence(file, length, -9, told, HBR_REASON_ANSWER, line, sizeof line, count, HBR_SENTENCE_ANSWER) != 0 ||
+      count[0] != 39)
+    return 20;
+  for (size_t j = 0; j < sizeof jobs / sizeof jobs[0]; j++)
+    jobs[j] = j % 4 == 3 ? 1 : 4;
+  if (hbr_write(memories, 1, jobs, sizeof jobs / sizeof jobs[0], longer, sizeof longer, count, HBR_WRITE_ANSWER) != 0)
+    return 21;
+  return hbr_screen_judge(longer, (size_t)count[0], told, HBR_JUDGE_ANSWER) == HBR_SCREEN_TOO_MANY_JOBS ? 0 : 22;
 }
 
 /* 0 where all is as it should be */
@@ -51,7 +78,9 @@ int begin(void) {
     return 14;
   if (hbr_classes(file, (size_t)length[0], classes, 2 * HBR_MOST_CLASSES, asked, HBR_CLASSES_ANSWER) != 0)
     return 10;
-  return asked[0] == 1 && classes[0] == 4 && classes[1] == 1 ? 0 : 11;
+  if (asked[0] != 1 || classes[0] != 4 || classes[1] != 1)
+    return 11;
+  return from_screen(file, (size_t)length[0]);
 }
 
 /* the stack is aligned to 16 bytes here; 60 leaves the program */

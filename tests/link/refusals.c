@@ -9,7 +9,7 @@ static int32_t answer[HBR_REASON_ANSWER];
 static uint32_t rows[4 * (HBR_MOST_TIMED_ROWS + 1)];
 static uint32_t classes[2 * HBR_MOST_CLASSES];
 static uint8_t line[HBR_MOST_LINE];
-static uint8_t file[HBR_MOST_BYTES];
+static uint8_t file[HBR_MOST_BYTES + 16]; /* the longest that is read, and a job */
 static uint8_t order[HBR_MOST_BYTES];
 static uint32_t memories[HBR_MOST_PROCESSORS + 1];
 static uint32_t jobs[4 * (HBR_MOST_JOBS + 1)];
@@ -17,6 +17,9 @@ static uint32_t book[HBR_MOST_MAKERS + 1];
 static uint32_t kept_book[HBR_MOST_MAKERS + 1];
 static uint32_t lengths[HBR_MOST_LENGTHS + 1];
 static uint32_t needs[3];
+static int32_t dock_answer[HBR_REASON_ANSWER];
+static uint32_t dock_rows[4 * HBR_SCREEN_ROWS];
+static uint8_t dock_line[HBR_MOST_LINE];
 static int wrong;
 
 static void fill(void) {
@@ -284,6 +287,147 @@ static void of_needs(void) {
   }
 }
 
+/* the file of an order of so many memories and jobs, all numbers 0: its length */
+static size_t counted(uint8_t m, uint8_t n) {
+  const size_t lists = 4u * m + 16u * n;
+  memset(file, 0, lists + 12);
+  file[lists + 4] = (uint8_t)(4 * m); /* where the jobs begin */
+  file[lists + 8] = m;
+  file[lists + 10] = n;
+  return lists + 12;
+}
+
+/* the six calls of a screen are refused alike, at a bound that is out of range, with no room and too many rows; their answers lack
+ * so many numbers */
+static void screened(size_t length, size_t lacking, uint32_t number, uint32_t job) {
+  static const int32_t reason[HBR_REASON_ANSWER] = {HBR_JOB, 1, 3};
+  const int32_t bound = 10000001;
+  const size_t too_many = 4 * (HBR_MOST_ROWS + 1);
+  refused(hbr_screen_judge(file, length, answer, HBR_JUDGE_ANSWER - lacking), number, job);
+  refused(hbr_screen_least(file, length, rows, 0, answer, HBR_LEAST_ANSWER - lacking), number, job);
+  refused(hbr_screen_plan(file, length, bound, rows, 0, answer, HBR_PLAN_ANSWER - lacking), number, job);
+  refused(hbr_screen_reason(file, length, bound, answer, HBR_REASON_ANSWER - lacking), number, job);
+  refused(hbr_screen_sentence(file, length, bound, reason, HBR_REASON_ANSWER, line, 0, answer, HBR_SENTENCE_ANSWER - lacking),
+          number, job);
+  refused(hbr_screen_check(file, length, bound, rows, too_many, answer, HBR_CHECK_ANSWER - lacking), number, job);
+}
+
+/* an order of so many memories and jobs of 3 minutes is taken by the dock and refused by a screen */
+static void dock_alone(uint32_t m, uint32_t n, uint32_t number) {
+  if (write(m, 4, n, 3, 10, 4) != 0)
+    wrong++;
+  size_t length = (size_t)answer[0];
+  if (hbr_judge(file, length, answer, HBR_JUDGE_ANSWER) != 0 || answer[0] != (int32_t)m || answer[1] != (int32_t)n) {
+    printf("%u processors and %u jobs are refused at the dock\n", m, n);
+    wrong++;
+  }
+  fill();
+  screened(length, 0, number, 0);
+}
+
+/* what the dock's call left is kept, before the same is asked by a screen */
+static void keep(void) {
+  memcpy(dock_answer, answer, sizeof answer);
+  memcpy(dock_rows, rows, sizeof dock_rows);
+  memcpy(dock_line, line, sizeof line);
+  fill();
+}
+
+/* a screen's call has the dock's result, which is this one, and left what the dock's call left */
+static void same(const char *name, uint32_t at_dock, uint32_t from_screen, uint32_t result) {
+  if (at_dock != result || from_screen != result || memcmp(answer, dock_answer, sizeof answer) != 0 ||
+      memcmp(rows, dock_rows, sizeof dock_rows) != 0 || memcmp(line, dock_line, sizeof line) != 0) {
+    printf("%s: %u at the dock, %u from a screen, not %u and the same\n", name, at_dock, from_screen, result);
+    wrong++;
+  }
+  fill();
+}
+
+/* the six calls on one file, at one bound and with room for so many numbers of rows, have one reply from dock and screen */
+static void alike(size_t length, int32_t bound, size_t room, uint32_t of_least, uint32_t of_plan) {
+  static int32_t reason[HBR_REASON_ANSWER];
+  static uint32_t plan[4 * HBR_SCREEN_ROWS];
+  const uint32_t of_file = of_least == HBR_BUFFER_TOO_SHORT ? 0 : of_least;
+  const uint32_t of_bound = of_plan == HBR_BUFFER_TOO_SHORT || of_plan == HBR_BOUND_TOO_TIGHT ? 0 : of_plan;
+  uint32_t at_dock = hbr_judge(file, length, answer, HBR_JUDGE_ANSWER);
+  keep();
+  same("judge", at_dock, hbr_screen_judge(file, length, answer, HBR_JUDGE_ANSWER), of_file);
+  at_dock = hbr_least(file, length, rows, room, answer, HBR_LEAST_ANSWER);
+  keep();
+  same("least", at_dock, hbr_screen_least(file, length, rows, room, answer, HBR_LEAST_ANSWER), of_least);
+  at_dock = hbr_plan(file, length, bound, rows, room, answer, HBR_PLAN_ANSWER);
+  memcpy(plan, rows, sizeof plan);
+  keep();
+  same("plan", at_dock, hbr_screen_plan(file, length, bound, rows, room, answer, HBR_PLAN_ANSWER), of_plan);
+  at_dock = hbr_reason(file, length, bound, answer, HBR_REASON_ANSWER);
+  memcpy(reason, answer, sizeof reason);
+  keep();
+  same("reason", at_dock, hbr_screen_reason(file, length, bound, answer, HBR_REASON_ANSWER), of_bound);
+  at_dock = hbr_sentence(file, length, bound, reason, HBR_REASON_ANSWER, line, sizeof line, answer, HBR_SENTENCE_ANSWER);
+  keep();
+  same("sentence", at_dock,
+       hbr_screen_sentence(file, length, bound, reason, HBR_REASON_ANSWER, line, sizeof line, answer, HBR_SENTENCE_ANSWER),
+       of_bound);
+  for (size_t numbers = 44; numbers <= 48; numbers += 4) { /* a row too few, and all 12 */
+    at_dock = hbr_check(file, length, bound, plan, numbers, answer, HBR_CHECK_ANSWER);
+    keep();
+    same("check", at_dock, hbr_screen_check(file, length, bound, plan, numbers, answer, HBR_CHECK_ANSWER), of_bound);
+  }
+}
+
+/* the refusals of a screen by the counts of an order, each where all that follow hold too, and orders that the dock alone takes */
+static void of_counts(void) {
+  static const int32_t reason[HBR_REASON_ANSWER] = {HBR_JOB, 1, 3};
+  const size_t short_reason = HBR_REASON_ANSWER - 1;
+  screened(counted(0, 0), 1, HBR_SHORT_ANSWER, 0);
+  refused(hbr_screen_sentence(file, 11, 0, reason, short_reason, line, 0, answer, HBR_SENTENCE_ANSWER), HBR_SHORT_REASON, 0);
+  screened(11, 0, HBR_BAD_FILE, 0);
+  screened(counted(16, 49), 0, HBR_BAD_FILE, 0);
+  screened(counted(0, 0), 0, HBR_NO_PROCESSOR, 0);
+  screened(counted(0, 13), 0, HBR_NO_PROCESSOR, 0);
+  screened(counted(5, 0), 0, HBR_SCREEN_TOO_MANY_PROCESSORS, 0);
+  refused(hbr_judge(file, 32, answer, HBR_JUDGE_ANSWER), HBR_NO_JOB, 0);
+  screened(counted(5, 13), 0, HBR_SCREEN_TOO_MANY_PROCESSORS, 0);
+  screened(counted(17, 1), 0, HBR_SCREEN_TOO_MANY_PROCESSORS, 0);
+  refused(hbr_judge(file, 96, answer, HBR_JUDGE_ANSWER), HBR_TOO_MANY_PROCESSORS, 0);
+  screened(counted(4, 0), 0, HBR_NO_JOB, 0);
+  screened(counted(4, 13), 0, HBR_SCREEN_TOO_MANY_JOBS, 0);
+  screened(counted(1, 49), 0, HBR_SCREEN_TOO_MANY_JOBS, 0);
+  refused(hbr_judge(file, 800, answer, HBR_JUDGE_ANSWER), HBR_TOO_MANY_JOBS, 0);
+  screened(counted(4, 12), 0, HBR_TIME_OUT_OF_RANGE, 1);
+  dock_alone(HBR_SCREEN_PROCESSORS + 1, 1, HBR_SCREEN_TOO_MANY_PROCESSORS);
+  dock_alone(HBR_SCREEN_PROCESSORS + 1, HBR_SCREEN_JOBS + 1, HBR_SCREEN_TOO_MANY_PROCESSORS);
+  dock_alone(HBR_MOST_PROCESSORS, HBR_MOST_JOBS, HBR_SCREEN_TOO_MANY_PROCESSORS);
+  dock_alone(1, HBR_SCREEN_JOBS + 1, HBR_SCREEN_TOO_MANY_JOBS);
+  dock_alone(HBR_SCREEN_PROCESSORS, HBR_SCREEN_JOBS + 1, HBR_SCREEN_TOO_MANY_JOBS);
+  dock_alone(1, HBR_MOST_JOBS, HBR_SCREEN_TOO_MANY_JOBS);
+}
+
+/* the largest order of a screen, 4 processors and 12 jobs of 3 minutes: 15 rows asked for, 12 written, least lateness -2; planned,
+ * refused by bound or room, as many rows to check as at the dock, and refused by a job */
+static void of_screens(void) {
+  const size_t most = 4 * HBR_MOST_ROWS;
+  fill();
+  of_counts();
+  if (write(HBR_SCREEN_PROCESSORS, 4, HBR_SCREEN_JOBS, 3, 10, 4) != 0 || answer[0] != HBR_SCREEN_BYTES)
+    wrong++;
+  fill();
+  alike(HBR_SCREEN_BYTES, -2, 60, 0, 0);
+  alike(HBR_SCREEN_BYTES, 100, 60, 0, 0);
+  alike(HBR_SCREEN_BYTES, -3, 60, 0, HBR_BOUND_TOO_TIGHT);
+  alike(HBR_SCREEN_BYTES, -9, 60, 0, HBR_BOUND_TOO_TIGHT);
+  alike(HBR_SCREEN_BYTES, -2, 59, HBR_BUFFER_TOO_SHORT, HBR_BUFFER_TOO_SHORT);
+  alike(HBR_SCREEN_BYTES, 10000001, 59, HBR_BUFFER_TOO_SHORT, HBR_BOUND_OUT_OF_RANGE);
+  refused(hbr_screen_check(file, HBR_SCREEN_BYTES, 0, rows, most + 1, answer, HBR_CHECK_ANSWER), HBR_TOO_MANY_ROWS, 0);
+  if (hbr_screen_check(file, HBR_SCREEN_BYTES, 0, rows, most, answer, HBR_CHECK_ANSWER) != 0 || answer[0] != 0)
+    wrong++;
+  fill();
+  file[16 + 11 * 16 + 8] = 5; /* job 12 needs 5 */
+  alike(HBR_SCREEN_BYTES, 0, 60, HBR_FITS_NO_PROCESSOR + 256 * 12, HBR_FITS_NO_PROCESSOR + 256 * 12);
+  file[16 + 10 * 16 + 12] = 0; /* job 11 is of maker 0 */
+  alike(HBR_SCREEN_BYTES, 0, 60, HBR_MAKER_OUT_OF_RANGE + 256 * 11, HBR_MAKER_OUT_OF_RANGE + 256 * 11);
+}
+
 /* the refusals of a call on an accepted order: memory 4, job (3, 10, 4) */
 static void of_calls(void) {
   if (write(1, 4, 1, 3, 10, 4) != 0)
@@ -311,6 +455,7 @@ int main(void) {
   of_calls();
   of_estimates();
   of_needs();
+  of_screens();
   printf("refusals: %d wrong\n", wrong);
   return wrong != 0;
 }

@@ -8,10 +8,12 @@ use highboyrobin::{
     book_least, book_plan, check, classes, judge, least, parse, plan, reason, sentence, write,
 };
 use highboyrobin::{
-    Between, Book, Class, Job, Least, NeedLine, Reason, Refused, Row, Sizes, Window,
+    Between, Book, Caller, Class, Job, Least, NeedLine, Reason, Refused, Row, Sizes, Window,
 };
 use highboyrobin::{LONGEST_LENGTH, MOST_LENGTHS, TABLE_LINES};
 use highboyrobin::{MOST_BOOKED, MOST_BYTES, MOST_LINE, MOST_MAKERS, MOST_MINUTE, MOST_TIMED_ROWS};
+use highboyrobin::{MOST_JOBS, MOST_PROCESSORS, MOST_ROWS};
+use highboyrobin::{SCREEN_BYTES, SCREEN_JOBS, SCREEN_PROCESSORS, SCREEN_ROWS};
 
 const KEPT: Row = Row {
     job: 7,
@@ -388,6 +390,128 @@ fn between_refused() {
     }
 }
 
+// processors of memory 4, and jobs of 3 minutes that are due one minute after the other
+fn sized(processors: usize, jobs: usize) -> Vec<u8> {
+    let jobs: Vec<Job> = (10..).take(jobs).map(|due| job((3, due, 4))).collect();
+    let mut bytes = vec![0; MOST_BYTES];
+    let length = write(&vec![4; processors], &jobs, &mut bytes).unwrap();
+    bytes.truncate(length);
+    bytes
+}
+
+// a file of so many processors and jobs, all numbers 0: every refusal that is about a job holds
+fn counted(processors: u8, jobs: u8) -> Vec<u8> {
+    let lists = 4 * usize::from(processors) + 16 * usize::from(jobs);
+    let mut bytes = vec![0; lists + 12];
+    bytes[lists + 4] = 4 * processors;
+    bytes[lists + 8] = processors;
+    bytes[lists + 10] = jobs;
+    bytes
+}
+
+// what each of the six calls answers to a caller, and all that it leaves
+#[derive(Debug, PartialEq)]
+struct Replies {
+    judged: Result<Sizes, Refused>,
+    least: Result<Least, Refused>,
+    least_rows: Vec<Row>,
+    planned: Result<usize, Refused>,
+    plan_rows: Vec<Row>,
+    reason: Result<Option<Reason>, Refused>,
+    sentence: Result<String, Refused>,
+    checked: Result<bool, Refused>,
+}
+
+fn replies(caller: Caller, file: &[u8], bound: i32, room: usize) -> Replies {
+    let (mut least_rows, mut plan_rows) = (vec![KEPT; room], vec![KEPT; room]);
+    let least = caller.least(file, &mut least_rows);
+    let planned = caller.plan(file, bound, &mut plan_rows);
+    let reason = caller.reason(file, bound);
+    let late = Reason::Job { job: 1, time: 3 };
+    let why = reason.unwrap_or(None).unwrap_or(late);
+    let mut line = [7; MOST_LINE];
+    let sentence = caller.sentence(file, bound, &why, &mut line);
+    Replies {
+        judged: caller.judge(file),
+        least,
+        planned,
+        reason,
+        sentence: sentence.map(str::to_string),
+        checked: caller.check(file, bound, &plan_rows[..planned.unwrap_or(0)]),
+        least_rows,
+        plan_rows,
+    }
+}
+
+// all six calls are refused alike, and no row is written
+fn all_refused(caller: Caller, file: &[u8], told: Refused) {
+    let replies = replies(caller, file, 10_000_001, 1);
+    assert_eq!(replies.judged, Err(told));
+    assert_eq!(replies.least, Err(told));
+    assert_eq!(replies.planned, Err(told));
+    assert_eq!(replies.reason, Err(told));
+    assert_eq!(replies.sentence, Err(told));
+    assert_eq!(replies.checked, Err(told));
+    assert_eq!(replies.least_rows, [KEPT]);
+    assert_eq!(replies.plan_rows, [KEPT]);
+}
+
+// a screen refuses by its own two limits, where a dock refuses by its own or takes the order; within them both reply alike
+fn screens() {
+    let (dock, screen) = (Caller::Dock, Caller::Screen);
+    for (processors, jobs, at_dock, from_screen) in [
+        (0, 0, 1, 1),
+        (0, 13, 1, 1),
+        (5, 0, 3, 21),
+        (17, 1, 2, 21),
+        (4, 0, 3, 3),
+        (1, 49, 4, 20),
+        (16, 49, 12, 12),
+    ] {
+        let file = counted(processors, jobs);
+        all_refused(dock, &file, refused(at_dock, 0));
+        all_refused(screen, &file, refused(from_screen, 0));
+    }
+    all_refused(screen, &[0; 11], refused(12, 0));
+    all_refused(screen, &counted(4, 12), refused(5, 1));
+    let over = (SCREEN_PROCESSORS + 1, SCREEN_JOBS + 1);
+    for (processors, jobs, number) in [
+        (over.0, 1, 21),
+        (over.0, over.1, 21),
+        (MOST_PROCESSORS, MOST_JOBS, 21),
+        (1, over.1, 20),
+        (SCREEN_PROCESSORS, over.1, 20),
+        (1, MOST_JOBS, 20),
+    ] {
+        let file = sized(processors, jobs);
+        assert!(dock.least(&file, &mut vec![KEPT; MOST_ROWS]).is_ok());
+        all_refused(screen, &file, refused(number, 0));
+    }
+    largest_of_a_screen();
+}
+
+// 4 processors and 12 jobs with a due time each: the dock's reply, whether the bound is met or not, with enough rows or one too few
+fn largest_of_a_screen() {
+    let file = sized(SCREEN_PROCESSORS, SCREEN_JOBS);
+    assert_eq!(file.len(), SCREEN_BYTES);
+    let sizes = Caller::Screen.judge(&file);
+    assert_eq!(sizes.map(|sizes| sizes.rows), Ok(SCREEN_ROWS));
+    for bound in [-10, -9, -8, 0, 10_000_000, 10_000_001] {
+        for room in [SCREEN_ROWS - 1, SCREEN_ROWS, SCREEN_ROWS + 1] {
+            let at_dock = replies(Caller::Dock, &file, bound, room);
+            assert_eq!(replies(Caller::Screen, &file, bound, room), at_dock);
+            let told = match bound {
+                10_000_001 => Some(8),
+                _ if room < SCREEN_ROWS => Some(9),
+                ..-8 => Some(10),
+                _ => None,
+            };
+            let told = told.map(|number| refused(number, 0));
+            assert_eq!(at_dock.planned.err(), told);
+        }
+    }
+}
+
 // the line of these three numbers
 fn line([from, to, need]: [u32; 3]) -> NeedLine {
     NeedLine { from, to, need }
@@ -454,7 +578,7 @@ fn words() {
     let table = table();
     let mut numbers: Vec<u32> = table.iter().map(|row| row.0).collect();
     numbers.sort();
-    let all = (1..=19).chain([253, 254, 255]).collect::<Vec<u32>>();
+    let all = (1..=21).chain([253, 254, 255]).collect::<Vec<u32>>();
     assert_eq!(numbers, all);
     for (number, words) in table {
         let plain: Box<dyn std::error::Error> = refused(number, 0).into();
@@ -474,8 +598,8 @@ fn words() {
         "refusal 5 of job 1: a job's time, low or high, or a listed length, is not 1 to 100,000"
     );
     assert_eq!(
-        refused(20, 0).to_string(),
-        "refusal 20: no refusal has this number"
+        refused(22, 0).to_string(),
+        "refusal 22: no refusal has this number"
     );
 }
 
@@ -490,6 +614,7 @@ fn main() {
     times();
     between_lows_and_highs();
     needs_of_lengths();
+    screens();
     words();
     println!("wrapper: every function answers as it should");
 }
