@@ -1,13 +1,13 @@
 -- Document 02, §10: "An order within the screen's limits gets the dock's own reply from either caller". Every entry point judges a screen
 -- by one of these tables and answers, and leaves behind, what its contract says by the verdict: and the verdict is the dock's.
 use Prim.Native.Nat.{ℕ}
-use mathlib.Core.Path.{_≡_, refl}
+use mathlib.Core.Path.{_≡_, refl, subst}
 use mathlib.Core.List.{List, [], _∷_}
 use lib.IntN.{ℤ}
 use lib.ListN.{length}
 use Rattle.sums.specs.Lists.{All}
 use Rattle.order.specs.Order.{Order, processorCount, jobCount}
-use Rattle.order.specs.Refusals.{limits, screen, TableRow, judge, orderRows}
+use Rattle.order.specs.Refusals.{limits, screen, TableRow, Verdict, judge, orderRows}
 use Rattle.order.specs.Callers.{Within, rowsBy, rowsFor}
 use Rattle.order.specs.CallerLaws.{same-within, screen-as-dock}
 use Rattle.order.specs.declared.Caller.the-variants.{Screen}
@@ -16,10 +16,15 @@ use Rattle.plan.specs.Check.{checkRows}
 use Rattle.reason.specs.declared.Why.{Why}
 use Rattle.sentence.specs.Told.{composeRows, readRows as lineRows}
 use Rattle.wrap.specs.FrameAt.{Times}
+use Rattle.timed.specs.Request.{timed-buffer-one}
 use Rattle.timed.specs.Rows.{askedRows, timedRows, timedCheckRows}
+use Rattle.timed.specs.Written.{TimedBufferBy}
 use Rattle.planner.specs.Rows.{leastRows, planRows, bookedLeastRows, bookedPlanRows}
+use Rattle.planner.specs.Written.{BufferBy}
+use Rattle.planner.specs.WrittenOne.{buffer-one}
 use Rattle.estimate.specs.Estimate.{Estimate, estimateRows}
 use Rattle.callers.specs.Counted.{
+  Counted,
   accept-counted,
   write-counted,
   check-counted,
@@ -99,6 +104,24 @@ reply-same o l few = (
     ),
   ),
 )
+
+-- a verdict determines the rows that are written and their count, so these are equal too: of a plan, booked or not, and of one with times
+module _ (o : Order) (few : Within screen (processorCount o) (jobCount o)) {rows : List TableRow} (table : Counted o rows) (bound : ℤ)
+    (entry exit exit′ : List ℕ) (count count′ : ℕ) where
+  same : judge (rowsFor Screen o rows) ≡ judge rows
+  same = screen-as-dock o rows (table .docks) few
+
+  pub rows-same : BufferBy (judge (rowsFor Screen o rows)) o bound entry exit count →
+      BufferBy (judge rows) o bound entry exit′ count′ → (exit ≡ exit′) × (count ≡ count′)
+  rows-same s d =
+      buffer-one o bound entry exit exit′ count count′ (judge rows)
+      (subst (λ (v : Verdict). BufferBy v o bound entry exit count) same s) d
+
+  pub timed-rows-same : (t : Times) → TimedBufferBy (judge (rowsFor Screen o rows)) o bound t entry exit count →
+      TimedBufferBy (judge rows) o bound t entry exit′ count′ → (exit ≡ exit′) × (count ≡ count′)
+  timed-rows-same t s d =
+      timed-buffer-one o bound t entry exit exit′ count count′ (judge rows)
+      (subst (λ (v : Verdict). TimedBufferBy v o bound t entry exit count) same s) d
 
 -- the same of the reader, on the order of the file
 pub read-same : (f : List ℕ) → Within screen (processorCount (orderIn f)) (jobCount (orderIn f)) →
