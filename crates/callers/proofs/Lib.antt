@@ -1,4 +1,4 @@
 mod Passing
 mod Answers
 mod Trailing
-mod Spanning
+mod Between

@@ -32,7 +32,7 @@ module _ (caller : Caller) (t : OrderTable) (a : Acceptance)
   module _ (P : Verdict → Type 0) {rows : List TableRow} (table : Counted (orderOf t) rows) where
     -- the dock's own answer, where the counts are accepted
     pub passes : a ≡ Accepted → P (judge rows) → P (judge (rowsFor caller (orderOf t) rows))
-    passes is p = subst P (sym (counts-pass caller m n rows (table .docks) (counted ∙ ap acceptanceTold is))) p
+    passes is p = subst P (sym (counts-pass caller m n rows (table .itself) (counted ∙ ap acceptanceTold is))) p
 
     -- the refusal of the counts
     pub refuses : (why : Refusal) → a ≡ Refused why → P (refusalTold why) → P (judge (rowsFor caller (orderOf t) rows))

@@ -19,7 +19,7 @@ use Rattle.order.specs.Refusals.{
   rowsToCheckRow,
 }
 use Rattle.order.specs.Callers.{rowsBy}
-use Rattle.order.specs.CallerLaws.{DockTable}
+use Rattle.order.specs.CallerLaws.{Itself}
 use Rattle.order_file.specs.File.{fileLength, writeRows}
 use Rattle.book.specs.Book.{bookRow}
 use Rattle.plan.specs.Check.{checkRows}
@@ -36,25 +36,25 @@ use Rattle.timed.specs.Rows.{noneTimed, askedRows, timedBuffer, earlierTimed, t
 pub record Counted (o : Order) (rows : List TableRow) : Type 0 where
   pub later : List TableRow
   pub begins : rows ≡ countRows limits (processorCount o) (jobCount o) ++ later
-  pub docks : DockTable (processorCount o) (jobCount o) rows
+  pub itself : Itself (processorCount o) (jobCount o) rows
 
 module _ (o : Order) where
   pub accept-counted : Counted o (orderRows limits o)
   unfolding rowsBy
-  accept-counted = record { later = jobRows o; begins = refl; docks = refl }
+  accept-counted = record { later = jobRows o; begins = refl; itself = refl }
 
   pub write-counted : (lent : ℕ) → Counted o (writeRows o lent)
   unfolding rowsBy writeRows
-  write-counted lent = record { later = jobRows o ++ (roomRow lent (fileLength o) ∷ []); begins = refl; docks = refl }
+  write-counted lent = record { later = jobRows o ++ (roomRow lent (fileLength o) ∷ []); begins = refl; itself = refl }
 
   pub check-counted : (bound : ℤ) (numbers : ℕ) → Counted o (checkRows o bound numbers)
   unfolding rowsBy checkRows
   check-counted bound numbers =
-      record { later = jobRows o ++ (boundRow bound ∷ rowsToCheckRow numbers ∷ []); begins = refl; docks = refl }
+      record { later = jobRows o ++ (boundRow bound ∷ rowsToCheckRow numbers ∷ []); begins = refl; itself = refl }
 
   pub least-counted : (numbers : ℕ) → Counted o (leastRows o numbers)
   unfolding rowsBy leastRows
-  least-counted numbers = record { later = jobRows o ++ (bufferRow o numbers ∷ []); begins = refl; docks = refl }
+  least-counted numbers = record { later = jobRows o ++ (bufferRow o numbers ∷ []); begins = refl; itself = refl }
 
   module _ (bound : ℤ) (numbers : ℕ) where
     abbrev planLater : List TableRow
@@ -62,16 +62,16 @@ module _ (o : Order) where
 
     pub plan-counted : Counted o (planRows o bound numbers)
     unfolding rowsBy earlierRows planRows
-    plan-counted = record { later = planLater; begins = refl; docks = refl }
+    plan-counted = record { later = planLater; begins = refl; itself = refl }
 
     pub book-plan-counted : (counts : List ℕ) → Counted o (bookedPlanRows o bound numbers counts)
     unfolding rowsBy earlierRows planRows
-    book-plan-counted counts = record { later = planLater ++ (bookRow o counts ∷ []); begins = refl; docks = refl }
+    book-plan-counted counts = record { later = planLater ++ (bookRow o counts ∷ []); begins = refl; itself = refl }
 
   pub book-least-counted : (numbers : ℕ) (counts : List ℕ) → Counted o (bookedLeastRows o numbers counts)
   unfolding rowsBy leastRows
   book-least-counted numbers counts =
-      record { later = jobRows o ++ (bufferRow o numbers ∷ bookRow o counts ∷ []); begins = refl; docks = refl }
+      record { later = jobRows o ++ (bufferRow o numbers ∷ bookRow o counts ∷ []); begins = refl; itself = refl }
 
   module _ (bound : ℤ) (t : Times) where
     abbrev askedLater : List TableRow
@@ -79,7 +79,7 @@ module _ (o : Order) where
 
     pub asked-counted : Counted o (askedRows o bound t)
     unfolding rowsBy askedRows
-    asked-counted = record { later = askedLater; begins = refl; docks = refl }
+    asked-counted = record { later = askedLater; begins = refl; itself = refl }
 
     pub timed-counted : (numbers : ℕ) → Counted o (timedRows o bound t numbers)
     unfolding rowsBy askedRows earlierTimed timedRows
@@ -87,13 +87,13 @@ module _ (o : Order) where
         record {
           later = askedLater ++ (timedBuffer o bound t numbers ∷ tightRow (noneTimed o bound t) ∷ []);
           begins = refl;
-          docks = refl;
+          itself = refl;
         }
 
     pub timed-check-counted : (numbers : ℕ) → Counted o (timedCheckRows o bound t numbers)
     unfolding rowsBy askedRows timedCheckRows
     timed-check-counted numbers =
-        record { later = askedLater ++ (rowsUpToRow mostTimedRows numbers ∷ []); begins = refl; docks = refl }
+        record { later = askedLater ++ (rowsUpToRow mostTimedRows numbers ∷ []); begins = refl; itself = refl }
 
   pub compose-counted : (bound : ℤ) (why : Why) (lent : ℕ) → Counted o (composeRows o bound why lent)
   unfolding rowsBy composeRows
@@ -101,9 +101,9 @@ module _ (o : Order) where
       record {
         later = jobRows o ++ (boundRow bound ∷ roomRow lent (length (composed o bound (handed o why))) ∷ []);
         begins = refl;
-        docks = refl;
+        itself = refl;
       }
 
   pub back-counted : (bound : ℤ) → Counted o (readRows o bound)
   unfolding rowsBy readRows
-  back-counted bound = record { later = jobRows o ++ (boundRow bound ∷ []); begins = refl; docks = refl }
+  back-counted bound = record { later = jobRows o ++ (boundRow bound ∷ []); begins = refl; itself = refl }

@@ -8,8 +8,9 @@ use lib.ListN.{length}
 use Rattle.sums.specs.Lists.{All}
 use Rattle.order.specs.Order.{Order, processorCount, jobCount}
 use Rattle.order.specs.Refusals.{limits, screen, TableRow, Verdict, judge, orderRows}
-use Rattle.order.specs.Callers.{Within, rowsBy, rowsFor}
-use Rattle.order.specs.CallerLaws.{same-within, screen-as-dock}
+use Rattle.order.specs.Callers.{limitsOf, Within, rowsBy, rowsFor}
+use Rattle.order.specs.CallerLaws.{same-within, screen-same}
+use Rattle.order.specs.declared.Caller.{Caller}
 use Rattle.order.specs.declared.Caller.the-variants.{Screen}
 use Rattle.order_file.specs.File.{orderIn, readRows, writeRows}
 use Rattle.plan.specs.Check.{checkRows}
@@ -68,29 +69,29 @@ tables o l =
 pub reply-same : (o : Order) (l : Lent) → Within screen (processorCount o) (jobCount o) →
     All (λ (rows : List TableRow). judge (rowsFor Screen o rows) ≡ judge rows) (tables o l)
 reply-same o l few = (
-  screen-as-dock o _ (accept-counted o .docks) few,
+  screen-same o _ (accept-counted o .itself) few,
   (
-    screen-as-dock o _ (write-counted o (l .room) .docks) few,
+    screen-same o _ (write-counted o (l .room) .itself) few,
     (
-      screen-as-dock o _ (check-counted o (l .bound) (l .room) .docks) few,
+      screen-same o _ (check-counted o (l .bound) (l .room) .itself) few,
       (
-        screen-as-dock o _ (least-counted o (l .room) .docks) few,
+        screen-same o _ (least-counted o (l .room) .itself) few,
         (
-          screen-as-dock o _ (plan-counted o (l .bound) (l .room) .docks) few,
+          screen-same o _ (plan-counted o (l .bound) (l .room) .itself) few,
           (
-            screen-as-dock o _ (book-least-counted o (l .room) (l .book) .docks) few,
+            screen-same o _ (book-least-counted o (l .room) (l .book) .itself) few,
             (
-              screen-as-dock o _ (book-plan-counted o (l .bound) (l .room) (l .book) .docks) few,
+              screen-same o _ (book-plan-counted o (l .bound) (l .room) (l .book) .itself) few,
               (
-                screen-as-dock o _ (asked-counted o (l .bound) (l .times) .docks) few,
+                screen-same o _ (asked-counted o (l .bound) (l .times) .itself) few,
                 (
-                  screen-as-dock o _ (timed-counted o (l .bound) (l .times) (l .room) .docks) few,
+                  screen-same o _ (timed-counted o (l .bound) (l .times) (l .room) .itself) few,
                   (
-                    screen-as-dock o _ (timed-check-counted o (l .bound) (l .times) (l .room) .docks) few,
+                    screen-same o _ (timed-check-counted o (l .bound) (l .times) (l .room) .itself) few,
                     (
-                      screen-as-dock o _ (compose-counted o (l .bound) (l .why) (l .room) .docks) few,
+                      screen-same o _ (compose-counted o (l .bound) (l .why) (l .room) .itself) few,
                       (
-                        screen-as-dock o _ (back-counted o (l .bound) .docks) few,
+                        screen-same o _ (back-counted o (l .bound) .itself) few,
                         tt,
                       ),
                     ),
@@ -109,7 +110,7 @@ reply-same o l few = (
 module _ (o : Order) (few : Within screen (processorCount o) (jobCount o)) {rows : List TableRow} (table : Counted o rows) (bound : ℤ)
     (entry exit exit′ : List ℕ) (count count′ : ℕ) where
   same : judge (rowsFor Screen o rows) ≡ judge rows
-  same = screen-as-dock o rows (table .docks) few
+  same = screen-same o rows (table .itself) few
 
   pub rows-same : BufferBy (judge (rowsFor Screen o rows)) o bound entry exit count →
       BufferBy (judge rows) o bound entry exit′ count′ → (exit ≡ exit′) × (count ≡ count′)
@@ -127,10 +128,20 @@ module _ (o : Order) (few : Within screen (processorCount o) (jobCount o)) {rows
 pub read-same : (f : List ℕ) → Within screen (processorCount (orderIn f)) (jobCount (orderIn f)) →
     judge (rowsFor Screen (orderIn f) (readRows f)) ≡ judge (readRows f)
 unfolding rowsBy readRows
-read-same f few = screen-as-dock (orderIn f) (readRows f) refl few
+read-same f few = screen-same (orderIn f) (readRows f) refl few
 
 -- and of times between, whose tables take the limits themselves
 pub estimate-same : (e : Estimate) → Within screen (length (e .memories)) (length (e .jobs)) →
     judge (estimateRows screen e) ≡ judge (estimateRows limits e)
 unfolding rowsBy estimateRows
 estimate-same e few = same-within (length (e .memories)) (length (e .jobs)) few (estimateRows limits e)
+
+-- for either caller these two tables, which take the limits themselves, are those in which the rows of the limits are exchanged
+pub accept-exchanged : (caller : Caller) (o : Order) → orderRows (limitsOf caller) o ≡ rowsFor caller o (orderRows limits o)
+unfolding rowsBy
+accept-exchanged caller o = refl
+
+pub estimate-exchanged : (caller : Caller) (e : Estimate) →
+    estimateRows (limitsOf caller) e ≡ rowsBy (limitsOf caller) (length (e .memories)) (length (e .jobs)) (estimateRows limits e)
+unfolding rowsBy estimateRows
+estimate-exchanged caller e = refl

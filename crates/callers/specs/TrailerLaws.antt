@@ -6,7 +6,7 @@ use Rattle.order.specs.Order.{processorCount, jobCount}
 use Rattle.order.specs.Refusals.{limits, TableRow, judge, countRows, fileRow}
 use Rattle.order.specs.RefusalLaws.{judge-accepted, judge-refused-append}
 use Rattle.order.specs.Callers.{limitsOf, rowsBy, rowsFor}
-use Rattle.order.specs.CallerLaws.{DockTable, counts-pass}
+use Rattle.order.specs.CallerLaws.{Itself, counts-pass}
 use Rattle.order.specs.Table.{refusalTold, acceptanceTold}
 use Rattle.order.specs.TableLaws.{refused-told}
 use Rattle.order.specs.declared.Acceptance.{Acceptance}
@@ -28,7 +28,7 @@ module _ (caller : Caller) (f : List ℕ) (a : Acceptance) (e : acceptanceTold a
       (t .0) (t .1) (sym e ∙ ap acceptanceTold is ∙ t .2)
       ∙ sym (t .2)
 
-  pub trailer-passed : a ≡ Accepted → (rows : List TableRow) → DockTable (processorCount (orderIn f)) (jobCount (orderIn f)) rows →
+  pub trailer-passed : a ≡ Accepted → (rows : List TableRow) → Itself (processorCount (orderIn f)) (jobCount (orderIn f)) rows →
       judge (rowsFor caller (orderIn f) rows) ≡ judge rows
   trailer-passed is rows same =
       let counts = countRows (limitsOf caller) (processorCount (orderIn f)) (jobCount (orderIn f)) in

@@ -18,7 +18,7 @@ use Rattle.order_file.specs.File.{goodFile, orderIn}
 use Rattle.callers.specs.Trailers.{trailerRows}
 use Rattle.callers.specs.TrailerLaws.{trailer-refused, trailer-passed}
 use Rattle.highboyrobin.specs.Results.{answerRow, fileCall, shortListRow, listCall}
-use Rattle.highboyrobin.specs.ScreenCallLaws.{Docks}
+use Rattle.highboyrobin.specs.ScreenCallLaws.{ItselfIn}
 use Rattle.highboyrobin.proofs.Answering.{Ended, PlanEnded}
 use Rattle.highboyrobin.proofs.SentenceTold.{SentenceEnded}
 use Rattle.highboyrobin.proofs.ClassesTold.{ClassesEnded}
@@ -83,12 +83,12 @@ ClassesBy o list entry result list′ exit v = ClassesEnded v o list entry resul
 -- the dock's own reply, where the trailer is accepted
 module _ (caller : Caller) (f : List ℕ) (a : Acceptance) (e : acceptanceTold a ≡ judge (trailerRows (limitsOf caller) f))
     (is : a ≡ Accepted) where
-  pub dock-replies : (P : Verdict → Type 0) {rows : List TableRow} → Docks f rows → P (judge rows) →
+  pub same-replies : (P : Verdict → Type 0) {rows : List TableRow} → ItselfIn f rows → P (judge rows) →
       P (judge (rowsFor caller (orderIn f) rows))
-  dock-replies P {rows} docks p = subst P (sym (trailer-passed caller f a e is rows docks)) p
+  same-replies P {rows} itself p = subst P (sym (trailer-passed caller f a e is rows itself)) p
 
   -- of a call with a bound, told as it was passed and as the machine reads it back
-  pub dock-replies-at : (P : Verdict → ℤ → Type 0) {rows : ℤ → List TableRow} → ((z : ℤ) → Docks f (rows z)) → (bound read : ℤ) →
+  pub same-replies-at : (P : Verdict → ℤ → Type 0) {rows : ℤ → List TableRow} → ((z : ℤ) → ItselfIn f (rows z)) → (bound read : ℤ) →
       read ≡ bound → P (judge (rows read)) read → P (judge (rowsFor caller (orderIn f) (rows bound))) bound
-  dock-replies-at P {rows} docks bound read same p =
-      dock-replies (λ (v : Verdict). P v bound) (docks bound) (subst (λ (z : ℤ). P (judge (rows z)) z) same p)
+  same-replies-at P {rows} itself bound read same p =
+      same-replies (λ (v : Verdict). P v bound) (itself bound) (subst (λ (z : ℤ). P (judge (rows z)) z) same p)

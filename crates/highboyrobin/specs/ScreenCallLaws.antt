@@ -33,7 +33,7 @@ use Rattle.order.specs.Refusals.{
 use Rattle.order.specs.RefusalLaws.{judge-accepted, whole-clear, both-true}
 use Rattle.order.specs.SortedLaws.{dues-few}
 use Rattle.order.specs.Callers.{Within, rowsBy}
-use Rattle.order.specs.CallerLaws.{DockTable, numbered, not-numbered, screen-as-dock, screen-processors, screen-jobs}
+use Rattle.order.specs.CallerLaws.{Itself, numbered, not-numbered, screen-same, screen-processors, screen-jobs}
 use Rattle.order_file.specs.Bytes.{number4}
 use Rattle.order_file.specs.File.{
   jobWidth,
@@ -109,47 +109,47 @@ plan-same v w o bound first rows answer result result′ rows′ rows″ answer�
 
 -- each table is the dock's: by a dock's limits it is itself
 module _ (f : List ℕ) where
-  abbrev pub Docks : List TableRow → Type 0
-  Docks rows = DockTable (processorCount (orderIn f)) (jobCount (orderIn f)) rows
+  abbrev pub ItselfIn : List TableRow → Type 0
+  ItselfIn rows = Itself (processorCount (orderIn f)) (jobCount (orderIn f)) rows
 
-  pub judge-docks : (lent : ℕ) → Docks (judgeCall f lent)
+  pub judge-itself : (lent : ℕ) → ItselfIn (judgeCall f lent)
   unfolding rowsBy fileCall
-  judge-docks lent = refl
+  judge-itself lent = refl
 
-  pub classes-docks : (numbers lent : ℕ) → Docks (classesCall f numbers lent)
+  pub classes-itself : (numbers lent : ℕ) → ItselfIn (classesCall f numbers lent)
   unfolding rowsBy listCall
-  classes-docks numbers lent = refl
+  classes-itself numbers lent = refl
 
-  pub least-docks : (numbers lent : ℕ) → Docks (leastCall f numbers lent)
+  pub least-itself : (numbers lent : ℕ) → ItselfIn (leastCall f numbers lent)
   unfolding rowsBy fileCall leastRows
-  least-docks numbers lent = refl
+  least-itself numbers lent = refl
 
-  pub plan-docks : (bound : ℤ) (numbers lent : ℕ) → Docks (planCall f bound numbers lent)
+  pub plan-itself : (bound : ℤ) (numbers lent : ℕ) → ItselfIn (planCall f bound numbers lent)
   unfolding rowsBy fileCall earlierRows planRows
-  plan-docks bound numbers lent = refl
+  plan-itself bound numbers lent = refl
 
-  pub reason-docks : (bound : ℤ) (lent : ℕ) → Docks (reasonCall f bound lent)
+  pub reason-itself : (bound : ℤ) (lent : ℕ) → ItselfIn (reasonCall f bound lent)
   unfolding rowsBy fileCall
-  reason-docks bound lent = refl
+  reason-itself bound lent = refl
 
-  pub sentence-docks : (bound : ℤ) (reason : List ℤ) (line lent : ℕ) → Docks (sentenceCall f bound reason line lent)
+  pub sentence-itself : (bound : ℤ) (reason : List ℤ) (line lent : ℕ) → ItselfIn (sentenceCall f bound reason line lent)
   unfolding rowsBy listCall composeRows
-  sentence-docks bound reason line lent = refl
+  sentence-itself bound reason line lent = refl
 
-  pub check-docks : (bound : ℤ) (numbers lent : ℕ) → Docks (checkCall f bound numbers lent)
+  pub check-itself : (bound : ℤ) (numbers lent : ℕ) → ItselfIn (checkCall f bound numbers lent)
   unfolding rowsBy fileCall checkRows
-  check-docks bound numbers lent = refl
+  check-itself bound numbers lent = refl
 
 -- "An order within the screen's limits gets the dock's own reply from either caller"
 module _ (f : List ℕ) (few : Held f) where
-  same-verdict : {rows : List TableRow} → Docks f rows → judge (screened f rows) ≡ judge rows
-  same-verdict {rows} docks = screen-as-dock (orderIn f) rows docks few
+  same-verdict : {rows : List TableRow} → ItselfIn f rows → judge (screened f rows) ≡ judge rows
+  same-verdict {rows} itself = screen-same (orderIn f) rows itself few
 
   pub judge-reply : (answer : List ℤ) {result result′ : ℕ} {answer′ answer″ : List ℤ} →
       LeftReply (judge (screened f (judgeCall f (length answer)))) (sizesOf (orderIn f)) answer result answer′ →
       LeftReply (judge (judgeCall f (length answer))) (sizesOf (orderIn f)) answer result′ answer″ →
       (result ≡ result′) × (answer′ ≡ answer″)
-  judge-reply answer s d = left-same (sizesOf (orderIn f)) answer (same-verdict (judge-docks f (length answer))) s d
+  judge-reply answer s d = left-same (sizesOf (orderIn f)) answer (same-verdict (judge-itself f (length answer))) s d
 
   pub least-reply : (rows : List ℕ) (answer : List ℤ) {result result′ : ℕ} {rows′ rows″ : List ℕ} {answer′ answer″ : List ℤ} →
       PlanReply (judge (screened f (leastCall f (length rows) (length answer)))) (orderIn f) (leastLateness (orderIn f))
@@ -158,7 +158,7 @@ module _ (f : List ℕ) (few : Held f) where
       (leastLateness (orderIn f) ∷ []) rows answer result′ rows″ answer″ →
       (result ≡ result′) × (rows′ ≡ rows″) × (answer′ ≡ answer″)
   least-reply rows answer s d =
-      plan-same _ _ _ _ _ _ _ _ _ _ _ _ _ (same-verdict (least-docks f (length rows) (length answer))) s d
+      plan-same _ _ _ _ _ _ _ _ _ _ _ _ _ (same-verdict (least-itself f (length rows) (length answer))) s d
 
   pub plan-reply : (bound : ℤ) (rows : List ℕ) (answer : List ℤ) {result result′ : ℕ} {rows′ rows″ : List ℕ} {answer′ answer″ : List ℤ} →
       PlanReply (judge (screened f (planCall f bound (length rows) (length answer)))) (orderIn f) bound [] rows answer
@@ -166,7 +166,7 @@ module _ (f : List ℕ) (few : Held f) where
       PlanReply (judge (planCall f bound (length rows) (length answer))) (orderIn f) bound [] rows answer result′ rows″ answer″ →
       (result ≡ result′) × (rows′ ≡ rows″) × (answer′ ≡ answer″)
   plan-reply bound rows answer s d =
-      plan-same _ _ _ _ _ _ _ _ _ _ _ _ _ (same-verdict (plan-docks f bound (length rows) (length answer))) s d
+      plan-same _ _ _ _ _ _ _ _ _ _ _ _ _ (same-verdict (plan-itself f bound (length rows) (length answer))) s d
 
   pub reason-reply : (bound : ℤ) (answer : List ℤ) {result result′ : ℕ} {answer′ answer″ : List ℤ} →
       LeftReply (judge (screened f (reasonCall f bound (length answer)))) (reasonNumbers (orderIn f) (reasonOf (orderIn f) bound))
@@ -175,7 +175,7 @@ module _ (f : List ℕ) (few : Held f) where
       answer result′ answer″ →
       (result ≡ result′) × (answer′ ≡ answer″)
   reason-reply bound answer s d =
-      left-same (reasonNumbers (orderIn f) (reasonOf (orderIn f) bound)) answer (same-verdict (reason-docks f bound (length answer))) s d
+      left-same (reasonNumbers (orderIn f) (reasonOf (orderIn f) bound)) answer (same-verdict (reason-itself f bound (length answer))) s d
 
   -- its line, and the length of it in the answer
   module _ (bound : ℤ) (reason : List ℤ) (line : List ℕ) (answer : List ℤ) where
@@ -183,7 +183,7 @@ module _ (f : List ℕ) (few : Held f) where
     asked = sentenceCall f bound reason (length line) (length answer)
 
     sentence-same : judge (screened f asked) ≡ judge asked
-    sentence-same = same-verdict (sentence-docks f bound reason (length line) (length answer))
+    sentence-same = same-verdict (sentence-itself f bound reason (length line) (length answer))
 
     pub sentence-line : {result result′ : ℕ} {line′ line″ : List ℕ} →
         LeftReply (judge (screened f asked)) (lineFrom f bound reason) line result line′ →
@@ -203,11 +203,11 @@ module _ (f : List ℕ) (few : Held f) where
       answer result′ answer″ →
       (result ≡ result′) × (answer′ ≡ answer″)
   check-reply bound rows answer s d =
-      left-same (yesOrNo (isRight (orderIn f) bound rows)) answer (same-verdict (check-docks f bound (length rows) (length answer))) s d
+      left-same (yesOrNo (isRight (orderIn f) bound rows)) answer (same-verdict (check-itself f bound (length rows) (length answer))) s d
 
   -- classes_for judges a screen by this verdict, and all that it leaves hangs on it
   pub classes-verdict : (numbers lent : ℕ) → judge (screened f (classesCall f numbers lent)) ≡ judge (classesCall f numbers lent)
-  classes-verdict numbers lent = same-verdict (classes-docks f numbers lent)
+  classes-verdict numbers lent = same-verdict (classes-itself f numbers lent)
 
 -- over the limits, of a call whose answer is long enough for a file that is good: whatever rows follow those of acceptance
 module _ (f : List ℕ) (lent asked : ℕ) (later : List TableRow) where
@@ -286,8 +286,8 @@ pub record Lent : Type 0 where
   pub answer : ℕ
 
 -- the tables of the dock's calls that take a file, and of the one that writes it
-abbrev pub dockCalls : List ℕ → Lent → (memories jobs : List ℕ) → List (List TableRow)
-dockCalls f l memories jobs =
+abbrev pub callTables : List ℕ → Lent → (memories jobs : List ℕ) → List (List TableRow)
+callTables f l memories jobs =
     judgeCall f (l .answer)
     ∷ classesCall f (l .rows) (l .answer)
     ∷ leastCall f (l .rows) (l .answer)
@@ -316,12 +316,12 @@ Without rows = (numbered 20 rows ≡ false) × (numbered 21 rows ≡ false)
 none-of-screens : (rows : List TableRow) → Without rows → NotOfScreens rows
 none-of-screens rows none c = (not-numbered 20 c rows (none .0), not-numbered 21 c rows (none .1))
 
-pub dock-never : (f : List ℕ) (l : Lent) (memories jobs : List ℕ) → All NotOfScreens (dockCalls f l memories jobs)
+pub never-screens : (f : List ℕ) (l : Lent) (memories jobs : List ℕ) → All NotOfScreens (callTables f l memories jobs)
 unfolding numbered fileCall listCall timedCall betweenCall writeCall writeRows leastRows earlierRows planRows composeRows readRows
     checkRows askedRows earlierTimed timedRows timedCheckRows estimateRows
-dock-never f l memories jobs = All-map Without NotOfScreens (dockCalls f l memories jobs) none-of-screens all-without
+never-screens f l memories jobs = All-map Without NotOfScreens (callTables f l memories jobs) none-of-screens all-without
   where
-    all-without : All Without (dockCalls f l memories jobs)
+    all-without : All Without (callTables f l memories jobs)
     all-without = (
       (refl, refl),
       (

@@ -73,12 +73,12 @@ same-for Dock m n rows a = refl
 same-for Screen m n rows a = same-within m n (counts-within Screen m n a) rows
 
 -- a dock's table about an order with these counts: by a dock's limits it is itself
-abbrev pub DockTable : (m n : ℕ) → List TableRow → Type 0
-DockTable m n rows = rowsBy limits m n rows ≡ rows
+abbrev pub Itself : (m n : ℕ) → List TableRow → Type 0
+Itself m n rows = rowsBy limits m n rows ≡ rows
 
 module _ (caller : Caller) (m n : ℕ) where
   -- where the caller's counts are accepted, its table answers what the dock's does
-  pub counts-pass : (rows : List TableRow) → DockTable m n rows → judge (countRows (limitsOf caller) m n) ≡ accepted →
+  pub counts-pass : (rows : List TableRow) → Itself m n rows → judge (countRows (limitsOf caller) m n) ≡ accepted →
       judge (rowsBy (limitsOf caller) m n rows) ≡ judge rows
   counts-pass rows same a = same-for caller m n rows a ∙ ap judge same
 
@@ -91,9 +91,9 @@ module _ (caller : Caller) (m n : ℕ) where
       judge-refused-append (countRows (limitsOf caller) m n) (rowsBy (limitsOf caller) m n later) number carried e
 
 -- a table's answer within the screen's limits
-pub screen-as-dock : (o : Order) (rows : List TableRow) → DockTable (processorCount o) (jobCount o) rows →
+pub screen-same : (o : Order) (rows : List TableRow) → Itself (processorCount o) (jobCount o) rows →
     Within screen (processorCount o) (jobCount o) → judge (rowsFor Screen o rows) ≡ judge rows
-screen-as-dock o rows same few = same-within (processorCount o) (jobCount o) few rows ∙ ap judge same
+screen-same o rows same few = same-within (processorCount o) (jobCount o) few rows ∙ ap judge same
 
 -- whether some row has this number; one that none has is not answered
 unfoldable pub numbered : ℕ → List TableRow → Bool
@@ -118,11 +118,11 @@ pub not-numbered : (k c : ℕ) (rows : List TableRow) → numbered k rows ≡ fa
 not-numbered k c rows h e = absent k c rows (none-numbered k rows h) e
 
 -- "in place of 4 and 2": no table whatever answers these to a screen
-module _ (m n k : ℕ) (docks : (k ≡ 2) ⊎ (k ≡ 4)) where
+module _ (m n k : ℕ) (replaced-number : (k ≡ 2) ⊎ (k ≡ 4)) where
   replaced : (rows : List TableRow) → All (λ (r : TableRow). r .number ≡ k → ⊥) (rowsBy screen m n rows)
   unfolding rowsBy
   replaced [] = tt
-  replaced (r ∷ rows) = (go (eqb (r .number) 2) (eqb (r .number) 4) refl refl docks, replaced rows)
+  replaced (r ∷ rows) = (go (eqb (r .number) 2) (eqb (r .number) 4) refl refl replaced-number, replaced rows)
     where
       go : (two four : Bool) → eqb (r .number) 2 ≡ two → eqb (r .number) 4 ≡ four → (k ≡ 2) ⊎ (k ≡ 4) →
           placed screen m n two four r .number ≡ k → ⊥

@@ -145,7 +145,7 @@ pub data Case : Type 0 where
   betweenIs : Estimate → ℤ → ℤ → List ℤ → Case
   metIs : Estimate → ℤ → Found (List ℕ) → Case
   estimateIs : Estimate → Verdict → Case
-  callersGet : Order → (dock screen : Verdict) → Case
+  callersGet : Order → (wide narrow : Verdict) → Case
   screenGets : Order → ℤ → (numbers : ℕ) → Verdict → Case
 
 -- what a case says, in the words of the definitions
@@ -185,7 +185,7 @@ Holds (betweenIs e low high along) =
     × (tabulate (suc (pathLength e)) (leastAlong e) ≡ along)
 Holds (metIs e number times) = (judge (estimateRows limits e) ≡ accepted) × (firstMet e number ≡ times)
 Holds (estimateIs e verdict) = judge (estimateRows limits e) ≡ verdict
-Holds (callersGet o dock boathouse) = (judge (orderRows limits o) ≡ dock) × (judge (orderRows screen o) ≡ boathouse)
+Holds (callersGet o wide narrow) = (judge (orderRows limits o) ≡ wide) × (judge (orderRows screen o) ≡ narrow)
 Holds (screenGets o bound numbers verdict) = judge (rowsFor Screen o (planRows o bound numbers)) ≡ verdict
 
 -- a row: job, processor, from, to; and a row of job 1 on processor 1
@@ -484,7 +484,7 @@ data Value : Type 0 where
   lying : List ℕ → Value
   spread : Verdict → ℤ → ℤ → List ℤ → Value
   meeting : Verdict → Found (List ℕ) → Value
-  toBoth : (dock screen : Verdict) → Value
+  toBoth : (wide narrow : Verdict) → Value
 
 -- whether the jobs must have more inside a cut of classes, one for each stretch, than there is room: each its time less what it can have
 -- outside, in the stretches whose class is below its own
@@ -531,7 +531,7 @@ computed (betweenIs e low high along) =
     spread (judge (estimateRows limits e)) (leastAtLows e) (leastAtHighs e) (tabulate (suc (pathLength e)) (leastAlong e))
 computed (metIs e number times) = meeting (judge (estimateRows limits e)) (firstMet e number)
 computed (estimateIs e verdict) = judged (judge (estimateRows limits e))
-computed (callersGet o dock boathouse) = toBoth (judge (orderRows limits o)) (judge (orderRows screen o))
+computed (callersGet o wide narrow) = toBoth (judge (orderRows limits o)) (judge (orderRows screen o))
 computed (screenGets o bound numbers verdict) = judged (judge (rowsFor Screen o (planRows o bound numbers)))
 
 abbrev stated : Case → Value
@@ -560,7 +560,7 @@ stated (lieAs o numbers) = lying numbers
 stated (betweenIs e low high along) = spread accepted low high along
 stated (metIs e number times) = meeting accepted times
 stated (estimateIs e verdict) = judged verdict
-stated (callersGet o dock boathouse) = toBoth dock boathouse
+stated (callersGet o wide narrow) = toBoth wide narrow
 stated (screenGets o bound numbers verdict) = judged verdict
 
 right-rows : (o : Order) (bound : ℤ) (rows : List Row) → isRight o bound (numbersOf rows) ≡ true → Right o bound rows
@@ -649,7 +649,7 @@ case-holds (lieAs o numbers) e = cc
 case-holds (betweenIs e low high along) q = (cc, cc, cc, cc)
 case-holds (metIs e number times) q = (cc, cc)
 case-holds (estimateIs e verdict) q = cc
-case-holds (callersGet o dock boathouse) e = (cc, cc)
+case-holds (callersGet o wide narrow) e = (cc, cc)
 case-holds (screenGets o bound numbers verdict) e = cc
 
 all-hold : (cs : List Case) → map computed cs ≡ map stated cs → All Holds cs

@@ -1,4 +1,4 @@
-use Rattle.callers.proofs.Spanning.{Spans, between-passes, spans-refused}
+use Rattle.callers.proofs.Between.{Spans, between-passes, spans-refused}
 use borrow.Author.Needs.{needs}
 use Rattle.callers.proofs.estimating.least_between_for.Statement.{statement}
 use Rattle.callers.proofs.estimating.least_between_for.Tie as tie

@@ -1,4 +1,4 @@
-use Rattle.callers.proofs.Spanning.{Meets, between-passes, meets-refused}
+use Rattle.callers.proofs.Between.{Meets, between-passes, meets-refused}
 use Rattle.estimate.specs.Estimate.{estimateRows}
 use Rattle.estimate.specs.Told.{estimateOf}
 use Rattle.estimate.specs.declared.Meeting.the-variants.{Refused as MeetingRefused}

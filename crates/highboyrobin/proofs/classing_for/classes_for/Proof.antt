@@ -1,6 +1,6 @@
 use Rattle.highboyrobin.proofs.ClassesTold.{classes-refused, classes-why}
-use Rattle.highboyrobin.proofs.Screening.{trailer-carries, for-list-short, for-few, for-list-refused, dock-replies, ClassesBy}
-use Rattle.highboyrobin.specs.ScreenCallLaws.{classes-docks}
+use Rattle.highboyrobin.proofs.Screening.{trailer-carries, for-list-short, for-few, for-list-refused, same-replies, ClassesBy}
+use Rattle.highboyrobin.specs.ScreenCallLaws.{classes-itself}
 use Rattle.order.specs.Refusals.{limits, orderRows}
 use Rattle.order_file.specs.File.{orderIn}
 use lib.ListN.{length}
@@ -64,10 +64,10 @@ returns-4 c =
     let s = c .before .before .before .before .before .before .before .before .before .before .before .before .before in
     let k = c .before .before .before .before .before .before .before .before .accept-file-for in
     let d = c .before .before .before .hbr-classes in
-    dock-replies (s .args .caller) (s .args .file .now) (k .result) (k .ensures)
+    same-replies (s .args .caller) (s .args .file .now) (k .result) (k .ensures)
     (c .before .before .before .before .before .before .enum-told .given .1)
     (ClassesBy (orderIn (s .args .file .now)) (s .args .classes .now) (s .args .answer .now) (d .result) _ _)
-    (classes-docks (s .args .file .now) (length (s .args .classes .now)) (length (s .args .answer .now))) (d .ensures)
+    (classes-itself (s .args .file .now) (length (s .args .classes .now)) (length (s .args .answer .now))) (d .ensures)
 
 pub classes-for-spec : {M : Type 1} → statement M
 classes-for-spec =

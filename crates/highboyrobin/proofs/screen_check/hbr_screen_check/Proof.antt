@@ -1,8 +1,8 @@
 use Rattle.highboyrobin.proofs.Answering.{ended-refused, ended-told}
 use Rattle.highboyrobin.proofs.ChecksTold.{check-begins}
-use Rattle.highboyrobin.proofs.Screening.{trailer-carries, for-short, for-refused, dock-replies-at, LeftAt}
+use Rattle.highboyrobin.proofs.Screening.{trailer-carries, for-short, for-refused, same-replies-at, LeftAt}
 use Rattle.highboyrobin.specs.Calls.{yesOrNo}
-use Rattle.highboyrobin.specs.ScreenCallLaws.{check-docks}
+use Rattle.highboyrobin.specs.ScreenCallLaws.{check-itself}
 use Rattle.order.specs.declared.Caller.the-variants.{Screen}
 use Rattle.order_file.specs.File.{orderIn}
 use Rattle.plan.specs.Check.{isRight}
@@ -54,9 +54,9 @@ returns-3 c =
     let s = c .before .before .before .before .before .before .before .before .before in
     let k = c .before .before .before .before .before .accept-file-for in
     let d = c .before .hbr-check in
-    dock-replies-at Screen (s .args .file .now) (k .result) (k .ensures) (c .before .before .before .enum-told .given .1)
+    same-replies-at Screen (s .args .file .now) (k .result) (k .ensures) (c .before .before .before .enum-told .given .1)
     (LeftAt (λ z. yesOrNo (isRight (orderIn (s .args .file .now)) z (s .args .rows .now))) (s .args .answer .now) (d .result) _)
-    (λ z. check-docks (s .args .file .now) z (length (s .args .rows .now)) (length (s .args .answer .now))) (s .args .bound) _
+    (λ z. check-itself (s .args .file .now) z (length (s .args .rows .now)) (length (s .args .answer .now))) (s .args .bound) _
     (toZ-ofZ w32 (s .args .bound) (s .fits .bound)) (d .ensures)
 
 pub hbr-screen-check-spec : {M : Type 1} → statement M

@@ -1,7 +1,7 @@
 use Rattle.highboyrobin.proofs.Answering.{ended-refused, ended-told}
-use Rattle.highboyrobin.proofs.Screening.{trailer-carries, for-short, for-refused, dock-replies-at, LeftAt}
+use Rattle.highboyrobin.proofs.Screening.{trailer-carries, for-short, for-refused, same-replies-at, LeftAt}
 use Rattle.highboyrobin.specs.Calls.{sizesOf}
-use Rattle.highboyrobin.specs.ScreenCallLaws.{judge-docks}
+use Rattle.highboyrobin.specs.ScreenCallLaws.{judge-itself}
 use Rattle.order.specs.Refusals.{limits, orderRows}
 use Rattle.order.specs.declared.Caller.the-variants.{Screen}
 use Rattle.order_file.specs.File.{orderIn}
@@ -54,9 +54,9 @@ returns-3 c =
     let s = c .before .before .before .before .before .before .before .before in
     let k = c .before .before .before .before .before .accept-file-for in
     let d = c .before .hbr-judge in
-    dock-replies-at Screen (s .args .file .now) (k .result) (k .ensures) (c .before .before .before .enum-told .given .1)
+    same-replies-at Screen (s .args .file .now) (k .result) (k .ensures) (c .before .before .before .enum-told .given .1)
     (LeftAt (λ z. sizesOf (orderIn (s .args .file .now))) (s .args .answer .now) (d .result) _)
-    (λ z. judge-docks (s .args .file .now) (length (s .args .answer .now))) (pos 0) _ refl (d .ensures)
+    (λ z. judge-itself (s .args .file .now) (length (s .args .answer .now))) (pos 0) _ refl (d .ensures)
 
 pub hbr-screen-judge-spec : {M : Type 1} → statement M
 hbr-screen-judge-spec =

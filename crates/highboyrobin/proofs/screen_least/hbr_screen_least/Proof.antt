@@ -1,6 +1,6 @@
 use Rattle.highboyrobin.proofs.Answering.{plan-refused, plan-told}
-use Rattle.highboyrobin.proofs.Screening.{trailer-carries, for-short, for-refused, dock-replies-at, PlanAt}
-use Rattle.highboyrobin.specs.ScreenCallLaws.{least-docks}
+use Rattle.highboyrobin.proofs.Screening.{trailer-carries, for-short, for-refused, same-replies-at, PlanAt}
+use Rattle.highboyrobin.specs.ScreenCallLaws.{least-itself}
 use Rattle.order.specs.declared.Caller.the-variants.{Screen}
 use Rattle.order_file.specs.File.{orderIn}
 use Rattle.planner.specs.AnswerLaws.{least-begins}
@@ -57,10 +57,10 @@ returns-3 c =
     let k = c .before .before .before .before .before .before .before .before .accept-file-for in
     let o = orderIn (s .args .file .now) in
     let d = c .before .before .before .hbr-least in
-    dock-replies-at Screen (s .args .file .now) (k .result) (k .ensures)
+    same-replies-at Screen (s .args .file .now) (k .result) (k .ensures)
     (c .before .before .before .before .before .before .enum-told .given .1)
     (PlanAt o (leastLateness o ∷ []) (s .args .rows .now) (s .args .answer .now) (d .result) _ _)
-    (λ z. least-docks (s .args .file .now) (length (s .args .rows .now)) (length (s .args .answer .now))) (leastLateness o) _ refl
+    (λ z. least-itself (s .args .file .now) (length (s .args .rows .now)) (length (s .args .answer .now))) (leastLateness o) _ refl
     (d .ensures)
 
 pub hbr-screen-least-spec : {M : Type 1} → statement M

@@ -1,6 +1,6 @@
 use Rattle.highboyrobin.proofs.Answering.{plan-refused, plan-told}
-use Rattle.highboyrobin.proofs.Screening.{trailer-carries, for-short, for-refused, dock-replies-at, PlanAt}
-use Rattle.highboyrobin.specs.ScreenCallLaws.{plan-docks}
+use Rattle.highboyrobin.proofs.Screening.{trailer-carries, for-short, for-refused, same-replies-at, PlanAt}
+use Rattle.highboyrobin.specs.ScreenCallLaws.{plan-itself}
 use Rattle.order.specs.declared.Caller.the-variants.{Screen}
 use Rattle.order_file.specs.File.{orderIn}
 use Rattle.planner.specs.AnswerLaws.{plan-begins}
@@ -58,10 +58,10 @@ returns-3 c =
     let k = c .before .before .before .before .before .before .before .before .accept-file-for in
     let o = orderIn (s .args .file .now) in
     let d = c .before .before .before .hbr-plan in
-    dock-replies-at Screen (s .args .file .now) (k .result) (k .ensures)
+    same-replies-at Screen (s .args .file .now) (k .result) (k .ensures)
     (c .before .before .before .before .before .before .enum-told .given .1)
     (PlanAt o [] (s .args .rows .now) (s .args .answer .now) (d .result) _ _)
-    (λ z. plan-docks (s .args .file .now) z (length (s .args .rows .now)) (length (s .args .answer .now))) (s .args .bound) _
+    (λ z. plan-itself (s .args .file .now) z (length (s .args .rows .now)) (length (s .args .answer .now))) (s .args .bound) _
     (toZ-ofZ w32 (s .args .bound) (s .fits .bound)) (d .ensures)
 
 pub hbr-screen-plan-spec : {M : Type 1} → statement M

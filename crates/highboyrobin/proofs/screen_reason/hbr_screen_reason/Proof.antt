@@ -1,7 +1,7 @@
 use Rattle.highboyrobin.proofs.Answering.{ended-refused, ended-told}
-use Rattle.highboyrobin.proofs.Screening.{trailer-carries, for-short, for-refused, dock-replies-at, LeftAt}
+use Rattle.highboyrobin.proofs.Screening.{trailer-carries, for-short, for-refused, same-replies-at, LeftAt}
 use Rattle.highboyrobin.specs.Calls.{reasonNumbers}
-use Rattle.highboyrobin.specs.ScreenCallLaws.{reason-docks}
+use Rattle.highboyrobin.specs.ScreenCallLaws.{reason-itself}
 use Rattle.order.specs.declared.Caller.the-variants.{Screen}
 use Rattle.order_file.specs.File.{orderIn}
 use Rattle.profile.specs.Search.{reasonOf}
@@ -54,10 +54,10 @@ returns-3 c =
     let s = c .before .before .before .before .before .before .before .before in
     let k = c .before .before .before .before .before .accept-file-for in
     let d = c .before .hbr-reason in
-    dock-replies-at Screen (s .args .file .now) (k .result) (k .ensures) (c .before .before .before .enum-told .given .1)
+    same-replies-at Screen (s .args .file .now) (k .result) (k .ensures) (c .before .before .before .enum-told .given .1)
     (LeftAt (λ z. reasonNumbers (orderIn (s .args .file .now)) (reasonOf (orderIn (s .args .file .now)) z)) (s .args .answer .now)
     (d .result) _)
-    (λ z. reason-docks (s .args .file .now) z (length (s .args .answer .now))) (s .args .bound) _
+    (λ z. reason-itself (s .args .file .now) z (length (s .args .answer .now))) (s .args .bound) _
     (toZ-ofZ w32 (s .args .bound) (s .fits .bound)) (d .ensures)
 
 pub hbr-screen-reason-spec : {M : Type 1} → statement M

@@ -1,7 +1,7 @@
-use Rattle.highboyrobin.proofs.Screening.{trailer-carries, for-list-short, for-few, for-list-refused, dock-replies-at, SentenceAt}
+use Rattle.highboyrobin.proofs.Screening.{trailer-carries, for-list-short, for-few, for-list-refused, same-replies-at, SentenceAt}
 use Rattle.highboyrobin.proofs.SentenceTold.{sentence-refused, sentence-told, compose-begins}
 use Rattle.highboyrobin.specs.Calls.{whyFrom, lineFrom}
-use Rattle.highboyrobin.specs.ScreenCallLaws.{sentence-docks}
+use Rattle.highboyrobin.specs.ScreenCallLaws.{sentence-itself}
 use Rattle.order.specs.declared.Caller.the-variants.{Screen}
 use Rattle.order_file.specs.File.{orderIn}
 use lib.ListN.{length}
@@ -64,10 +64,10 @@ returns-4 c =
     let s = c .before .before .before .before .before .before .before .before .before .before .before .before .before in
     let k = c .before .before .before .before .before .before .before .before .accept-file-for in
     let d = c .before .before .before .hbr-sentence in
-    dock-replies-at Screen (s .args .file .now) (k .result) (k .ensures)
+    same-replies-at Screen (s .args .file .now) (k .result) (k .ensures)
     (c .before .before .before .before .before .before .enum-told .given .1)
     (SentenceAt (λ z. lineFrom (s .args .file .now) z (s .args .reason .now)) (s .args .line .now) (s .args .answer .now) (d .result) _ _)
-    (λ z. sentence-docks (s .args .file .now) z (s .args .reason .now) (length (s .args .line .now)) (length (s .args .answer .now)))
+    (λ z. sentence-itself (s .args .file .now) z (s .args .reason .now) (length (s .args .line .now)) (length (s .args .answer .now)))
     (s .args .bound) _ (toZ-ofZ w32 (s .args .bound) (s .fits .bound))
     (d .ensures)
 
