@@ -196,14 +196,18 @@ fn lateness(trial: &mut Trial) {
     }
 }
 
-fn reasons(trial: &mut Trial) {
-    let cases: [(Order, i32, &[i32]); 4] = [
+/// Orders at a bound, and the first numbers of the reason told.
+fn reason_cases() -> [(Order, i32, &'static [i32]); 4] {
+    [
         (a(), -1, &[2, 2, 0, 3, 3, 0]),
         (b(), -1, &[2, 2, 0, 4, 2, 0]),
         (c(), -9, &[1, 1, 3, 0]),
         (c(), -8, &[0, 0, 0, 0]),
-    ];
-    for (order, bound, reason) in cases {
+    ]
+}
+
+fn reasons(trial: &mut Trial) {
+    for (order, bound, reason) in reason_cases() {
         let call = on(&mut trial.random, &order).at(bound);
         case(trial, Function::Reason, call, 0, reason);
     }

@@ -3,7 +3,7 @@
 
 use super::lines::{late, numbers_of, stairs};
 use super::screen::{alike, CHECK, JUDGE, LARGEST_BOUND, LEAST, PLAN, REASON, SENTENCE};
-use super::{a, b, c, d, on_few, on_with_room, order};
+use super::{a, b, c, d, on_few, on_with_room, order, reason_cases};
 use crate::independent::{write, Order, Reason};
 use crate::lent::Call;
 use crate::trial::Trial;
@@ -39,13 +39,7 @@ fn leasts(trial: &mut Trial) {
 }
 
 fn reasons(trial: &mut Trial) {
-    let cases: [(Order, i32, &[i32]); 4] = [
-        (a(), -1, &[2, 2, 0, 3, 3, 0]),
-        (b(), -1, &[2, 2, 0, 4, 2, 0]),
-        (c(), -9, &[1, 1, 3, 0]),
-        (c(), -8, &[0, 0, 0, 0]),
-    ];
-    for (order, bound, reason) in cases {
+    for (order, bound, reason) in reason_cases() {
         let call = on_few(&mut trial.random, &order).at(bound);
         alike(trial, REASON, call, 0, reason);
     }
