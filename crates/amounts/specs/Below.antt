@@ -2,7 +2,7 @@
 -- From the first: whether f is positive from c up to e, and where it is 0 first.
 use Rattle.std.specs.Prelude.{◌≡◌, ℕ, zero, suc, ◌≤◌, ◌<◌}
 use Rattle.std.proofs.Common.{sym, subst, arith}
-use Rattle.std.proofs.Math.Logic.{Dec·and}
+use Rattle.std.proofs.Math.Logic.Dec.{and as dec_and}
 use Rattle.std.proofs.Math.Decide.{dec_le, ℕ_discrete}
 
 -- what holds below n and at n holds below n + 1
@@ -60,7 +60,7 @@ pub data Zero (f : ℕ → ℕ) (c e : ℕ) : Type 0 where
 
 pub first-zero : (f : ℕ → ℕ) (c e : ℕ) → Zero f c e
 first-zero f c e =
-    elim (first_below (λ k. (c ≤ k) × (f k ≡ 0)) (λ k. Dec·and (dec_le c k) (ℕ_discrete (f k) 0)) e) [
+    elim (first_below (λ k. (c ≤ k) × (f k ≡ 0)) (λ k. dec_and (dec_le c k) (ℕ_discrete (f k) 0)) e) [
       | first k b p r ↦ zero-at k p.0 b p.1 (λ i a d. positive i (λ z. r i d (a, z)))
       | none r ↦ no_zero (λ i a d. positive i (λ z. r i d (a, z)))
     ]

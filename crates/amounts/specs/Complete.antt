@@ -115,7 +115,7 @@ module _ (o : Flow) (m : ℕ) (C : Classes o m) where
         all_left = λ j b. gate-in j o.n _ b ∙ sym (time-same j b);
         none_left = gate-out o.n o.n _ (omega arith);
         one = λ j b. gate-in j o.n 1 b;
-        ground = gate-out o.n o.n 1 (omega arith);
+        grounded = gate-out o.n o.n 1 (omega arith);
       }
 
   ended : Outcome with_idle m

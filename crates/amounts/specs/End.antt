@@ -2,22 +2,22 @@
 -- empty level, and a cut violates. Such a level there is at the latest when a job stands above the level n.
 use Rattle.std.specs.Prelude.{◌≡◌, ◌≢◌, ℕ, suc, ◌*◌, ◌-◌, ◌≤◌, ◌<◌, ltb}
 use Rattle.std.proofs.Common.{sym, ◌∙◌, arith, ltb-true, ltb-false, lt-ltb}
-use Rattle.std.proofs.Math.Logic.{Dec·and}
+use Rattle.std.proofs.Math.Logic.Dec.{and as dec_and}
 use Rattle.std.proofs.Math.Decide.{dec_lt}
 use Rattle.sums.specs.Sum.{sum, sum-cong}
 use Rattle.sums.specs.Gate.{gate-in, gate-out}
 use Rattle.amounts.specs.Flow.{Flow, held, Feasible, Cut}
 use Rattle.amounts.specs.Below.{highest, nobody, highest-below, zero-at, no_zero, first-zero}
 use Rattle.amounts.specs.Level.{level-empty}
-use Rattle.amounts.specs.State.{Fill, Classed, held_all_lem, State}
+use Rattle.amounts.specs.State.{Fill, Classed, held_all, State}
 use Rattle.amounts.specs.Stuck.{stuck-violating}
 
 module _ (o : Flow) (m : ℕ) (x : Fill) (O : Classed o m) (S : State o m x) where
   positive : 0 < m
-  positive = omega (arith, O.class-idle, O.Class-Low o.n (omega arith))
+  positive = omega (arith, O.class-idle, O.class_low o.n (omega arith))
 
   -- the idle job counts in no class below m
-  held_all_lem : (s k : ℕ) → k < m → held_all_lem o x.w s k ≡ held o x.w s k
+  held_all_lem : (s k : ℕ) → k < m → held_all o x.w s k ≡ held o x.w s k
   unfolding sum
   held_all_lem s k l = omega (arith, gate-out (o.class o.n) (suc k) (x.w o.n s) (omega (arith, O.class-idle)))
 
@@ -62,7 +62,7 @@ module _ (o : Flow) (m : ℕ) (x : Fill) (O : Classed o m) (S : State o m x) whe
     cut_at : (s : ℕ) → (k : ℕ) × (k < m) × (s < o.q → CutAt g s k)
     cut_at s =
         elim (highest-below (λ j. (g < x.h j) × (x.w j s < o.cap j s)) o.class
-        (λ j. Dec·and (dec_lt g (x.h j)) (dec_lt (x.w j s) (o.cap j s))) o.n) [
+        (λ j. dec_and (dec_lt g (x.h j)) (dec_lt (x.w j s) (o.cap j s))) o.n) [
           | nobody f ↦ (
             0,
             positive,
@@ -70,7 +70,7 @@ module _ (o : Flow) (m : ℕ) (x : Fill) (O : Classed o m) (S : State o m x) whe
                 record {
                   tight = omega (arith, S.rooms s 0 b positive, O.room-none s b);
                   full = λ j l u v. absurd (f j l (u, v));
-                  none = λ i l u v. omega (arith, O.Class-Low i (omega arith));
+                  none = λ i l u v. omega (arith, O.class_low i (omega arith));
                 },
           )
           | highest j l p top ↦
@@ -102,7 +102,7 @@ module _ (o : Flow) (m : ℕ) (x : Fill) (O : Classed o m) (S : State o m x) whe
                       ) in
                       absurd (omega (
                         arith,
-                        S.ground,
+                        S.grounded,
                         S.labels j o.n s l (omega arith) b p.1 some
                             (λ k a d. free k a (omega (arith, O.class-idle))),
                       )),

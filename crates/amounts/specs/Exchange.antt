@@ -2,7 +2,7 @@
 -- What a job owes is convex in what is covered, so lowering the later class or raising the earlier keeps the violation.
 use Rattle.std.specs.Prelude.{◌≡◌}
 use Rattle.std.proofs.Math.Path.{ap}
-use Rattle.std.proofs.Math.Logic.{Dec·and}
+use Rattle.std.proofs.Math.Logic.Dec.{and as dec_and}
 use Prim.Native.Nat.{ℕ, zero, suc, ◌+◌, ◌*◌, ◌-◌, ◌≤◌, ◌<◌}
 use Rattle.std.proofs.Common.{mul-le-mul_left, mul-zero, sub-eq-zero_of_le}
 use Rattle.std.proofs.Math.Nat.{mul-lt-mul_of_pos_left}
@@ -152,7 +152,7 @@ data Course (κ : ℕ → ℕ) (q : ℕ) : Type 0 where
 course : (κ : ℕ → ℕ) (q : ℕ) → Course κ q
 course κ q =
     elim (first_below (λ s. (suc s < q) × (κ s < κ (suc s)))
-    (λ s. Dec·and (dec_lt (suc s) q) (dec_lt (κ s) (κ (suc s)))) q) [
+    (λ s. dec_and (dec_lt (suc s) q) (dec_lt (κ s) (κ (suc s)))) q) [
       | first s b p _ ↦ rises s p.0 p.1
       | none f ↦ falls (λ i b. level i (λ r. f i (omega arith) (b, r)))
     ]

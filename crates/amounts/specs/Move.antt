@@ -2,7 +2,7 @@
 -- Found by trying all stretches and jobs: enough to prove that the engine ends, though code would take larger moves.
 use Rattle.std.specs.Prelude.{◌≡◌, refl, ◌≢◌, ℕ, suc, ◌+◌, ◌-◌, ◌≤◌, ◌<◌}
 use Rattle.std.proofs.Common.{◌∙◌, arith}
-use Rattle.std.proofs.Math.Logic.{Dec·and}
+use Rattle.std.proofs.Math.Logic.Dec.{and as dec_and}
 use Rattle.std.proofs.Math.Decide.{dec_lt, ℕ_discrete}
 use Rattle.sums.specs.Gate.{gate, gate-in, gate-out, gate-≤, put, put_same, put_other}
 use Rattle.amounts.specs.Flow.{Flow}
@@ -86,9 +86,9 @@ module _ (o : Flow) (x : Fill) (j : ℕ) where
 
   way-dec : (i s : ℕ) → Dec (Way i s)
   way-dec i s =
-      Dec·and (dec_lt (x.w j s) (o.cap j s))
-      (Dec·and (dec_lt 0 (x.w i s))
-      (Dec·and (free-dec (x.slack s) (o.class j) (o.class i)) (ℕ_discrete (x.h j) (suc (x.h i)))))
+      dec_and (dec_lt (x.w j s) (o.cap j s))
+      (dec_and (dec_lt 0 (x.w i s))
+      (dec_and (free-dec (x.slack s) (o.class j) (o.class i)) (ℕ_discrete (x.h j) (suc (x.h i)))))
 
   way_in : (s : ℕ) → Dec ((i : ℕ) × (i < suc o.n) × Way i s)
   way_in s =

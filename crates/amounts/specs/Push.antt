@@ -232,7 +232,7 @@ module _ (o : Flow) (m : ℕ) (x y : Fill) (j i s d : ℕ) (O : Classed o m) (S 
         labels = push-labels;
         low = λ a la. omega (arith, M.h-same a, S.low a la);
         high = λ a la. omega (arith, M.h-same a, S.high a la);
-        ground = M.h-same o.n ∙ S.ground;
+        grounded = M.h-same o.n ∙ S.grounded;
       }
 
   pub push-less : (K : ℕ) → 0 < d → measure K o.n y < measure K o.n x

@@ -52,7 +52,7 @@ module _ (o : Flow) (m : ℕ) (x : Fill) (h : ℕ → ℕ) (j : ℕ) (S : State 
               | yes e ↦ omega (arith, ap h e, up, low)
               | no e ↦ omega (arith, else a e, S.high a la)
             ];
-        ground = else o.n (λ e. omega (arith, e, lj)) ∙ S.ground;
+        grounded = else o.n (λ e. omega (arith, e, lj)) ∙ S.grounded;
       }
 
   pub rise-less : (K : ℕ) → x.left j < K → measure K o.n (risen x h) < measure K o.n x

@@ -15,7 +15,7 @@ pub record Begun (o : Flow) (m : ℕ) (x : Fill) : Type 0 where
   pub all_left : (j : ℕ) → j < o.n → x.left j ≡ o.time j
   pub none_left : x.left o.n ≡ 0
   pub one : (j : ℕ) → j < o.n → x.h j ≡ 1
-  pub ground : x.h o.n ≡ 0
+  pub grounded : x.h o.n ≡ 0
 
 module _ (o : Flow) (m : ℕ) (x : Fill) (O : Classed o m) (B : Begun o m x) where
   start-held : (s k : ℕ) → s < o.q → k < m → held_all o x.w s k ≡ 0
@@ -55,5 +55,5 @@ module _ (o : Flow) (m : ℕ) (x : Fill) (O : Classed o m) (B : Begun o m x) whe
         labels = λ j i s lj li ls sp has fr. omega (arith, B.one j lj);
         low = λ j lj. omega (arith, B.one j lj);
         high = λ j lj. omega (arith, B.one j lj);
-        ground = B.ground;
+        grounded = B.grounded;
       }

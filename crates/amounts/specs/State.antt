@@ -44,7 +44,7 @@ pub record State (o : Flow) (m : ℕ) (x : Fill) : Type 0 where
       Free (x.slack s) (o.class j) (o.class i) → x.h j ≤ suc (x.h i)
   pub low : (j : ℕ) → j < o.n → 0 < x.h j
   pub high : (j : ℕ) → j < o.n → x.h j ≤ suc o.n
-  pub ground : x.h o.n ≡ 0
+  pub grounded : x.h o.n ≡ 0
 
 -- j may displace i in s: j has cap to spare, i has something, the classes between have slack, and i lies one lower
 pub record Able (o : Flow) (x : Fill) (j i s : ℕ) : Type 0 where

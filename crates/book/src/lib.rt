@@ -1,4 +1,6 @@
 // The minutes booked per maker (document 02, §4).
+#![tactic(auto)]
+
 pub mod minutes; // an order's minutes in a book
 pub mod opening; // open_book
 
@@ -6,13 +8,13 @@ pub mod opening; // open_book
 pub const MOST_BOOKED: u32 = 4000000000;
 
 // The minutes planned for each maker since the book was opened, maker 1's first.
-#[derive(Drop)]
+#[derive(Clone, Copy)]
 pub struct Book {
     pub counts: [u32; 16],
 }
 
 // Whether some count, with an order's minutes, would be over the limit; and the book with these minutes, as it was where it is full.
-#[derive(Drop)]
+#[derive(Clone, Copy)]
 pub struct Booking {
     pub full: bool,
     pub book: Book,

@@ -1,4 +1,6 @@
 // Needs from a maker's table (document 02, §7): from lengths of sessions to the memory that each job needs.
+#![tactic(auto)]
+
 mod gaps; // 17: the smallest length that no line meets
 pub mod filling; // the entry point
 mod meeting; // lines, and the lengths that they meet
@@ -11,7 +13,7 @@ pub const MOST_LINES: usize = 32;
 
 // How many needs were filled in, or the refusal: 17 and 18 with the smallest such length, 5 with the first such place in the
 // list, counted from 1, and 9.
-#[derive(Drop)]
+#[derive(Clone, Copy)]
 pub enum Filled {
     Needs(usize),
     NoLine(u32),

@@ -1,4 +1,6 @@
 // What an order is (document 01, "Order and file"; the maker: document 02, §4), whether it is accepted, and its orderings.
+#![tactic(auto)]
+
 pub mod accept; // refusals 1 to 7 and 13
 pub mod callers; // the limits of a dock and of a screen
 pub mod deadline; // a job's end, and the end cut off at minute 0
@@ -16,7 +18,7 @@ pub const MOST_MAKERS: u32 = 16;
 
 // An order: counts, and a column for each number of a processor or a job. It stands for the list of as many as it counts,
 // zeros behind the end of an array.
-#[derive(Drop)]
+#[derive(Clone, Copy)]
 pub struct Order {
     pub processors: u32,
     pub memories: [u32; 16],
@@ -28,14 +30,14 @@ pub struct Order {
 }
 
 // Who calls the planner: the limits belong to the call (document 02, §10).
-#[derive(Drop)]
+#[derive(Clone, Copy)]
 pub enum Caller {
     Dock,
     Screen,
 }
 
 // The refusals but 10; where one carries a job or a processor, its number. Two have the caller, by whose limits they are numbered.
-#[derive(Drop)]
+#[derive(Clone, Copy)]
 pub enum Refusal {
     NoProcessor,
     TooManyProcessors(Caller),
@@ -55,7 +57,7 @@ pub enum Refusal {
     LowAboveHigh(u32),
 }
 
-#[derive(Drop)]
+#[derive(Clone, Copy)]
 pub enum Acceptance {
     Accepted,
     Refused(Refusal),

@@ -1,11 +1,13 @@
 // The plan check (document 01, "Plans"): whether lent rows are a right plan, by whomever it was made.
+#![tactic(auto)]
+
 use order::Refusal;
 
 pub mod check; // check_plan
 pub mod rows; // rows of lent numbers, and the four rules
 
 // A row of a plan: the minutes from `from` up to but not including `to`.
-#[derive(Drop)]
+#[derive(Clone, Copy)]
 pub struct Piece {
     pub job: u32,
     pub processor: u32,
@@ -14,14 +16,14 @@ pub struct Piece {
 }
 
 // A row of lent numbers: whole and naming a job and a processor that fit, or malformed.
-#[derive(Drop)]
+#[derive(Clone, Copy)]
 pub enum RowRead {
     Good(Piece),
     Malformed,
 }
 
 // Whether the plan is right, or why it was not judged.
-#[derive(Drop)]
+#[derive(Clone, Copy)]
 pub enum Checked {
     Yes,
     No,

@@ -80,8 +80,8 @@ fn by_end(due: i32, bound: i32, to: u32) -> bool
 // Whether every row is well formed and ends by its job's end, none being left over.
 pub fn rows_good(order: Order, bound: i32, rows: &[u32]) -> bool
     requires { Accepted (order_of order) × (bound_in_range bound ≡ true) × (length rows.now ≤ 32256) }
-    ensures* { λ r. ⌜ r ≡ (eqb (length rows.now % 4) 0
-        && every (λ (r : Row). well_formed (order_of order) r && by_end (order_of order) bound r) (rows_of rows.now)) ⌝ }
+    ensures { result ≡ (eqb (length rows.now % 4) 0
+        && every (λ (r : Row). well_formed (order_of order) r && by_end (order_of order) bound r) (rows_of rows.now)) }
 {
     let n = (rows.len() + 3) / 4;
     let mut i: usize = 0;

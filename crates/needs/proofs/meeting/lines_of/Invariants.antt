@@ -1,0 +1,16 @@
+use Prim.Native.Nat.{ℕ, ◌-◌, ◌*◌, ◌≤◌, ◌<◌}
+use mathlib.Core.Path.{◌≡◌, refl, ◌∙◌}
+use borrow.Author.Count.{below_none}
+use lib.ListN.{length, get_or, length-set}
+use Rattle.sums.specs.Arrays.{fill-at}
+use Rattle.needs.specs.MeetLaws.{same_lines}
+use borrow.Author.Rules.{rules}
+use native.Mathlib.Omega.{arith}
+use Rattle.needs.proofs.meeting.lines_of.Given as goal
+
+abbrev pub invariant-loop-i : goal.invariant-loop-i
+invariant-loop-i l =
+    (l.i ≤ 3 * l.n) × (l.n ≤ 32) × (length l.lines ≡ 96) × ((k : ℕ) → k < l.i → get_or l.lines k 0 ≡ get_or l.table k 0)
+
+abbrev pub decreases-loop-i : goal.decreases-loop-i
+decreases-loop-i l = 3 * l.n - l.i

@@ -1,0 +1,14 @@
+-- The totals are those of the rows passed so far, and each row adds less than 2^32.
+use Prim.Native.Nat.{◌-◌, ◌≤◌, ◌/◌}
+use mathlib.Core.Path.{◌≡◌, refl, ◌∙◌}
+use native.Mathlib.Omega.{arith}
+use borrow.Author.Rules.{rules}
+use lib.ListN.{length, length-set}
+use Rattle.plan.proofs.Lengths.{Totals, totals-none, totals-more, totals-all, piece-range}
+use Rattle.plan.proofs.rows.job_lengths.Given as goal
+
+abbrev pub invariant-loop-i : goal.invariant-loop-i
+invariant-loop-i l = (l.i ≤ l.n) × (length l.totals ≡ 48) × Totals l.rows l.totals l.i
+
+abbrev pub decreases-loop-i : goal.decreases-loop-i
+decreases-loop-i l = l.n - l.i
