@@ -432,7 +432,7 @@ module _ (n q m : ℕ) (time class cap room w slack left h w1 w2 slack' left' h'
         all_left = λ j lj. get_or-set_other left' n j 0 0 (λ e. omega (arith, e)) ∙ D.each j lj;
         none_left = get_or-set_same left' n 0 0 (omega (arith, Z.s-left));
         one = L.one;
-        ground = L.ground;
+        grounded = L.grounded;
       }
 
   pub begin : length w1 ≡ length w → length w2 ≡ length w1 → length slack' ≡ length slack → length h' ≡ length h →

@@ -139,7 +139,7 @@ module _ (m : ℕ) (o p : Flow) (A : Agree m o p) where
         E.greatest d
         (omega (arith, D.left-fits, S.left-same j (omega arith)))
         (omega (arith, D.cap-fits, S.w-same j s (omega arith) ls, A.cap-same j s lj ls))
-        (omega (arith, D.w_Fits, S.w-same i s li ls))
+        (omega (arith, D.w_fits, S.w-same i s li ls))
         (λ k lo hi.
         omega (
           arith,
@@ -335,7 +335,7 @@ begun-same m o p pos en eq times rooms x y X Y =
           ];
       h-same = λ j lj.
           elim (ℕ_discrete j o.n) [
-            | yes e ↦ ap x.h e ∙ X.ground ∙ sym Y.ground ∙ ap y.h (sym en ∙ sym e)
+            | yes e ↦ ap x.h e ∙ X.grounded ∙ sym Y.grounded ∙ ap y.h (sym en ∙ sym e)
             | no e ↦ X.one j (omega arith) ∙ sym (Y.one j (omega arith))
           ];
     }

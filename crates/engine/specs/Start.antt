@@ -29,7 +29,7 @@ pub record IdleRow (room xs ys : List ℕ) (n q m u : ℕ) : Type 0 where
 
 pub record Level (h : List ℕ) (n : ℕ) : Type 0 where
   pub one : (j : ℕ) → j < n → get_or h j 0 ≡ 1
-  pub ground : get_or h n 0 ≡ 0
+  pub grounded : get_or h n 0 ≡ 0
 
 module _ (n q m : ℕ) (time class cap room : List ℕ) (G : Given n q m time class room) where
   pub room_at : (s k : ℕ) → k < m → (flow_of n q m time class cap room).room s k ≡ get_or room (s * m + k) 0

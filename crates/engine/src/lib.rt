@@ -1,12 +1,14 @@
 // The engine: how much of each job goes into each stretch, over general caps and rooms. Push and relabel over jobs, an idle job
 // holding what nobody holds in a stretch.
+#![tactic(auto)]
+
 mod advance; // a job displaces others until nothing of it is left, or it rises
 pub mod filling; // solve
 mod moves; // which job goes on, and its step
 mod slices; // small work on lent slices
 
 // A step of a job: to displace in a stretch a job, or to rise.
-#[derive(Drop)]
+#[derive(Clone, Copy)]
 pub enum Move {
     Push(usize, usize),
     Rise,

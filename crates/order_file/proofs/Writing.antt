@@ -1,4 +1,7 @@
 -- How the writer puts its answer together: acceptance decides alone where it refuses, else the room in the buffer does.
+use denote.Param.Laws.{field_told}
+use denote.Struct.Field.{u32-field}
+use denote.Struct.Laws.{u32-laws}
 use Prim.Native.Nat.{ℕ, ◌+◌, ◌*◌, ◌≤◌, ◌<◌}
 use mathlib.Core.Path.{◌≡◌, refl, sym, ap, subst, ◌∙◌}
 use mathlib.Core.List.{List, [], ◌∷◌, ◌++◌, map, append_assoc}
@@ -53,7 +56,7 @@ WrittenBy v o buffer told after =
     (told ≡ answer_by v (file_length o)) × ((after ≡ written_by v o buffer) × ReadBackBy v o after)
 
 -- the elements of an array of u32
-pub array-small : (xs : List ℕ) → WTs (of_list (map (vint w32) (map (λ x. x) xs))) → All (λ x. x < 4294967296) xs
+pub array-small : (xs : List ℕ) → WTs (of_list (map (λ x. (field_told u32-field u32-laws).val x) xs)) → All (λ x. x < 4294967296) xs
 array-small [] h = tt
 array-small (x ∷ xs) h = (h.0.fits, array-small xs h.1)
 

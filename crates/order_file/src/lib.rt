@@ -1,4 +1,6 @@
 // The order file (document 01, "Order and file"; the maker in it: document 02, §4): reader and writer.
+#![tactic(auto)]
+
 use order::{Acceptance, Order, Refusal};
 
 pub mod bytes; // numbers as bytes
@@ -13,7 +15,7 @@ pub const TRAILER_WIDTH: usize = 12;
 pub const LONGEST_FILE: usize = 844;
 
 // Where the lists lie, and how long they are.
-#[derive(Drop)]
+#[derive(Clone, Copy)]
 pub struct Lists {
     pub processors_at: usize,
     pub jobs_at: usize,
@@ -21,21 +23,21 @@ pub struct Lists {
     pub jobs: usize,
 }
 
-#[derive(Drop)]
+#[derive(Clone, Copy)]
 pub enum Trailer {
     Good(Lists),
     Bad,
 }
 
 // The order, and whether it is accepted; where it is refused, the order is empty.
-#[derive(Drop)]
+#[derive(Clone, Copy)]
 pub struct OrderRead {
     pub status: Acceptance,
     pub order: Order,
 }
 
 // The length of the file that was written, or why none was.
-#[derive(Drop)]
+#[derive(Clone, Copy)]
 pub enum OrderWritten {
     Bytes(usize),
     Refused(Refusal),

@@ -1,0 +1,22 @@
+use mathlib.Core.Path.{refl}
+use borrow.Author.Rules.{rules}
+use native.Mathlib.Omega.{arith}
+use mathlib.Core.Path.{◌≡◌}
+use Prim.Native.Nat.{ℕ}
+use lib.ListN.{get_or, length-set}
+use Rattle.sums.specs.Arrays.{fill-at}
+use Rattle.engine.proofs.slices.copy.Goals as goal
+
+pub loop-k-preserved : goal.loop-k-preserved
+loop-k-preserved c =
+    let l = c.loop-k in (
+      search rules,
+      simp length-set l.invariant.1,
+      record {
+        each = fill-at (λ (k x : ℕ). x ≡ get_or c.args.from.now k 0) 0 l.xs l.k _ (omega arith)
+            l.invariant.2.each refl;
+      },
+    )
+
+pub returns : goal.returns
+returns c = record { each = λ k h. c.loop-k.invariant.2.each k (omega arith) }

@@ -1,0 +1,26 @@
+-- The loop's invariant: what is left of the share goes on from the place that the loop has come to.
+use Prim.Native.Nat.{◌+◌, ◌-◌}
+use mathlib.Core.Path.{◌≡◌, refl, sym, ◌∙◌}
+use mathlib.Core.List.{[]}
+use native.Mathlib.Omega.{arith}
+use borrow.Author.Rules.{rules}
+use lib.ListN.{length}
+use Rattle.layout.specs.Sheet.{sheet}
+use Rattle.layout.proofs.Sharing.{
+  Going,
+  going_start,
+  going-good,
+  going-number,
+  going-room,
+  going_more,
+  going_done,
+  going_end,
+}
+use Rattle.layout.proofs.rows.lay_share.Given as goal
+
+abbrev pub invariant-loop-next : goal.invariant-loop-next
+invariant-loop-next l =
+    Going l.start l.end l.n l.processors l.job l.minutes l.initial.next (sheet l.initial.next.rows l.initial.last l.initial.rows) l.next l.left (sheet l.next.rows l.last l.rows)
+
+abbrev pub decreases-loop-next : goal.decreases-loop-next
+decreases-loop-next l = l.left + (l.n - l.next.processor)

@@ -1,0 +1,19 @@
+-- `column`: the invariant is that the places before j hold the numbers at `first` of the jobs, the others 0.
+use Prim.Native.Nat.{◌+◌, ◌*◌, ◌-◌, ◌≤◌}
+use mathlib.Core.Path.{◌≡◌}
+use Rattle.order_file.specs.File.{job_width}
+use Rattle.order_file.specs.Bytes.{number4}
+use Rattle.order_file.specs.Inside.{padded_to}
+use Rattle.order_file.specs.PaddedLaws.{padded-none, padded-more}
+use borrow.Author.Rules.{rules}
+use native.Mathlib.Omega.{arith}
+use Rattle.order_file.proofs.read.column.Goals as goal
+
+pub loop-j-init : goal.loop-j-init
+loop-j-init c = (search rules, padded-none 48 0 _)
+
+pub loop-j-preserved : goal.loop-j-preserved
+loop-j-preserved c = (search rules, padded-more 48 _ 0 _ _ _ (omega arith) c.loop-j.invariant.1 c.read4.ensures)
+
+pub returns : goal.returns
+returns c = let e : c.args.n ≡ c.loop-j.j = omega arith in rw e c.loop-j.invariant.1

@@ -1,0 +1,21 @@
+-- `put_jobs`: the invariant is that from `at` on the buffer holds the first j jobs and goes on as it was.
+use mathlib.Core.Path.{◌≡◌}
+use lib.IntN.{pos}
+use Rattle.order.specs.Machine.{machine-back}
+use Rattle.order_file.proofs.Growing.{no-job, one-job-more, all-jobs}
+use Prim.Native.Nat.{◌+◌, ◌*◌, ◌-◌, ◌≤◌}
+use mathlib.Core.List.{◌++◌}
+use lib.ListN.{take, get_or}
+use Rattle.sums.specs.Lists.{tabulate}
+use Rattle.order.specs.Table.{job_at}
+use Rattle.order_file.specs.File.{job_bytes, job_width}
+use Rattle.order_file.proofs.Stores.{Front, front_length}
+use borrow.Author.Rules.{rules}
+use native.Mathlib.Omega.{arith}
+use Rattle.order_file.proofs.write.put_jobs.Given as goal
+
+abbrev pub invariant-loop-j : goal.invariant-loop-j
+invariant-loop-j l = (l.j ≤ l.n) × Front l.initial.out (l.at + job_width * l.j) (take l.at l.initial.out ++ job_bytes (tabulate l.j (job_at l.order))) l.out
+
+abbrev pub decreases-loop-j : goal.decreases-loop-j
+decreases-loop-j l = l.n - l.j

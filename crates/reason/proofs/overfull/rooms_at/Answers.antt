@@ -1,0 +1,51 @@
+use Prim.Native.Nat.{ℕ, suc, ◌+◌, ◌-◌, ◌*◌, ◌≤◌}
+use mathlib.Core.Path.{◌≡◌, refl, sym, ap}
+use native.Mathlib.Omega.{arith}
+use native.Mathlib.Nat.{mul-le-mul}
+use native.Mathlib.Numerals.{add-one}
+use borrow.Author.Rules.{rules}
+use lib.ListN.{length, get_or}
+use Rattle.sums.specs.Arrays.{RowOf, fill-at}
+use Rattle.order.specs.Lead.{most_reach}
+use Rattle.reason.specs.Asked.{procs_to}
+use Rattle.reason.specs.WeightLaws.{procs-none, procs-suc, procs-le}
+use Rattle.reason.proofs.overfull.rooms_at.Goals as goal
+
+pub loop-k-init : goal.loop-k-init
+loop-k-init c = (search rules, refl, sym (procs-none _), record { at = λ k h. absurd (omega arith) })
+
+pub overflow_add-m : goal.overflow_add-m
+overflow_add-m c =
+    let l = c.loop-k in
+    omega (arith, l.invariant.2, procs-le c.args.o c.requires.fine l.k (omega arith), c.requires.fine.procs l.k (omega arith))
+
+pub overflow_mul-r : goal.overflow_mul-r
+overflow_mul-r c =
+    let l = c.loop-k in
+    let m : l.m + get_or c.args.o.procs l.k 0 ≤ 256 =
+    omega (
+      arith,
+      l.invariant.2,
+      procs-suc c.args.o l.k,
+      procs-le c.args.o c.requires.fine (suc l.k)
+          (omega arith),
+    ) in
+    let p : (l.m + get_or c.args.o.procs l.k 0) * c.args.reach ≤ 256 * most_reach = mul-le-mul m c.requires.reach_le_most_reach in
+    omega (arith, p)
+
+pub loop-k-preserved : goal.loop-k-preserved
+loop-k-preserved c =
+    let l = c.loop-k in
+    let e : l.m + get_or c.args.o.procs l.k 0 ≡ procs_to c.args.o (suc l.k) =
+    omega (arith, l.invariant.2, procs-suc c.args.o l.k) in (
+      search rules,
+      search rules,
+      rw add-one e,
+      record {
+        at = fill-at (λ (k v : ℕ). v ≡ procs_to c.args.o (suc k) * c.args.reach) 0 l.r l.k _
+            (search rules) l.invariant.3.at (ap (λ (x : ℕ). x * c.args.reach) e);
+      },
+    )
+
+pub returns : goal.returns
+returns c = record { at = λ k h. c.loop-k.invariant.3.at k (omega arith) }

@@ -1,0 +1,18 @@
+use Prim.Native.Nat.{ℕ, suc, ◌+◌, ◌-◌, ◌≤◌}
+use mathlib.Core.Path.{◌≡◌, refl, sym}
+use native.Mathlib.Omega.{arith}
+use native.Mathlib.Numerals.{add-one}
+use borrow.Author.Rules.{rules}
+use lib.ListN.{length, get_or}
+use Rattle.sums.specs.Most.{most, most-none, most-suc}
+use Rattle.sums.specs.Arrays.{RowOf, fill-at}
+use Rattle.stairs.proofs.completion.above.Given as goal
+
+-- the best so far, and the row up to d
+abbrev pub invariant-loop-d : goal.invariant-loop-d
+invariant-loop-d l =
+    (l.d ≤ l.q) × (length l.r ≡ 48) × (l.top ≡ most l.d (λ x. get_or l.w x 0 + get_or l.rest x 0))
+    × RowOf (λ e. most (suc e) (λ x. get_or l.w x 0 + get_or l.rest x 0)) l.d l.r
+
+abbrev pub decreases-loop-d : goal.decreases-loop-d
+decreases-loop-d l = l.q - l.d

@@ -1,0 +1,24 @@
+use borrow.Author.Rules.{rules}
+use native.Mathlib.Omega.{arith}
+use Prim.Native.Nat.{ℕ, ◌-◌, ◌<◌, ◌≤◌}
+use mathlib.Core.Path.{◌≡◌, ap, ◌∙◌}
+use lib.ListN.{length, get_or}
+use Rattle.sums.specs.Arrays.{RowOf, fill-at}
+use Rattle.sums.specs.Lists.{tabulate}
+use Rattle.order.specs.Order.{Numbers, job_of}
+use Rattle.order.specs.Class.{last_that_suffices, class_of}
+use Rattle.order.specs.RefusalLaws.{accepted-iff}
+use Rattle.order.specs.StructLaws.{few-jobs}
+use Rattle.order.specs.Table.{order_of}
+use Rattle.table.specs.ClassRows.{few-listed, class-of-is}
+use Rattle.table.specs.Held.{number_at}
+use Rattle.table.proofs.NeedsFall.{need_at, job-number, job-need, class-listed, class-fits}
+use Rattle.table.proofs.class.classes_of_jobs.Given as goal
+
+abbrev pub invariant-loop-k : goal.invariant-loop-k
+invariant-loop-k l =
+    (l.k ≤ l.n) × (length l.r ≡ 48) × RowOf (λ k. class_of (order_of l.order) (job_of (order_of l.order) (number_at (order_of l.order) k))) l.k l.r
+    × (l.class ≤ l.classes.count) × ((i j : ℕ) → i < l.class → l.k ≤ j → j < l.n → need_at l.order j ≤ get_or l.classes.memories i 0)
+
+abbrev pub decreases-loop-k : goal.decreases-loop-k
+decreases-loop-k l = l.n - l.k

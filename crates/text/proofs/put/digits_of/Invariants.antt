@@ -1,0 +1,14 @@
+use Prim.Native.Nat.{◌+◌}
+use mathlib.Core.Path.{◌≡◌, ap}
+use native.Mathlib.Omega.{arith}
+use borrow.Author.Rules.{rules}
+use lib.ListN.{length}
+use Rattle.text.specs.Text.{decimal}
+use Rattle.text.specs.TextLaws.{decimal_digit, decimal-longer, decimal-short}
+use Rattle.text.proofs.put.digits_of.Given as goal
+
+abbrev pub invariant-loop-rest : goal.invariant-loop-rest
+invariant-loop-rest l = l.count + length (decimal l.rest) ≡ length (decimal l.n) + 1
+
+abbrev pub decreases-loop-rest : goal.decreases-loop-rest
+decreases-loop-rest l = l.rest

@@ -1,0 +1,13 @@
+use mathlib.Core.Path.{ap}
+use native.Mathlib.Omega.{arith}
+use borrow.Author.Rules.{rules}
+use lib.ListN.{length}
+use Rattle.text.specs.TextLaws.{decimal_digit, decimal-longer}
+use Rattle.text.proofs.Digits.{Tail, tail_none, tail_more, tail-last}
+use Rattle.text.proofs.put.put_decimal.Given as goal
+
+abbrev pub invariant-loop-rest : goal.invariant-loop-rest
+invariant-loop-rest l = Tail l.initial.out l.at l.n l.behind l.out l.end l.rest
+
+abbrev pub decreases-loop-rest : goal.decreases-loop-rest
+decreases-loop-rest l = l.rest
