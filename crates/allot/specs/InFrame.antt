@@ -23,7 +23,7 @@ use Rattle.order.specs.OrderingLaws.{processors-ordered}
 use Rattle.order.specs.Sorted.{processor_order}
 use Rattle.wrap.specs.Stretches.{held_up_to}
 use Rattle.wrap.specs.HeldInOrder.{class-by-at-most}
-use Rattle.wrap.specs.Flows.{by_number_lem, amount_in, jobs-classed}
+use Rattle.wrap.specs.Flows.{by_number, amount_in, jobs-classed}
 use Rattle.wrap.specs.Frame.{Frame, length_in, lies, cap_in, open_in, open_order, open_to, FeasibleIn, Rising}
 use Rattle.wrap.specs.FrameLaws.{processor_class, open-are}
 use Rattle.wrap.specs.FrameFlow.{flow_in, Classed}
@@ -78,7 +78,7 @@ module _ {top : ℤ} {number : ℕ → ℕ} (o : Order) (t : Table) (m : TabledB
   rooms-are s k b = rw (opened s k b, A.marks-same s (omega arith), A.marks-same (suc s) b) refl
 
   -- flat amounts by job number: the number 0 names no job
-  by_number_lem : (q : ℕ) (w : List ℕ) → FeasibleIn o f (by_number_lem (grid q w)) → FeasibleIn o f (amount_in q w)
+  by_number_lem : (q : ℕ) (w : List ℕ) → FeasibleIn o f (by_number (grid q w)) → FeasibleIn o f (amount_in q w)
   unfolding held_up_to
   by_number_lem q w h = record { within = within; whole = whole; fits = h.fits }
     where

@@ -1,5 +1,7 @@
 // Each entry point by the caller's limits (document 02, §10). The counts are judged by them, and the rest is the dock's own function: there
 // is one planner. None has a `requires`.
+#![tactic(auto)]
+
 pub mod accept; // accept_for
 pub mod booking; // least_booked_for, plan_booked_for
 pub mod check; // check_plan_for

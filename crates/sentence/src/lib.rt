@@ -1,4 +1,6 @@
 // The reason as a sentence (document 02, §1): one English line for each reason that stands, and back.
+#![tactic(auto)]
+
 use order::{Acceptance, Refusal};
 use reason::Why;
 
@@ -10,28 +12,28 @@ mod standing; // whether a staircase stands
 mod minutes; // minutes owed and minutes on hand
 
 // The length of the line, 0 where no reason stands; or why it was not composed.
-#[derive(Drop)]
+#[derive(Clone, Copy)]
 pub enum Composed {
     Length(u32),
     Refused(Refusal),
 }
 
 // The reason of a line, or that there is none.
-#[derive(Drop)]
+#[derive(Clone, Copy)]
 pub struct Recovered {
     pub status: Acceptance,
     pub why: Why,
 }
 
 // Minutes owed and minutes on hand of a staircase.
-#[derive(Drop)]
+#[derive(Clone, Copy)]
 pub struct Sums {
     pub owed: u32,
     pub on_hand: u32,
 }
 
 // A staircase that stands, with its minutes owed and on hand, or one that does not.
-#[derive(Drop)]
+#[derive(Clone, Copy)]
 pub enum Weighed {
     Stands(u32, u32),
     Falls,
@@ -39,7 +41,7 @@ pub enum Weighed {
 
 // What is read of a line: the number under way (its last eight digits, whether it has any, whether a minus sign stands before it), how
 // many numbers are done, the first of them, and each second one.
-#[derive(Drop)]
+#[derive(Clone, Copy)]
 pub struct Numbers {
     pub value: u32,
     pub digits: bool,

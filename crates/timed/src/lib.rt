@@ -1,4 +1,6 @@
 // Sessions that arrive later, processors that rest (document 02, §5): the timed planner, its check, and the rows to be lent.
+#![tactic(auto)]
+
 use order::Refusal;
 
 pub mod asking; // rows_timed
@@ -10,7 +12,7 @@ pub mod planning; // plan_timed
 
 // A ready minute for each job, and the minutes at which each processor opens and closes. Behind the order's jobs and processors they are
 // not looked at.
-#[derive(Drop)]
+#[derive(Clone, Copy)]
 pub struct Times {
     pub ready: [u32; 48],
     pub opens: [u32; 16],
@@ -18,14 +20,14 @@ pub struct Times {
 }
 
 // How many distinct times there are at which something changes, and the minute of each, upwards.
-#[derive(Drop)]
+#[derive(Clone, Copy)]
 pub struct Changes {
     pub count: usize,
     pub marks: [u32; 128],
 }
 
 // The number of rows written; that there is no plan; or why it was not judged.
-#[derive(Drop)]
+#[derive(Clone, Copy)]
 pub enum TimedPlan {
     Rows(u32),
     Tight,
@@ -33,7 +35,7 @@ pub enum TimedPlan {
 }
 
 // How many rows are to be lent, or why this was not judged.
-#[derive(Drop)]
+#[derive(Clone, Copy)]
 pub enum TimedRows {
     Rows(u32),
     Refused(Refusal),

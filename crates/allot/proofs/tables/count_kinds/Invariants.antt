@@ -1,0 +1,15 @@
+use borrow.Author.Rules.{rules}
+use native.Mathlib.Omega.{arith}
+use Prim.Native.Nat.{◌-◌, ◌≤◌}
+use mathlib.Core.Path.{◌≡◌, refl}
+use lib.ListN.{length, get_or, take}
+use Rattle.allot.specs.Tables.{Kinds}
+use Rattle.allot.proofs.Shares.{kind_at, zeros-at, Counting, counting-none, counting_more}
+use Rattle.allot.proofs.tables.count_kinds.Given as goal
+
+abbrev pub invariant-loop-k : goal.invariant-loop-k
+invariant-loop-k l =
+    (l.k ≤ l.n) × (l.n ≤ 16) × (length l.list ≡ 16) × (length l.kinds ≡ 16) × Kinds 16 l.kinds (take l.n l.list) × Counting l.kinds l.list l.counts l.k
+
+abbrev pub decreases-loop-k : goal.decreases-loop-k
+decreases-loop-k l = l.n - l.k

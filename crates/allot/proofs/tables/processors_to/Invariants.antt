@@ -1,0 +1,14 @@
+use Prim.Native.Nat.{◌+◌, ◌≤◌, ◌-◌}
+use mathlib.Core.Path.{◌≡◌, refl}
+use native.Mathlib.Omega.{arith}
+use borrow.Author.Rules.{rules}
+use Rattle.sums.specs.Gate.{sum_mono}
+use Rattle.sums.specs.Sum.{sum, sum_more}
+use Rattle.allot.specs.Tables.{count_of}
+use Rattle.allot.proofs.tables.processors_to.Given as goal
+
+abbrev pub invariant-loop-i : goal.invariant-loop-i
+invariant-loop-i l = (l.i ≤ l.k) × (l.total ≡ sum l.i (count_of l.counts))
+
+abbrev pub decreases-loop-i : goal.decreases-loop-i
+decreases-loop-i l = l.k - l.i

@@ -1,0 +1,22 @@
+use borrow.Author.Rules.{rules}
+use native.Mathlib.Omega.{arith}
+use native.Mathlib.Numerals.{add-one}
+use Prim.Native.Nat.{ℕ, suc, ◌≤◌, ◌-◌, ◌*◌}
+use mathlib.Core.Path.{◌≡◌, refl, sym, ap}
+use lib.ListN.{length, get_or, take}
+use Rattle.sums.specs.Lists.{nth}
+use Rattle.engine.specs.View.{row-end}
+use Rattle.allot.proofs.Shares.{next_start, places-few}
+use Rattle.allot.proofs.Rooms.{open-kinds, open-counts, room-is}
+use Rattle.allot.proofs.Writing.{rows_none, rows_more}
+use Rattle.allot.specs.Tables.{Rows}
+use Rattle.allot.specs.Flows.{room_on}
+use Rattle.allot.proofs.tables.put_rooms.Given as goal
+
+abbrev pub invariant-loop-s : goal.invariant-loop-s
+invariant-loop-s l =
+    (l.s ≤ l.q) × (length l.room ≡ length l.initial.room) × (l.start ≡ nth l.marks l.s 0)
+    × Rows l.room l.s (suc l.classes) (room_on (take l.m l.processors) l.kinds l.marks l.opens l.closes)
+
+abbrev pub decreases-loop-s : goal.decreases-loop-s
+decreases-loop-s l = l.q - l.s

@@ -1,0 +1,27 @@
+use borrow.Author.Rules.{rules}
+use native.Mathlib.Omega.{arith}
+use Prim.Native.Nat.{ℕ, ◌≤◌, ◌<◌, ◌-◌}
+use mathlib.Core.Path.{refl, ◌≡◌}
+use borrow.Author.Count.{below_none}
+use lib.ListN.{length, get_or, length-set}
+use Rattle.sums.specs.Arrays.{fill-at}
+use Rattle.allot.proofs.Idle.{times-done}
+use Rattle.allot.proofs.tables.put_times.Goals as goal
+
+pub loop-j-init : goal.loop-j-init
+loop-j-init c = (search rules, search rules, below_none _)
+
+pub loop-j-preserved : goal.loop-j-preserved
+loop-j-preserved c =
+    let l = c.loop-j in
+    let times = c.args.times.now in (
+      search rules,
+      simp length-set l.invariant.1,
+      fill-at (λ (i x : ℕ). x ≡ get_or times i 0) 0 l.time l.j _ (omega arith) l.invariant.2 refl,
+    )
+
+pub returns : goal.returns
+returns c =
+    let l = c.loop-j in
+    let a = c.args in
+    times-done a.n a.times.now l.time a.idle (omega arith) (λ i b. l.invariant.2 i (omega arith))

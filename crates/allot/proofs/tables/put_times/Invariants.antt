@@ -1,0 +1,16 @@
+use borrow.Author.Rules.{rules}
+use native.Mathlib.Omega.{arith}
+use Prim.Native.Nat.{ℕ, ◌≤◌, ◌<◌, ◌-◌}
+use mathlib.Core.Path.{refl, ◌≡◌}
+use borrow.Author.Count.{below_none}
+use lib.ListN.{length, get_or, length-set}
+use Rattle.sums.specs.Arrays.{fill-at}
+use Rattle.allot.proofs.Idle.{times-done}
+use Rattle.allot.proofs.tables.put_times.Given as goal
+
+abbrev pub invariant-loop-j : goal.invariant-loop-j
+invariant-loop-j l =
+    (l.j ≤ l.n) × (length l.time ≡ length l.initial.time) × ((i : ℕ) → i < l.j → get_or l.time i 0 ≡ get_or l.times i 0)
+
+abbrev pub decreases-loop-j : goal.decreases-loop-j
+decreases-loop-j l = l.n - l.j

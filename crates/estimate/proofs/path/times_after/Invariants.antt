@@ -1,0 +1,18 @@
+use Prim.Native.Nat.{◌-◌, ◌≤◌}
+use mathlib.Core.Path.{◌≡◌, ap, ◌∙◌}
+use native.Mathlib.Omega.{arith}
+use Rattle.sums.specs.Sum.{sum, sum-none, sum_more}
+use Rattle.estimate.specs.Inside.{width_at, Spans, array_after}
+use Rattle.estimate.proofs.Filling.{none_after, one-after}
+use borrow.Author.Rules.{rules}
+use Rattle.estimate.proofs.path.times_after.Given as goal
+
+abbrev pub invariant-loop-j : goal.invariant-loop-j
+invariant-loop-j l =
+    (l.j ≤ l.n)
+    × (l.left ≡ l.k - sum l.j (width_at l.lows l.highs))
+    × (l.out ≡ array_after l.lows l.highs l.j l.k)
+    × Spans l.lows l.highs l.n
+
+abbrev pub decreases-loop-j : goal.decreases-loop-j
+decreases-loop-j l = l.n - l.j

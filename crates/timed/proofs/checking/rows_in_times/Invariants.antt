@@ -1,0 +1,19 @@
+-- The rows passed so far keep the times; one that does not decides.
+use Prim.Native.Nat.{ℕ, ◌≤◌, ◌<◌, ◌-◌}
+use mathlib.Core.Bool.{true}
+use mathlib.Core.Path.{◌≡◌}
+use native.Mathlib.Omega.{arith}
+use borrow.Author.Tests.{not-true, not-false}
+use borrow.Author.Count.{below_none, below_more}
+use borrow.Author.Rules.{rules}
+use Rattle.plan.specs.Check.{row_at}
+use Rattle.timed.specs.Check.{in_times}
+use Rattle.timed.specs.Times.{times_of}
+use Rattle.timed.proofs.Walks.{row_named, row-tested, each-passes, one-fails}
+use Rattle.timed.proofs.checking.rows_in_times.Given as goal
+
+abbrev pub invariant-loop-i : goal.invariant-loop-i
+invariant-loop-i l = (l.i ≤ l.n) × ((k : ℕ) → k < l.i → in_times (times_of l.times) (row_at l.rows k) ≡ true)
+
+abbrev pub decreases-loop-i : goal.decreases-loop-i
+decreases-loop-i l = l.n - l.i
