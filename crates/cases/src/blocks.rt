@@ -1,8 +1,8 @@
 // A register block through a list of accesses, each given the block that the last one gave back.
 ghost use Rattle.std.specs.Prelude.{◌≤◌};
 
+use super::print::STDOUT_FILENO;
 use super::{print, print_checked, stream};
-use libc::STDOUT_FILENO;
 use order::{Acceptance, Caller, Order};
 use registers::Block;
 

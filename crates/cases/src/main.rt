@@ -1,5 +1,7 @@
 // Runs cases through the entry points, each as a dock's or as a screen's, and prints what they answer. The cases and the expected
 // lines are made by tests/plain, which says the form of the stream (stream_form.py).
+#![tactic(auto)]
+
 mod blocks; // a register block, read and written
 mod books; // booked calls, one after the other
 mod estimating; // times known only between a low and a high
@@ -10,11 +12,11 @@ mod sentences; // the cases of a reason's line, composed and read back
 mod stream; // numbers, orders, reasons, books, times, highs and files of the stream
 mod timing; // the cases with ready minutes and windows
 
-use libc::STDOUT_FILENO;
 use order::{Acceptance, Caller};
 use order_file::OrderWritten;
 use plan::Checked;
 use planner::Least;
+use print::STDOUT_FILENO;
 
 // A file through the reader: the order, or the refusal.
 fn read_case(caller: Caller) {

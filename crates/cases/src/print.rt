@@ -1,9 +1,11 @@
 // Words, numbers and answers on standard output. No contract can speak of what is written.
-use libc::STDOUT_FILENO;
 use lines::answers::{put_planned, put_refused};
 use order::Refusal;
 use planner::PlanAnswer;
 use text::put::{put_number, put_signed};
+
+// The descriptor of standard output.
+pub const STDOUT_FILENO: i32 = 1;
 
 // These bytes.
 pub fn text(words: &[u8]) {

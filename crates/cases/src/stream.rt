@@ -3,10 +3,12 @@
 ghost use Rattle.std.specs.Prelude.{◌≤◌, length};
 
 use book::Book;
-use libc::STDIN_FILENO;
 use order::Order;
 use reason::{Reason, Tightness, Why};
 use timed::Times;
+
+// The descriptor of standard input.
+const STDIN_FILENO: i32 = 0;
 
 // The next number.
 pub fn number() -> u32 {

@@ -11,8 +11,7 @@ use super::results::result_of;
 use estimate::Leasts;
 use estimate::between::least_between;
 
-#[unsafe(no_mangle)]
-pub extern "C" fn hbr_between(file: &[u8], highs: &[u32], answer: &mut [i32]) -> u32
+pub fn hbr_between(file: &[u8], highs: &[u32], answer: &mut [i32]) -> u32
     ensures value { result ≡ result_of (judge (leasts_call file.now highs.now (length answer.old))) }
     ensures answer_after { answer.new
         ≡ left_by (judge (leasts_call file.now highs.now (length answer.old)))

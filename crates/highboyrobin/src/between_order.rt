@@ -31,8 +31,7 @@ fn hand_out(found: Order, order: &mut [u8], answer: &mut [i32]) -> u32
     }
 }
 
-#[unsafe(no_mangle)]
-pub extern "C" fn hbr_between_order(
+pub fn hbr_between_order(
     file: &[u8],
     highs: &[u32],
     number: i32,

@@ -7,8 +7,7 @@ ghost use Rattle.highboyrobin.specs.BlockCalls.{block_call};
 use super::results::SHORT_BLOCK;
 use registers::clearing::{clear_bytes, clear_rows};
 
-#[unsafe(no_mangle)]
-pub extern "C" fn hbr_block_clear(block: &mut [u8], rows: &mut [u32]) -> u32
+pub fn hbr_block_clear(block: &mut [u8], rows: &mut [u32]) -> u32
     ensures value { result ≡ result_of (judge (block_call (length block.old) (length rows.old))) }
     ensures block_after { block.new ≡ left_by (judge (block_call (length block.old) (length rows.old)))
         (replicate 256 0) block.old }

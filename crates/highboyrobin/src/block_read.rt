@@ -8,8 +8,7 @@ use super::answers::put_count;
 use super::results::{SHORT_ANSWER, SHORT_BLOCK};
 use registers::reading::read_in;
 
-#[unsafe(no_mangle)]
-pub extern "C" fn hbr_block_read(block: &[u8], rows: &[u32], address: u8, answer: &mut [i32]) -> u32
+pub fn hbr_block_read(block: &[u8], rows: &[u32], address: u8, answer: &mut [i32]) -> u32
     ensures value { result ≡ result_of (judge (block_read_call (length block.now) (length rows.now)
         (length answer.old))) }
     ensures answer_after { answer.new ≡ left_by (judge (block_read_call (length block.now) (length rows.now)

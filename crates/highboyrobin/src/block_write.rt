@@ -7,8 +7,7 @@ ghost use Rattle.highboyrobin.specs.BlockCalls.{block_call, BlockBy};
 use super::results::SHORT_BLOCK;
 use registers::writing::write_in;
 
-#[unsafe(no_mangle)]
-pub extern "C" fn hbr_block_write(block: &mut [u8], rows: &mut [u32], address: u8, value: u8) -> u32
+pub fn hbr_block_write(block: &mut [u8], rows: &mut [u32], address: u8, value: u8) -> u32
     ensures value { result ≡ result_of (judge (block_call (length block.old) (length rows.old))) }
     ensures block_by { BlockBy (judge (block_call (length block.old) (length rows.old))) address value
         block.old rows.old block.new rows.new }

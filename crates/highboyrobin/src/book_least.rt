@@ -15,13 +15,7 @@ use order_file::read::read_order;
 use planner::Least;
 use planner::lateness_booked::least_booked;
 
-#[unsafe(no_mangle)]
-pub extern "C" fn hbr_book_least(
-    file: &[u8],
-    rows: &mut [u32],
-    book: &mut [u32],
-    answer: &mut [i32],
-) -> u32
+pub fn hbr_book_least(file: &[u8], rows: &mut [u32], book: &mut [u32], answer: &mut [i32]) -> u32
     ensures value { result ≡ result_of (judge (book_least_call file.now (length rows.old) book.old
         (length answer.old))) }
     ensures plan_by { PlanBy (judge (book_least_call file.now (length rows.old) book.old

@@ -14,8 +14,7 @@ use order_file::read::read_order;
 use planner::Planned;
 use planner::bound_booked::plan_booked;
 
-#[unsafe(no_mangle)]
-pub extern "C" fn hbr_book_plan(
+pub fn hbr_book_plan(
     file: &[u8],
     bound: i32,
     rows: &mut [u32],

@@ -11,8 +11,7 @@ use order_file::read::read_order;
 use plan::Checked;
 use plan::check::check_plan;
 
-#[unsafe(no_mangle)]
-pub extern "C" fn hbr_check(file: &[u8], bound: i32, rows: &[u32], answer: &mut [i32]) -> u32
+pub fn hbr_check(file: &[u8], bound: i32, rows: &[u32], answer: &mut [i32]) -> u32
     ensures value { result ≡ result_of (judge (check_call file.now bound (length rows.now)
         (length answer.old))) }
     ensures answer_after { answer.new ≡ check_answer file.now bound rows.now answer.old }

@@ -29,8 +29,7 @@ fn put_classes(list: &mut [u32], found: Listing)
     }
 }
 
-#[unsafe(no_mangle)]
-pub extern "C" fn hbr_classes(file: &[u8], classes: &mut [u32], answer: &mut [i32]) -> u32
+pub fn hbr_classes(file: &[u8], classes: &mut [u32], answer: &mut [i32]) -> u32
     ensures value { result ≡ result_of (judge (classes_call file.now (length classes.old)
         (length answer.old))) }
     ensures classes_after { classes.new ≡ left_by (judge (classes_call file.now (length classes.old)

@@ -10,8 +10,7 @@ use super::results::{SHORT_ANSWER, result_of};
 use order::Acceptance;
 use order_file::read::read_order;
 
-#[unsafe(no_mangle)]
-pub extern "C" fn hbr_judge(file: &[u8], answer: &mut [i32]) -> u32
+pub fn hbr_judge(file: &[u8], answer: &mut [i32]) -> u32
     ensures value { result ≡ result_of (judge (judge_call file.now (length answer.old))) }
     ensures answer_after { answer.new ≡ left_by (judge (judge_call file.now (length answer.old)))
         (sizes_of (order_in file.now)) answer.old }

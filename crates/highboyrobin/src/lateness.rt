@@ -13,8 +13,7 @@ use order_file::read::read_order;
 use planner::Least;
 use planner::lateness::least_lateness;
 
-#[unsafe(no_mangle)]
-pub extern "C" fn hbr_least(file: &[u8], rows: &mut [u32], answer: &mut [i32]) -> u32
+pub fn hbr_least(file: &[u8], rows: &mut [u32], answer: &mut [i32]) -> u32
     ensures value { result ≡ result_of (judge (least_call file.now (length rows.old) (length answer.old))) }
     ensures plan_by { PlanBy (judge (least_call file.now (length rows.old) (length answer.old)))
         (order_in file.now) (least_lateness (order_in file.now))

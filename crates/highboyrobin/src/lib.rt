@@ -1,5 +1,7 @@
 // The part that makers link: thin functions over the proved entry points, for C and Rust. None has a `requires`, and a refused
 // call writes nothing; a refused command of the register block is a call that succeeds. link/highboyrobin.h declares them.
+#![tactic(auto)]
+
 use estimate::Estimate;
 use order::Order;
 use timed::Times;
@@ -41,14 +43,14 @@ pub mod timed_rows; // hbr_timed_rows
 pub mod writing; // hbr_write
 
 // Whether a file and the lists beside it were read, or the result of the call.
-#[derive(Drop)]
+#[derive(Clone, Copy)]
 pub enum ReadStatus {
     Refused(u32),
     Read,
 }
 
 // The order of a file and the times beside it; where they were not read, neither is looked at.
-#[derive(Drop)]
+#[derive(Clone, Copy)]
 pub struct TimedRead {
     pub status: ReadStatus,
     pub order: Order,
@@ -56,7 +58,7 @@ pub struct TimedRead {
 }
 
 // The estimate of a file and the highs beside it; where it was not read, it is not looked at.
-#[derive(Drop)]
+#[derive(Clone, Copy)]
 pub struct EstimateRead {
     pub status: ReadStatus,
     pub estimate: Estimate,

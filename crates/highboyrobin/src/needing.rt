@@ -13,13 +13,7 @@ use needs::filling::fill_needs;
 // The most lengths of a call: a larger place has no room in a result.
 pub const MOST_LENGTHS: usize = 16777215;
 
-#[unsafe(no_mangle)]
-pub extern "C" fn hbr_needs(
-    table: &[u32],
-    lengths: &[u32],
-    needs: &mut [u32],
-    answer: &mut [i32],
-) -> u32
+pub fn hbr_needs(table: &[u32], lengths: &[u32], needs: &mut [u32], answer: &mut [i32]) -> u32
     ensures value { result ≡ result_of (judge (needs_call table.now lengths.now (length needs.old)
         (length answer.old))) }
     ensures needs_after { needs.new ≡ left_by (judge (needs_call table.now lengths.now

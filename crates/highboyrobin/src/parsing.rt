@@ -10,8 +10,7 @@ use order::Acceptance;
 use order_file::read::read_order;
 use sentence::recover::read_back;
 
-#[unsafe(no_mangle)]
-pub extern "C" fn hbr_parse(file: &[u8], bound: i32, line: &[u8], answer: &mut [i32]) -> u32
+pub fn hbr_parse(file: &[u8], bound: i32, line: &[u8], answer: &mut [i32]) -> u32
     ensures value { result ≡ result_of (judge (parse_call file.now bound (length answer.old))) }
     ensures answer_after { answer.new ≡ parse_answer file.now bound line.now answer.old }
 {

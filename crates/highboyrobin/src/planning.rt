@@ -12,8 +12,7 @@ use order_file::read::read_order;
 use planner::Planned;
 use planner::bound::plan_at;
 
-#[unsafe(no_mangle)]
-pub extern "C" fn hbr_plan(file: &[u8], bound: i32, rows: &mut [u32], answer: &mut [i32]) -> u32
+pub fn hbr_plan(file: &[u8], bound: i32, rows: &mut [u32], answer: &mut [i32]) -> u32
     ensures value { result ≡ result_of (judge (plan_call file.now bound (length rows.old)
         (length answer.old))) }
     ensures plan_by { PlanBy (judge (plan_call file.now bound (length rows.old) (length answer.old)))

@@ -11,8 +11,7 @@ use order::{Acceptance, Refusal};
 use order_file::read::read_order;
 use reason::tell::reason_at;
 
-#[unsafe(no_mangle)]
-pub extern "C" fn hbr_reason(file: &[u8], bound: i32, answer: &mut [i32]) -> u32
+pub fn hbr_reason(file: &[u8], bound: i32, answer: &mut [i32]) -> u32
     ensures value { result ≡ result_of (judge (reason_call file.now bound (length answer.old))) }
     ensures answer_after { answer.new ≡ reason_answer file.now bound answer.old }
 {

@@ -11,8 +11,7 @@ use super::results::{SHORT_ANSWER, result_of};
 use callers::files::accept_file_for;
 use order::{Acceptance, Caller};
 
-#[unsafe(no_mangle)]
-pub extern "C" fn hbr_screen_judge(file: &[u8], answer: &mut [i32]) -> u32
+pub fn hbr_screen_judge(file: &[u8], answer: &mut [i32]) -> u32
     ensures value { result ≡ result_of (judge (screened file.now
         (judge_call file.now (length answer.old)))) }
     ensures answer_after { answer.new ≡ left_by (judge (screened file.now

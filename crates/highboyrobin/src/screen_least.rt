@@ -12,8 +12,7 @@ use super::results::{SHORT_ANSWER, result_of};
 use callers::files::accept_file_for;
 use order::{Acceptance, Caller};
 
-#[unsafe(no_mangle)]
-pub extern "C" fn hbr_screen_least(file: &[u8], rows: &mut [u32], answer: &mut [i32]) -> u32
+pub fn hbr_screen_least(file: &[u8], rows: &mut [u32], answer: &mut [i32]) -> u32
     ensures value { result ≡ result_of (judge (screened file.now
         (least_call file.now (length rows.old) (length answer.old)))) }
     ensures plan_by { PlanBy (judge (screened file.now

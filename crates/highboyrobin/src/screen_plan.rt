@@ -11,13 +11,7 @@ use super::results::{SHORT_ANSWER, result_of};
 use callers::files::accept_file_for;
 use order::{Acceptance, Caller};
 
-#[unsafe(no_mangle)]
-pub extern "C" fn hbr_screen_plan(
-    file: &[u8],
-    bound: i32,
-    rows: &mut [u32],
-    answer: &mut [i32],
-) -> u32
+pub fn hbr_screen_plan(file: &[u8], bound: i32, rows: &mut [u32], answer: &mut [i32]) -> u32
     ensures value { result ≡ result_of (judge (screened file.now
         (plan_call file.now bound (length rows.old) (length answer.old)))) }
     ensures plan_by { PlanBy (judge (screened file.now

@@ -12,8 +12,7 @@ use super::results::{SHORT_ANSWER, result_of};
 use callers::files::accept_file_for;
 use order::{Acceptance, Caller};
 
-#[unsafe(no_mangle)]
-pub extern "C" fn hbr_screen_reason(file: &[u8], bound: i32, answer: &mut [i32]) -> u32
+pub fn hbr_screen_reason(file: &[u8], bound: i32, answer: &mut [i32]) -> u32
     ensures value { result ≡ result_of (judge (screened file.now
         (reason_call file.now bound (length answer.old)))) }
     ensures answer_after { answer.new ≡ left_by (judge (screened file.now

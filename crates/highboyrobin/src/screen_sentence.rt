@@ -10,8 +10,7 @@ use super::sentencing::hbr_sentence;
 use callers::files::accept_file_for;
 use order::{Acceptance, Caller};
 
-#[unsafe(no_mangle)]
-pub extern "C" fn hbr_screen_sentence(
+pub fn hbr_screen_sentence(
     file: &[u8],
     bound: i32,
     reason: &[i32],

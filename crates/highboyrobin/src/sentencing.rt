@@ -12,8 +12,7 @@ use order_file::read::read_order;
 use sentence::Composed;
 use sentence::compose::compose;
 
-#[unsafe(no_mangle)]
-pub extern "C" fn hbr_sentence(
+pub fn hbr_sentence(
     file: &[u8],
     bound: i32,
     reason: &[i32],

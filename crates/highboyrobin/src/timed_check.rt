@@ -11,8 +11,7 @@ use super::timing::read_timed;
 use plan::Checked;
 use timed::checking::check_timed;
 
-#[unsafe(no_mangle)]
-pub extern "C" fn hbr_timed_check(
+pub fn hbr_timed_check(
     file: &[u8],
     bound: i32,
     ready: &[u32],

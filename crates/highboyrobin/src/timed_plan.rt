@@ -12,8 +12,7 @@ use super::timing::read_timed;
 use timed::TimedPlan;
 use timed::planning::plan_timed;
 
-#[unsafe(no_mangle)]
-pub extern "C" fn hbr_timed_plan(
+pub fn hbr_timed_plan(
     file: &[u8],
     bound: i32,
     ready: &[u32],

@@ -11,8 +11,7 @@ use super::timing::read_timed;
 use timed::TimedRows;
 use timed::asking::rows_timed;
 
-#[unsafe(no_mangle)]
-pub extern "C" fn hbr_timed_rows(
+pub fn hbr_timed_rows(
     file: &[u8],
     bound: i32,
     ready: &[u32],

@@ -12,13 +12,7 @@ use order::{Caller, Refusal};
 use order_file::OrderWritten;
 use order_file::write::write_order;
 
-#[unsafe(no_mangle)]
-pub extern "C" fn hbr_write(
-    memories: &[u32],
-    jobs: &[u32],
-    file: &mut [u8],
-    answer: &mut [i32],
-) -> u32
+pub fn hbr_write(memories: &[u32], jobs: &[u32], file: &mut [u8], answer: &mut [i32]) -> u32
     ensures value { result ≡ result_of (judge (write_call memories.now jobs.now (length file.old)
         (length answer.old))) }
     ensures file_after { file.new ≡ written_by (judge (write_call memories.now jobs.now

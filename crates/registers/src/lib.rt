@@ -1,4 +1,6 @@
 // The register block (document 02, §11): 256 bytes over which the planner is reached on a bus, and the rows held beside them.
+#![tactic(auto)]
+
 mod bits; // the bits of bytes 1 and 3
 pub mod clearing; // cleared
 mod commands; // what a command does
@@ -10,14 +12,14 @@ pub mod reading; // read
 pub mod writing; // write
 
 // The block: its bytes, and the rows held, four numbers to a row and zeros behind them: a screen's order has at most 180 rows.
-#[derive(Drop)]
+#[derive(Clone, Copy)]
 pub struct Block {
     pub bytes: [u8; 256],
     pub rows: [u32; 720],
 }
 
 // What the byte at an address is.
-#[derive(Drop)]
+#[derive(Clone, Copy)]
 pub enum Place {
     Command,
     Flag,
@@ -30,7 +32,7 @@ pub enum Place {
 }
 
 // The flags of byte 1.
-#[derive(Drop)]
+#[derive(Clone, Copy)]
 pub struct Flags {
     pub done: bool,
     pub refused: bool,
@@ -38,7 +40,7 @@ pub struct Flags {
 }
 
 // How a command ended: at this lateness, or refused with this number.
-#[derive(Drop)]
+#[derive(Clone, Copy)]
 pub enum Outcome {
     Done(i32),
     Refused(u8),

@@ -1,0 +1,9 @@
+use Prim.Native.Nat.{◌≤◌, ◌-◌}
+use borrow.Author.Rules.{rules}
+use Rattle.cases.proofs.print_file.Given as goal
+
+abbrev pub invariant-loop-i : goal.invariant-loop-i
+invariant-loop-i l = l.i ≤ 900
+
+abbrev pub decreases-loop-i : goal.decreases-loop-i
+decreases-loop-i l = 900 - l.i

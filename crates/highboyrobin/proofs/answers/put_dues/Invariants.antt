@@ -1,0 +1,16 @@
+use lib.IntN.{pos}
+use Rattle.order.specs.Machine.{machine-back}
+use Rattle.highboyrobin.proofs.Stored.{none-stored, next-stored, all-stored, stored-length}
+use Prim.Native.Nat.{◌+◌, ◌-◌, ◌≤◌}
+use mathlib.Core.Path.{◌≡◌}
+use mathlib.Core.List.{◌++◌}
+use lib.ListN.{length, take, drop}
+use borrow.Author.Rules.{rules}
+use native.Mathlib.Omega.{arith}
+use Rattle.highboyrobin.proofs.answers.put_dues.Given as goal
+
+abbrev pub invariant-loop-i : goal.invariant-loop-i
+invariant-loop-i l = (l.i ≤ 16) × (19 ≤ length l.initial.answer) × (l.answer ≡ take 3 l.initial.answer ++ (take l.i l.dues ++ drop (3 + l.i) l.initial.answer))
+
+abbrev pub decreases-loop-i : goal.decreases-loop-i
+decreases-loop-i l = 16 - l.i

@@ -1,0 +1,16 @@
+-- `book_from`: the invariant is that the places before i hold the lent numbers, the others 0.
+use Prim.Native.Nat.{ℕ, ◌-◌, ◌≤◌}
+use mathlib.Core.Path.{◌≡◌, refl, sym, ap, ◌∙◌}
+use lib.ListN.{get_or}
+use Rattle.order_file.specs.Inside.{padded_to}
+use Rattle.order_file.specs.PaddedLaws.{padded-none, padded-more}
+use Rattle.highboyrobin.specs.Places.{take_places}
+use borrow.Author.Rules.{rules}
+use native.Mathlib.Omega.{arith}
+use Rattle.highboyrobin.proofs.books.book_from.Given as goal
+
+abbrev pub invariant-loop-i : goal.invariant-loop-i
+invariant-loop-i l = (l.i ≤ 16) × (l.counts ≡ padded_to 16 l.i 0 (λ (k : ℕ). get_or l.lent k 0))
+
+abbrev pub decreases-loop-i : goal.decreases-loop-i
+decreases-loop-i l = 16 - l.i

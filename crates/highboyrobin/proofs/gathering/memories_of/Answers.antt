@@ -1,0 +1,17 @@
+use Prim.Native.Nat.{◌-◌, ◌≤◌}
+use mathlib.Core.Path.{◌≡◌, refl}
+use lib.ListN.{get_or}
+use Rattle.order_file.specs.Inside.{padded_to}
+use Rattle.order_file.specs.PaddedLaws.{padded-none, padded-more}
+use borrow.Author.Rules.{rules}
+use native.Mathlib.Omega.{arith}
+use Rattle.highboyrobin.proofs.gathering.memories_of.Goals as goal
+
+pub loop-i-init : goal.loop-i-init
+loop-i-init c = (search rules, padded-none 16 0 _)
+
+pub loop-i-preserved : goal.loop-i-preserved
+loop-i-preserved c = (search rules, padded-more 16 _ 0 _ _ _ (omega arith) c.loop-i.invariant.1 refl)
+
+pub returns : goal.returns
+returns c = let e : c.args.n ≡ c.loop-i.i = omega arith in rw e c.loop-i.invariant.1

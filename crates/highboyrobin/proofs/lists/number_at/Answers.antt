@@ -1,0 +1,6 @@
+use Rattle.highboyrobin.proofs.TimesTold.{none-beyond}
+use borrow.Author.Rules.{rules}
+use Rattle.highboyrobin.proofs.lists.number_at.Goals as goal
+
+pub returns : goal.returns
+returns c = none-beyond c.args.list.now _ c.if-at-list.false

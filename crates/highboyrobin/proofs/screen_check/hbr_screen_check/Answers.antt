@@ -1,0 +1,44 @@
+use Rattle.highboyrobin.proofs.Answering.{ended-refused, ended-told}
+use Rattle.highboyrobin.proofs.ChecksTold.{check-begins}
+use Rattle.highboyrobin.proofs.Screening.{trailer-carries, for-short, for-refused, same-replies-at, LeftAt}
+use Rattle.highboyrobin.specs.Calls.{yes_or_no}
+use Rattle.highboyrobin.specs.ScreenCallLaws.{check-itself}
+use Rattle.order.specs.declared.Caller.TheVariants.{Screen}
+use Rattle.order_file.specs.File.{order_in}
+use Rattle.plan.specs.Check.{is_right}
+use lib.ListN.{length}
+use mir.Syntax.{w32}
+use mir.ValLaws.{to_z-of_z}
+use borrow.Author.Rules.{rules}
+use Rattle.highboyrobin.proofs.screen_check.hbr_screen_check.Goals as goal
+
+pub returns-then-answer-lt1 : goal.returns-then-answer-lt1
+returns-then-answer-lt1 c =
+    let t = ended-refused _ _ _ 255 0 (for-short Screen c.args.file.now (length c.args.answer.now) 1 _ c.if-answer-lt1.true) in
+    record { value = t.0; answer_after = t.1 }
+
+pub result_of-requires : goal.result_of-requires
+result_of-requires c =
+    let k = c.accept_file_for in
+    trailer-carries Screen c.args.file.now k.result k.ensures _
+    c.in-Refused.is
+
+pub returns-in-Refused : goal.returns-in-Refused
+returns-in-Refused c =
+    let k = c.accept_file_for in
+    let t = ended-told _ _ _ c.in-Refused.refusal
+    (for-refused Screen c.args.file.now (length c.args.answer.now) 1 c.if-answer-lt1.false
+    k.result k.ensures _
+    c.in-Refused.is _ _ (check-begins (order_in c.args.file.now) c.args.bound (length c.args.rows.now)))
+    _ c.result_of.ensures in
+    record { value = t.0; answer_after = t.1 }
+
+pub returns : goal.returns
+returns c =
+    let k = c.accept_file_for in
+    let d = c.hbr_check in
+    let t = same-replies-at Screen c.args.file.now k.result k.ensures c.in_default.is
+    (LeftAt (λ z. yes_or_no (is_right (order_in c.args.file.now) z c.args.rows.now)) c.args.answer.now d.result _)
+    (λ z. check-itself c.args.file.now z (length c.args.rows.now) (length c.args.answer.now)) c.args.bound _
+    (to_z-of_z w32 c.args.bound c.ranges.bound) (c.hbr_check.ensures.value, c.hbr_check.ensures.answer_after) in
+    record { value = t.0; answer_after = t.1 }

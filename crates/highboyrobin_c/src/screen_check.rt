@@ -1,0 +1,19 @@
+// `hbr_screen_check` for C.
+ghost use Rattle.std.specs.Prelude.{◌≡◌, length};
+ghost use Rattle.order.specs.Refusals.{judge, left_by};
+ghost use Rattle.order_file.specs.File.{order_in};
+ghost use Rattle.plan.specs.Check.{is_right};
+ghost use Rattle.highboyrobin.specs.Results.{result_of};
+ghost use Rattle.highboyrobin.specs.Calls.{check_call, yes_or_no};
+ghost use Rattle.highboyrobin.specs.ScreenCalls.{screened};
+
+#[unsafe(no_mangle)]
+pub extern "C" fn hbr_screen_check(file: &[u8], bound: i32, rows: &[u32], answer: &mut [i32]) -> u32
+    ensures value { result ≡ result_of (judge (screened file.now
+        (check_call file.now bound (length rows.now) (length answer.old)))) }
+    ensures answer_after { answer.new ≡ left_by (judge (screened file.now
+        (check_call file.now bound (length rows.now) (length answer.old))))
+        (yes_or_no (is_right (order_in file.now) bound rows.now)) answer.old }
+{
+    highboyrobin::screen_check::hbr_screen_check(file, bound, rows, answer)
+}

@@ -1,0 +1,23 @@
+// `hbr_screen_plan` for C.
+ghost use Rattle.std.specs.Prelude.{◌≡◌, [], length};
+ghost use Rattle.order.specs.Refusals.{judge};
+ghost use Rattle.order_file.specs.File.{order_in};
+ghost use Rattle.highboyrobin.specs.Results.{result_of};
+ghost use Rattle.highboyrobin.specs.Calls.{plan_call, PlanBy};
+ghost use Rattle.highboyrobin.specs.ScreenCalls.{screened};
+
+#[unsafe(no_mangle)]
+pub extern "C" fn hbr_screen_plan(
+    file: &[u8],
+    bound: i32,
+    rows: &mut [u32],
+    answer: &mut [i32],
+) -> u32
+    ensures value { result ≡ result_of (judge (screened file.now
+        (plan_call file.now bound (length rows.old) (length answer.old)))) }
+    ensures plan_by { PlanBy (judge (screened file.now
+        (plan_call file.now bound (length rows.old) (length answer.old))))
+        (order_in file.now) bound [] rows.old rows.new answer.old answer.new }
+{
+    highboyrobin::screen_plan::hbr_screen_plan(file, bound, rows, answer)
+}
