@@ -3,3 +3,4 @@ pub mod Writing
 pub mod Idle
 pub mod Rooms
 pub mod Carrying
+pub mod Feasible

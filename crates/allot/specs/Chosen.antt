@@ -7,7 +7,7 @@ use Rattle.order.specs.Order.{Order, job_count, Numbers}
 use Rattle.order.specs.Class.{classes}
 use Rattle.wrap.specs.Stretches.{stretch_count}
 use Rattle.wrap.specs.FrameFlow.{flow_in}
-use Rattle.wrap.specs.FrameBase.{base_frame}
+use Rattle.wrap.proofs.FrameBase.{base_frame}
 
 abbrev pub Chosen : Order → ℤ → (ℕ → ℕ → ℕ) → Type 0
 Chosen o bound a = RunOf (flow_in o (base_frame o bound)) (suc (length (classes o))) (λ j s. a (suc j) s) true

@@ -10,12 +10,12 @@ use Rattle.order.specs.Order.{Order, processor_count, job_count, Numbers, no_job
 use Rattle.order.specs.Deadline.{cut, deadline_of}
 use Rattle.order.specs.Sorted.{due_times}
 use Rattle.order.specs.Lead.{due_at, reach_at, Workable}
-use Rattle.order.specs.LeadLaws.{deadline-lead, deadline-of-lead}
+use Rattle.order.proofs.LeadLaws.{deadline-lead, deadline-of-lead}
 use Rattle.wrap.specs.Stretches.{stretch_count, mark}
 use Rattle.wrap.specs.Marks.{mark-zero, mark-is, mark-mono}
 use Rattle.wrap.specs.Frame.{Frame, open_in}
 use Rattle.wrap.specs.FrameLaws.{lies-is}
-use Rattle.wrap.specs.FrameBase.{base_frame}
+use Rattle.wrap.proofs.FrameBase.{base_frame}
 use Rattle.layout.specs.Planned.{frame_lent}
 use Rattle.table.specs.Held.{Reading, ReadingOf}
 use Rattle.table.specs.Tabled.{GridOf, TabledBy}

@@ -17,7 +17,7 @@ use Rattle.engine.specs.Run.{SameFlow, RunOf}
 use Rattle.engine.specs.RunLaws.{flow-turned, run-carried}
 use Rattle.order.specs.Order.{Order, processor_count, job_count, Numbers, job_of, memory_of}
 use Rattle.order.specs.Class.{classes}
-use Rattle.order.specs.ClassLaws.{class-at-most, class-of-processor}
+use Rattle.order.proofs.ClassLaws.{class-at-most, class-of-processor}
 use Rattle.order.specs.Lead.{Workable}
 use Rattle.order.specs.OrderingLaws.{processors-ordered}
 use Rattle.order.specs.Sorted.{processor_order}

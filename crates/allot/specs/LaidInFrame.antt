@@ -7,8 +7,8 @@ use Rattle.order.specs.Order.{Order, processor_count, job_count}
 use Rattle.plan.specs.Plan.{Row}
 use Rattle.wrap.specs.Flows.{amount_in}
 use Rattle.wrap.specs.Frame.{Frame, lies, FeasibleIn, layout_in, Rising}
-use Rattle.wrap.specs.FrameRight.{layout-right-in, layout-count-in}
-use Rattle.wrap.specs.Joined.{layout-rises, layout-forward}
+use Rattle.wrap.proofs.FrameRight.{layout-right-in, layout-count-in}
+use Rattle.wrap.proofs.Joined.{layout-rises, layout-forward}
 use Rattle.layout.specs.Laid.{Numbered}
 use Rattle.layout.specs.Planned.{frame_lent, lent_frame, planned, Joinable}
 use Rattle.layout.specs.PlannedLaws.{first-processors, first-jobs, processors-numbered, jobs-numbered, laid-out-is}

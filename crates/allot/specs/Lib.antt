@@ -6,6 +6,5 @@ pub mod Holds
 pub mod InFrame
 pub mod LaidInFrame
 pub mod GridMarks
-pub mod Feasible
 pub mod Chosen
 pub mod SameRows

@@ -12,7 +12,7 @@ use Rattle.sums.specs.Places.{length-tabulate, get_d_tabulate, tabulate-more, se
 use Rattle.sums.specs.Totals.{total-append}
 use Rattle.order.specs.Order.{Job, no_job}
 use Rattle.order.specs.Refusals.{most_makers, Accepted}
-use Rattle.order.specs.StructLaws.{few-jobs, time-in-range-at}
+use Rattle.order.proofs.StructLaws.{few-jobs, time-in-range-at}
 use Rattle.order.specs.Table.{order_of, job_at}
 use Rattle.order.specs.declared.Order.{Order as OrderTable}
 use Rattle.book.specs.Book.{minutes_by}

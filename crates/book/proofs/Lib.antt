@@ -1,2 +1,3 @@
 mod Counting
 mod Adding
+pub mod CallLaws

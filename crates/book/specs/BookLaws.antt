@@ -10,7 +10,7 @@ use Rattle.sums.specs.Places.{length-tabulate, get_d_tabulate}
 use Rattle.sums.specs.Totals.{only-le, total-cong, total-most, by_number}
 use Rattle.order.specs.Order.{Job, Order}
 use Rattle.order.specs.Refusals.{most_makers, Accepted}
-use Rattle.order.specs.RefusalLaws.{accepted-iff}
+use Rattle.order.proofs.RefusalLaws.{accepted-iff}
 use Rattle.book.specs.Book.{minutes_for, minutes_of, added, most_booked, some_over}
 
 -- of a list given by its places: some one is over, or none is

@@ -3,4 +3,3 @@ pub mod BookLaws
 pub mod Told
 pub mod ToldLaws
 pub mod Calls
-pub mod CallLaws

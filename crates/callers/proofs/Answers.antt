@@ -8,7 +8,7 @@ use lib.ListN.{length}
 use Rattle.order.specs.Order.{Order}
 use Rattle.order.specs.Refusals.{Verdict, answer_by, left_by}
 use Rattle.order.specs.Table.{refusal_told, acceptance_told}
-use Rattle.order.specs.TableLaws.{same-refusal}
+use Rattle.order.proofs.TableLaws.{same-refusal}
 use Rattle.order.specs.declared.Refusal.{Refusal}
 use Rattle.order_file.specs.File.{file_length, written_by, ReadBackBy}
 use Rattle.order_file.specs.Told.{written_told}

@@ -6,12 +6,12 @@ use lib.IntN.{ℤ}
 use Rattle.sums.specs.Places.{length-tabulate}
 use Rattle.order.specs.Order.{no_order}
 use Rattle.order.specs.Refusals.{limits, Verdict, judge, answer_by, count_rows}
-use Rattle.order.specs.RefusalLaws.{judge-refused-append}
+use Rattle.order.proofs.RefusalLaws.{judge-refused-append}
 use Rattle.order.specs.Callers.{limits_of, rows_by}
-use Rattle.order.specs.CallerLaws.{counts-pass}
-use Rattle.order.specs.StructLaws.{processor-count}
+use Rattle.order.proofs.CallerLaws.{counts-pass}
+use Rattle.order.proofs.StructLaws.{processor-count}
 use Rattle.order.specs.Table.{table_of, refusal_told, acceptance_told}
-use Rattle.order.specs.TableLaws.{refused-told, same-refusal}
+use Rattle.order.proofs.TableLaws.{refused-told, same-refusal}
 use Rattle.order.specs.declared.Acceptance.{Acceptance}
 use Rattle.order.specs.declared.Acceptance.TheVariants.{Accepted, Refused}
 use Rattle.order.specs.declared.Caller.{Caller}

@@ -7,10 +7,10 @@ use lib.IntN.{ℤ}
 use Rattle.order.specs.Order.{processor_count, job_count}
 use Rattle.order.specs.Refusals.{limits, TableRow, Verdict, refused, judge, count_rows, order_rows}
 use Rattle.order.specs.Callers.{limits_of, rows_by, rows_for}
-use Rattle.order.specs.CallerLaws.{counts-pass, counts-refuse}
-use Rattle.order.specs.StructLaws.{job-count, processor-count}
+use Rattle.order.proofs.CallerLaws.{counts-pass, counts-refuse}
+use Rattle.order.proofs.StructLaws.{job-count, processor-count}
 use Rattle.order.specs.Table.{order_of, refusal_told, acceptance_told}
-use Rattle.order.specs.TableLaws.{refused-told}
+use Rattle.order.proofs.TableLaws.{refused-told}
 use Rattle.order.specs.declared.Acceptance.{Acceptance}
 use Rattle.order.specs.declared.Acceptance.TheVariants.{Accepted, Refused}
 use Rattle.order.specs.declared.Caller.{Caller}

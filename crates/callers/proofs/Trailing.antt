@@ -7,7 +7,7 @@ use Rattle.order.specs.Order.{no_order}
 use Rattle.order.specs.Refusals.{Limits, Verdict, judge, answer_by, count_rows, job_rows}
 use Rattle.order.specs.Callers.{limits_of, rows_by, rows_for}
 use Rattle.order.specs.Table.{order_of, table_of, refusal_told, acceptance_told}
-use Rattle.order.specs.TableLaws.{same-refusal}
+use Rattle.order.proofs.TableLaws.{same-refusal}
 use Rattle.order.specs.declared.Acceptance.{Acceptance}
 use Rattle.order.specs.declared.Acceptance.TheVariants.{Accepted, Refused}
 use Rattle.order.specs.declared.Caller.{Caller}

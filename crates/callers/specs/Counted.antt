@@ -16,7 +16,7 @@ use Rattle.order.specs.Refusals.{
   rows_to_check_row,
 }
 use Rattle.order.specs.Callers.{rows_by}
-use Rattle.order.specs.CallerLaws.{Itself}
+use Rattle.order.proofs.CallerLaws.{Itself}
 use Rattle.order_file.specs.File.{file_length, write_rows}
 use Rattle.book.specs.Book.{book_row}
 use Rattle.plan.specs.Check.{check_rows}

@@ -6,7 +6,7 @@ use Rattle.sums.specs.Lists.{All}
 use Rattle.order.specs.Order.{Order, processor_count, job_count}
 use Rattle.order.specs.Refusals.{limits, screen, TableRow, Verdict, judge, order_rows}
 use Rattle.order.specs.Callers.{limits_of, Within, rows_by, rows_for}
-use Rattle.order.specs.CallerLaws.{same-within, screen-same}
+use Rattle.order.proofs.CallerLaws.{same-within, screen-same}
 use Rattle.order.specs.declared.Caller.{Caller}
 use Rattle.order.specs.declared.Caller.TheVariants.{Screen}
 use Rattle.order_file.specs.File.{order_in, read_rows, write_rows}
@@ -14,7 +14,7 @@ use Rattle.plan.specs.Check.{check_rows}
 use Rattle.reason.specs.declared.Why.{Why}
 use Rattle.sentence.specs.Told.{compose_rows, read_rows as line_rows}
 use Rattle.wrap.specs.FrameAt.{Times}
-use Rattle.timed.specs.Request.{timed-buffer-one}
+use Rattle.timed.proofs.Request.{timed-buffer-one}
 use Rattle.timed.specs.Rows.{asked_rows, timed_rows, timed_check_rows}
 use Rattle.timed.specs.Written.{TimedBufferBy}
 use Rattle.planner.specs.Rows.{least_rows, plan_rows, booked_least_rows, booked_plan_rows}

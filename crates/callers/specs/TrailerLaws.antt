@@ -4,11 +4,11 @@ use Rattle.std.proofs.Math.Path.{sym, ap}
 use Rattle.std.proofs.Common.{◌∙◌}
 use Rattle.order.specs.Order.{processor_count, job_count}
 use Rattle.order.specs.Refusals.{limits, TableRow, judge, count_rows, file_row}
-use Rattle.order.specs.RefusalLaws.{judge-accepted, judge-refused-append}
+use Rattle.order.proofs.RefusalLaws.{judge-accepted, judge-refused-append}
 use Rattle.order.specs.Callers.{limits_of, rows_by, rows_for}
-use Rattle.order.specs.CallerLaws.{Itself, counts-pass}
+use Rattle.order.proofs.CallerLaws.{Itself, counts-pass}
 use Rattle.order.specs.Table.{refusal_told, acceptance_told}
-use Rattle.order.specs.TableLaws.{refused-told}
+use Rattle.order.proofs.TableLaws.{refused-told}
 use Rattle.order.specs.declared.Acceptance.{Acceptance}
 use Rattle.order.specs.declared.Acceptance.TheVariants.{Accepted, Refused}
 use Rattle.order.specs.declared.Caller.{Caller}

@@ -1,116 +1,137 @@
 // Standard input and standard output for the programs, with failures told apart from the end of the input, and the status that a
 // program tells its starter. No contract can speak of what is read or written.
+#![tactic(auto)]
+
 ghost use Rattle.std.specs.Prelude.{length};
+ghost use Rattle.std.specs.Io.{ReadsAtMost, WritesAtMost};
 ghost use Rattle.console.specs.Within.{Within};
 
-// How often in a row a call is tried again that was interrupted or would have to wait.
+use std::fs::OpenOptions;
+use std::io::{ErrorKind, Read, Write};
+use std::rt::{Env, Files};
+use std::{fs, io, thread};
+
+// How often in a row a call is tried that was interrupted or would have to wait.
 pub const TRIES: u32 = 1000000;
 
-// The descriptor on which the starter listens for the status.
-const STATUS_FILENO: i32 = 3;
+// Descriptor 3, on which the starter listens for the status, by the system's name for it.
+const STATUS_PATH: &str = "/proc/self/fd/3";
 
-// How many bytes were read, or that a read failed.
-#[derive(Drop)]
+// How many bytes were read, or why a read failed.
+#[derive(Clone, Copy)]
 pub enum Input {
     Bytes(usize),
-    Failed,
+    Failed(io::Error),
 }
 
-// Whether the last call failed in a way that is worth another try; the others may run first.
-fn again() -> bool {
-    let error = os::errno();
-    if error == libc::EINTR {
-        return true;
+// Whether a call failed in a way that is worth another try; the others may run first.
+fn again(done: &io::Result<usize>) -> bool {
+    let Err(error) = done else {
+        return false;
+    };
+    match error.kind() {
+        ErrorKind::Interrupted => true,
+        ErrorKind::WouldBlock => {
+            thread::yield_now();
+            true
+        }
+        _ => false,
     }
-    if error == libc::EAGAIN {
-        libc::sched_yield();
-        return true;
-    }
-    false
 }
 
-fn read_some(out: &mut [u8]) -> isize {
-    for k in 0..TRIES {
-        let got = libc::read(libc::STDIN_FILENO, out);
-        if 0 <= got {
+fn read_some(from: &mut impl Read, out: &mut [u8]) -> io::Result<usize>
+    ensures { ReadsAtMost result out.new }
+{
+    let mut got = from.read(out);
+    for _ in 1..TRIES {
+        if !again(&got) {
             return got;
         }
-        if !again() {
-            return got;
-        }
+        got = from.read(out);
     }
-    -1
+    got
 }
 
 // Standard input to its end, or as much of it as there is room for.
-pub fn read_input(out: &mut [u8]) -> Input
+pub fn read_input(rt: &impl io::Input, out: &mut [u8]) -> Input
     ensures { Within (length out.new) result }
 {
+    let mut from = rt.reader();
     let mut done: usize = 0;
     while done < out.len() {
-        let got = read_some(&mut out[done..]);
-        if got < 0 {
-            return Input::Failed;
+        match read_some(&mut from, &mut out[done..]) {
+            Ok(0) => return Input::Bytes(done),
+            Ok(n) => done += n,
+            Err(error) => return Input::Failed(error),
         }
-        let n = io::count(got, &out[done..]);
-        if n == 0 {
-            return Input::Bytes(done);
-        }
-        done += n;
     }
     Input::Bytes(done)
 }
 
-fn write_some(bytes: &[u8]) -> isize {
-    for k in 0..TRIES {
-        let put = libc::write(libc::STDOUT_FILENO, bytes);
-        if 0 <= put {
+fn write_some(rt: &impl Print, bytes: &[u8]) -> io::Result<usize>
+    ensures { WritesAtMost result bytes.now }
+{
+    let mut put = rt.write_some(bytes);
+    for _ in 1..TRIES {
+        if !again(&put) {
             return put;
         }
-        if !again() {
-            return put;
-        }
+        put = rt.write_some(bytes);
     }
-    -1
+    put
 }
 
-// All of these bytes on standard output, in one write where the system takes them whole; false where a write failed.
-pub fn write_output(bytes: &[u8]) -> bool {
+// All of these bytes on standard output, in one write where the system takes them whole.
+pub fn write_output(rt: &impl Print, bytes: &[u8]) -> io::Result<()> {
     let mut done: usize = 0;
     while done < bytes.len() {
-        let n = io::count(write_some(&bytes[done..]), &bytes[done..]);
+        let n = write_some(rt, &bytes[done..])?;
         if n == 0 {
-            return false;
+            return Err(io::Error::from(ErrorKind::WriteZero));
         }
         done += n;
     }
-    true
+    Ok(())
 }
 
 // Whether the starter listens: the program was started with the word `status`.
-fn listens() -> bool {
+fn listens(rt: &impl Env) -> bool {
     let mut word = [0u8; 7];
-    let n = os::arg(1, &mut word);
-    check::same(&word[..n], b"status")
+    match rt.arg(1, &mut word) {
+        Ok(n) => &word[..n] == b"status".as_slice(),
+        Err(_) => false,
+    }
 }
 
-fn tell(status: &[u8]) {
-    if listens() {
-        io::write_all(STATUS_FILENO, status);
+// Behind what stands there already. The name's permissions say whether the descriptor is open for writing: where it is not, its
+// file stays as it is.
+fn write_status(rt: &impl Files, status: &[u8]) -> io::Result<()> {
+    let name = fs::symlink_metadata(rt, STATUS_PATH)?;
+    if name.permissions().readonly() {
+        return Ok(());
+    }
+    let mut to = OpenOptions::new().append(true).open(rt, STATUS_PATH)?;
+    to.write_all(status)
+}
+
+// Where the starter can't be told, the program ends as it would.
+fn tell(rt: &(impl Env + Files), status: &[u8]) {
+    if listens(rt) {
+        let _ = write_status(rt, status);
     }
 }
 
 // What the program came to: 0 for a plan or `meets`, 1 for `tight` or `refused`.
-pub fn tell_answer(refused: bool) {
+pub fn tell_answer(rt: &(impl Env + Files), refused: bool) {
     if refused {
-        tell(b"1");
+        tell(rt, b"1");
     } else {
-        tell(b"0");
+        tell(rt, b"0");
     }
 }
 
 // A failure, in one line on standard error: what was tried, and why it failed. Its status is 2.
-pub fn tell_failure(what: &[u8]) {
-    os::fail(what);
-    tell(b"2");
+pub fn tell_failure(rt: &(impl Eprint + Env + Files), what: &str, error: &io::Error) {
+    let _ = eprintln!(rt; "{what}: {error}");
+    tell(rt, b"2");
 }

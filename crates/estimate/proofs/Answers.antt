@@ -10,12 +10,12 @@ use mir.Syntax.{w32}
 use Rattle.order.specs.Order.{no_order}
 use Rattle.order.specs.Refusals.{limits, Verdict, accepted, judge, answer, answer_by}
 use Rattle.order.specs.Table.{table_of, order_of, refusal_told, acceptance_told}
-use Rattle.order.specs.TableLaws.{refused-told, same-refusal}
+use Rattle.order.proofs.TableLaws.{refused-told, same-refusal}
 use Rattle.order.specs.Whole.{lt_z-true, lt_z-false}
 use Rattle.order.specs.declared.Acceptance.{Acceptance}
 use Rattle.order.specs.declared.Acceptance.TheVariants.{Accepted, Refused}
 use Rattle.order.specs.declared.Refusal.{Refusal}
-use Rattle.profile.specs.LeastRange.{least-in-range}
+use Rattle.profile.proofs.LeastRange.{least-in-range}
 use Rattle.profile.specs.LeastRead.{read-least}
 use Rattle.profile.specs.Search.{nothing, found}
 use Rattle.estimate.specs.AcceptLaws.{uncrossed, between-accepted}

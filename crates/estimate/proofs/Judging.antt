@@ -21,10 +21,10 @@ use Rattle.order.specs.Refusals.{
   fits_some,
   count_rows,
 }
-use Rattle.order.specs.RefusalLaws.{judge-refused-append, judge-accepted-append, counts-in-limits}
-use Rattle.order.specs.FindingLaws.{first-agree, finding-some, finding-none}
+use Rattle.order.proofs.RefusalLaws.{judge-refused-append, judge-accepted-append, counts-in-limits}
+use Rattle.order.proofs.FindingLaws.{first-agree, finding-some, finding-none}
 use Rattle.order.specs.Table.{order_of, job_at, finding_of, acceptance_told}
-use Rattle.order.specs.TableLaws.{refused-told}
+use Rattle.order.proofs.TableLaws.{refused-told}
 use Rattle.order.specs.declared.Refusal.{Refusal}
 use Rattle.order.specs.declared.Acceptance.{Acceptance}
 use Rattle.order.specs.declared.Acceptance.TheVariants.{Accepted, Refused}

@@ -5,7 +5,7 @@ use mathlib.Core.List.{List}
 use lib.IntN.{ℤ}
 use Rattle.order.specs.Lead.{bound_at, last_due}
 use Rattle.order.specs.Refusals.{limits, accepted, judge, Accepted}
-use Rattle.order.specs.RefusalLaws.{accepted-iff}
+use Rattle.order.proofs.RefusalLaws.{accepted-iff}
 use Rattle.order.specs.Table.{order_of, padded}
 use Rattle.order.specs.declared.Order.{Order as OrderTable}
 use Rattle.profile.specs.Least.{least_lateness}

@@ -10,7 +10,7 @@ use Rattle.sums.specs.Lists.{All}
 use Rattle.sums.specs.Members.{All-map}
 use Rattle.order.specs.Order.{Job}
 use Rattle.order.specs.Refusals.{limits, accepted, judge, most_makers, time_in_range, Accepted}
-use Rattle.order.specs.RefusalLaws.{judge-accepted, whole-clear, first-clear, both_true, le_z-true, fits_some-true, accepted-iff}
+use Rattle.order.proofs.RefusalLaws.{judge-accepted, whole-clear, first-clear, both_true, le_z-true, fits_some-true, accepted-iff}
 use Rattle.estimate.specs.Estimate.{EstimatedJob, Estimate, job_with, jobs_with, order_with, Between, estimate_rows}
 use Rattle.estimate.specs.PathLaws.{Uncrossed}
 

@@ -5,7 +5,7 @@ use Rattle.std.proofs.Common.{sym, ap, ◌∙◌, arith, ltb-true, lt-ltb, le-lt
 use Rattle.std.proofs.Math.Decide.{dec_lt}
 use Rattle.sums.specs.Lists.{All, total}
 use Rattle.order.specs.Order.{Job}
-use Rattle.profile.specs.RiseLaws.{Longer, minutes_of}
+use Rattle.profile.proofs.RiseLaws.{Longer, minutes_of}
 use Rattle.estimate.specs.Estimate.{EstimatedJob, Estimate, jobs_with, Between, highs, next_times, path_at, path_length}
 
 -- how far a job goes

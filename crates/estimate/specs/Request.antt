@@ -9,17 +9,17 @@ use native.Mathlib.Omega.{arith}
 use Rattle.std.proofs.Math.Decide.{dec_lt}
 use Rattle.std.specs.Int.Signed.{clash_ℤ, <ℤ_irrefl}
 use Rattle.order.specs.Lead.{bound_at, last_due}
-use Rattle.order.specs.LeadLaws.{bound-le, bound-lt, bound-more}
+use Rattle.order.proofs.LeadLaws.{bound-le, bound-lt, bound-more}
 use Rattle.order.specs.Refusals.{limits, accepted, judge}
 use Rattle.order.specs.Whole.{le-or-lt, le-gap, ≤ℤ-trans}
 use Rattle.plan.specs.IsLeast.{IsLeast}
 use Rattle.feasible.specs.Least.{is-least}
 use Rattle.profile.specs.Least.{least_reach, least_lateness}
-use Rattle.profile.specs.RiseLaws.{reach-rises, reach-rises-by}
+use Rattle.profile.proofs.RiseLaws.{reach-rises, reach-rises-by}
 use Rattle.profile.specs.Search.{nothing, found}
-use Rattle.profile.specs.SearchLaws.{Searched, stops_at, stops_nowhere, searched}
+use Rattle.profile.proofs.SearchLaws.{Searched, stops_at, stops_nowhere, searched}
 use Rattle.profile.specs.Standing.{same_z}
-use Rattle.profile.specs.StandingLaws.{z-tells}
+use Rattle.profile.proofs.StandingLaws.{z-tells}
 use Rattle.estimate.specs.Estimate.{
   Estimate,
   jobs_with,

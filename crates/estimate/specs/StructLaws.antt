@@ -9,7 +9,7 @@ use Rattle.sums.specs.Members.{All-at}
 use Rattle.sums.specs.Places.{length-tabulate, get_d_tabulate, tabulate-cong}
 use Rattle.sums.specs.Totals.{sum_first, total-tabulate}
 use Rattle.order.specs.Refusals.{limits, accepted, judge, Accepted}
-use Rattle.order.specs.StructLaws.{same-order, same-job}
+use Rattle.order.proofs.StructLaws.{same-order, same-job}
 use Rattle.order.specs.Table.{order_of, padded}
 use Rattle.estimate.specs.Estimate.{EstimatedJob, job_with, jobs_with, order_with, path_at, path_length, estimate_rows}
 use Rattle.estimate.specs.AcceptLaws.{few-estimated, ends-in-range, uncrossed, between-accepted}

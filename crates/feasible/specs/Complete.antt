@@ -6,11 +6,11 @@ use Rattle.order.specs.Order.{Order}
 use Rattle.order.specs.Class.{classes}
 use Rattle.order.specs.Lead.{Workable}
 use Rattle.plan.specs.Plan.{Row, Meets}
-use Rattle.profile.specs.ReasonLaws.{NoReason}
+use Rattle.profile.proofs.ReasonLaws.{NoReason}
 use Rattle.amounts.specs.Profile.{no-profile-feasible}
 use Rattle.wrap.specs.Stretches.{FeasibleFor}
 use Rattle.wrap.specs.Layout.{layout}
-use Rattle.wrap.specs.LayoutRight.{layout-right}
+use Rattle.wrap.proofs.LayoutRight.{layout-right}
 use Rattle.wrap.specs.Flows.{jobs_for, by_number, flow-feasible, jobs-met, jobs-in-time, jobs-on-marks, jobs-high}
 use Rattle.feasible.specs.Matches.{jobs-match}
 use Rattle.feasible.specs.Overfull.{profile-overfull}

@@ -21,9 +21,9 @@ use Rattle.sums.specs.Totals.{
 use Rattle.sums.specs.Members.{All-map, nth_in}
 use Rattle.order.specs.Order.{Order, processor_count, job_count, job_of, memory_of}
 use Rattle.order.specs.Class.{class_of}
-use Rattle.order.specs.ClassLaws.{fits-class}
+use Rattle.order.proofs.ClassLaws.{fits-class}
 use Rattle.plan.specs.Plan.{Row, Forward, WellFormed, Apart}
-use Rattle.plan.specs.RuleLaws.{forwards}
+use Rattle.plan.proofs.RuleLaws.{forwards}
 use Rattle.amounts.specs.Flow.{Feasible, Cut, cut-not-feasible}
 use Rattle.wrap.specs.HeldInOrder.{class_by}
 use Rattle.wrap.specs.Frame.{
@@ -41,7 +41,7 @@ use Rattle.wrap.specs.Frame.{
   Framed,
 }
 use Rattle.wrap.specs.FrameLaws.{lies-is, marks-mono, processor_class, open_to-is}
-use Rattle.wrap.specs.FrameRight.{layout-right-in}
+use Rattle.wrap.proofs.FrameRight.{layout-right-in}
 use Rattle.wrap.specs.FrameFlow.{flow_in, Classed, frame-outcome}
 use Rattle.feasible.specs.Packing.{clip, packing-key, telescope}
 

@@ -10,7 +10,7 @@ use Rattle.order.specs.Order.{Job, Order, job_count, Numbers, job_of, end_of, no
 use Rattle.order.specs.Deadline.{deadline_of}
 use Rattle.order.specs.Lead.{Workable}
 use Rattle.plan.specs.Plan.{Row, Forward, lengths_of, RightInParts}
-use Rattle.plan.specs.RuleLaws.{forwards}
+use Rattle.plan.proofs.RuleLaws.{forwards}
 use Rattle.profile.specs.Reason.{InTime}
 use Rattle.order.specs.Ends.{≤-of-cut, ≤-mul-cut}
 use Rattle.feasible.specs.Packing.{clip, packing-key}

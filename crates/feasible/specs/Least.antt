@@ -6,13 +6,13 @@ use Rattle.std.specs.Int.Signed.{≤ℤ_refl}
 use Rattle.order.specs.Order.{Order}
 use Rattle.order.specs.Whole.{le-or-lt}
 use Rattle.order.specs.Lead.{last_due, Workable}
-use Rattle.order.specs.LeadLaws.{workable}
+use Rattle.order.proofs.LeadLaws.{workable}
 use Rattle.order.specs.Refusals.{Accepted}
-use Rattle.order.specs.RefusalLaws.{accepted-iff}
+use Rattle.order.proofs.RefusalLaws.{accepted-iff}
 use Rattle.plan.specs.Plan.{Row, RightInParts, Meets}
 use Rattle.plan.specs.IsLeast.{IsLeast}
 use Rattle.profile.specs.Least.{least_from, least_lateness}
-use Rattle.profile.specs.Threshold.{reason-below, no-reason-from}
+use Rattle.profile.proofs.Threshold.{reason-below, no-reason-from}
 use Rattle.feasible.specs.Sound.{no-reason-where-met}
 use Rattle.feasible.specs.Complete.{complete}
 

@@ -17,7 +17,7 @@ use Rattle.order.specs.Class.{class_of, processors_in}
 use Rattle.order.specs.Deadline.{deadline_of}
 use Rattle.profile.specs.Profile.{owed, class_owes, owed_from, on_hand_from, minutes_owed, minutes_on_hand}
 use Rattle.profile.specs.Reason.{InTime}
-use Rattle.profile.specs.Weights.{owed-between}
+use Rattle.profile.proofs.Weights.{owed-between}
 use Rattle.order.specs.Ends.{pos-<, <-pos, above-pos}
 
 -- no job's time exceeds its end

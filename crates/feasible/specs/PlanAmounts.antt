@@ -21,7 +21,7 @@ use Rattle.wrap.specs.Frame.{lies, cap_in}
 use Rattle.wrap.specs.FrameLaws.{lies-true, lies-is, only-some}
 use Rattle.wrap.specs.FrameFlow.{flow_in}
 use Rattle.feasible.specs.FramePlan.{amounts_in, plan-amounts-in}
-use Rattle.wrap.specs.FrameBase.{base_frame, base-framed, right-in, open-counts}
+use Rattle.wrap.proofs.FrameBase.{base_frame, base-framed, right-in, open-counts}
 
 module _ (o : Order) (bound : ℤ) where
   -- Caps and rooms are those of the common start, so a right plan gives its amounts between the distinct ends.

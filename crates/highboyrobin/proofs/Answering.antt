@@ -7,7 +7,7 @@ use lib.ListN.{length, drop, take-append-drop}
 use Rattle.order.specs.Order.{Order}
 use Rattle.order.specs.Refusals.{most_makers, Verdict, accepted, refused, left_by}
 use Rattle.order.specs.Table.{refusal_told}
-use Rattle.order.specs.TableLaws.{refused-told}
+use Rattle.order.proofs.TableLaws.{refused-told}
 use Rattle.order.specs.declared.Refusal.{Refusal}
 use Rattle.highboyrobin.specs.Results.{result_of}
 use Rattle.book.specs.Book.{booked_by}

@@ -8,7 +8,7 @@ use Rattle.sums.specs.Lists.{All}
 use Rattle.sums.specs.Places.{length-tabulate}
 use Rattle.order.specs.Order.{no_job, processor_count, job_count}
 use Rattle.order.specs.Refusals.{limits, clear, TableRow, accepted, refused, judge, file_row, count_rows}
-use Rattle.order.specs.RefusalLaws.{judge-accepted, judge-clear, judge-refused-append, whole-clear}
+use Rattle.order.proofs.RefusalLaws.{judge-accepted, judge-clear, judge-refused-append, whole-clear}
 use Rattle.order_file.specs.File.{good_file, order_in}
 use Rattle.estimate.specs.Estimate.{estimated_rows, estimate_rows}
 use Rattle.estimate.specs.Told.{estimated_job, estimate_of}

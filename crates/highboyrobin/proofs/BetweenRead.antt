@@ -10,9 +10,9 @@ use Rattle.sums.specs.Lists.{tabulate}
 use Rattle.sums.specs.Places.{length-tabulate, get_d_tabulate, tabulate-cong}
 use Rattle.order.specs.Order.{Job, Order, no_job, processor_count, job_count}
 use Rattle.order.specs.Refusals.{limits, Verdict, judge, count_rows}
-use Rattle.order.specs.RefusalLaws.{counts-in-limits}
+use Rattle.order.proofs.RefusalLaws.{counts-in-limits}
 use Rattle.order.specs.Table.{order_of, job_at, refusal_told, carried_by}
-use Rattle.order.specs.TableLaws.{refused-told}
+use Rattle.order.proofs.TableLaws.{refused-told}
 use Rattle.order.specs.declared.Acceptance.TheVariants.{Accepted as Accepts, Refused as Refuses}
 use Rattle.order.specs.declared.Refusal.{Refusal}
 use Rattle.order_file.specs.File.{order_in}

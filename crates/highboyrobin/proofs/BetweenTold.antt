@@ -22,15 +22,15 @@ use Rattle.order.specs.Refusals.{
   order_rows,
   Accepted,
 }
-use Rattle.order.specs.RefusalLaws.{judge-accepted-append, judge-refused-append}
+use Rattle.order.proofs.RefusalLaws.{judge-accepted-append, judge-refused-append}
 use Rattle.order.specs.Table.{order_of, refusal_told}
-use Rattle.order.specs.TableLaws.{refused-told, verdict-refused, verdict-accepted}
+use Rattle.order.proofs.TableLaws.{refused-told, verdict-refused, verdict-accepted}
 use Rattle.order.specs.declared.Refusal.{Refusal}
 use Rattle.order_file.specs.File.{file_of, file_length, write_rows, written_by, ReadBackBy}
-use Rattle.order_file.specs.RoundTrip.{file_of-length}
+use Rattle.order_file.proofs.RoundTrip.{file_of-length}
 use Rattle.order_file.specs.declared.OrderWritten.{OrderWritten}
 use Rattle.order_file.specs.declared.OrderWritten.TheVariants.{Bytes, Refused as NotWritten}
-use Rattle.profile.specs.LeastRange.{least-in-range}
+use Rattle.profile.proofs.LeastRange.{least-in-range}
 use Rattle.profile.specs.LeastRead.{read-least}
 use Rattle.profile.specs.Search.{Found, nothing, found}
 use Rattle.estimate.specs.AcceptLaws.{uncrossed, between-accepted}

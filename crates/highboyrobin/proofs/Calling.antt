@@ -4,7 +4,7 @@ use mathlib.Core.Path.{◌≡◌, refl, ◌∙◌}
 use mathlib.Core.List.{List, [], ◌∷◌, ◌++◌}
 use borrow.Author.Tests.{lt-ltb, le-ltb}
 use Rattle.order.specs.Refusals.{limits, TableRow, refused, judge, answer_by, order_rows, file_row}
-use Rattle.order.specs.RefusalLaws.{judge-clear}
+use Rattle.order.proofs.RefusalLaws.{judge-clear}
 use Rattle.order.specs.Table.{refusal_told}
 use Rattle.order.specs.declared.Acceptance.TheVariants.{Accepted as Accepts, Refused as Refuses}
 use Rattle.order.specs.declared.Refusal.{Refusal}

@@ -28,7 +28,7 @@ use Rattle.order.specs.Refusals.{
   bound_in_range,
   bound_row,
 }
-use Rattle.order.specs.RefusalLaws.{judge-accepted-append, judge-refused-append, counts-in-limits, accepted-iff}
+use Rattle.order.proofs.RefusalLaws.{judge-accepted-append, judge-refused-append, counts-in-limits, accepted-iff}
 use Rattle.order.specs.Table.{carried_by}
 use Rattle.order_file.specs.File.{good_file, order_in, read_rows, file_length, write_rows}
 use Rattle.plan.specs.Check.{check_rows}

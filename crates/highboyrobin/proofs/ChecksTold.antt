@@ -13,7 +13,7 @@ use Rattle.plan.specs.Check.{is_right, check_rows}
 use Rattle.plan.specs.Told.{checked_told}
 use Rattle.plan.specs.declared.Checked.{Checked}
 use Rattle.plan.specs.declared.Checked.TheVariants.{Yes, No, Refused}
-use Rattle.order.specs.TableLaws.{verdict-refused, verdict-accepted}
+use Rattle.order.proofs.TableLaws.{verdict-refused, verdict-accepted}
 
 pub check-begins : (o : Order) (bound : ℤ) (n : ℕ) →
     check_rows o bound n ≡ order_rows limits o ++ (bound_row bound ∷ rows_to_check_row n ∷ [])

@@ -10,10 +10,10 @@ use lib.Seq.{sets-eq, take_at, drop-append-add, drop-drop}
 use Rattle.sums.specs.Places.{get_d_tabulate}
 use Rattle.order.specs.Order.{Order, processor_count}
 use Rattle.order.specs.Class.{classes, memory_of_class, processors_in}
-use Rattle.order.specs.ClassLaws.{classes-few}
+use Rattle.order.proofs.ClassLaws.{classes-few}
 use Rattle.order.specs.Refusals.{Verdict, accepted, refused, left_by}
 use Rattle.order.specs.Table.{refusal_told}
-use Rattle.order.specs.TableLaws.{refused-told}
+use Rattle.order.proofs.TableLaws.{refused-told}
 use Rattle.order.specs.declared.Refusal.{Refusal}
 use Rattle.table.specs.Passed.{listing}
 use Rattle.table.specs.declared.Listing.{Listing}

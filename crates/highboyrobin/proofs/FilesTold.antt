@@ -11,7 +11,7 @@ use lib.ListN.{length, drop}
 use Rattle.sums.specs.Places.{length-tabulate}
 use Rattle.order.specs.Order.{Order, processor_count, job_count}
 use Rattle.order.specs.Refusals.{limits, Verdict, accepted, refused, judge, answer_by, left_by, room_row, count_rows, order_rows}
-use Rattle.order.specs.RefusalLaws.{judge-accepted, counts-in-limits}
+use Rattle.order.proofs.RefusalLaws.{judge-accepted, counts-in-limits}
 use Rattle.order.specs.Table.{refusal_told}
 use Rattle.order.specs.declared.Refusal.{Refusal}
 use Rattle.order_file.specs.File.{file_length, write_rows, written_by, ReadBackBy}
@@ -20,7 +20,7 @@ use Rattle.order_file.specs.declared.OrderWritten.{OrderWritten}
 use Rattle.order_file.specs.declared.OrderWritten.TheVariants.{Bytes, Refused}
 use Rattle.highboyrobin.specs.Results.{result_of}
 use Rattle.highboyrobin.specs.Calls.{order_from, write_call}
-use Rattle.order.specs.TableLaws.{refused-told, verdict-refused, verdict-accepted}
+use Rattle.order.proofs.TableLaws.{refused-told, verdict-refused, verdict-accepted}
 
 -- result, file, that it is read back, and answer, by the verdict
 module _ (v : Verdict) (o : Order) (file : List ℕ) (entry : List ℤ) where

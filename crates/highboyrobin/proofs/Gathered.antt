@@ -7,7 +7,7 @@ use lib.IntN.{ℤ, pos}
 use lib.ListN.{length, get_or}
 use Rattle.sums.specs.Lists.{tabulate}
 use Rattle.sums.specs.Places.{tabulate-cong, tabulate-get_or}
-use Rattle.order.specs.StructLaws.{same-order, same-job}
+use Rattle.order.proofs.StructLaws.{same-order, same-job}
 use Rattle.order.specs.Table.{order_of, job_at}
 use Rattle.order.specs.declared.Order.{Order as OrderTable}
 use Rattle.order_file.specs.Bytes.{signed}

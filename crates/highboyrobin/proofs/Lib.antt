@@ -22,3 +22,4 @@ mod BetweenRead
 mod BetweenCalling
 mod BetweenTold
 mod Screening
+pub mod LineCallLaws

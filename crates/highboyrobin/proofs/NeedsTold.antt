@@ -8,7 +8,7 @@ use lib.IntN.{ℤ, pos}
 use lib.ListN.{length, drop}
 use Rattle.order.specs.Refusals.{TableRow, Verdict, refused, judge, answer, refusal, answer_by, left_by}
 use Rattle.order.specs.Table.{carried_by}
-use Rattle.order.specs.TableLaws.{refused-by, verdict-accepted}
+use Rattle.order.proofs.TableLaws.{refused-by, verdict-accepted}
 use Rattle.needs.specs.NeedTable.{need_rows, needs_of}
 use Rattle.needs.specs.Told.{filled_told}
 use Rattle.needs.specs.declared.Filled.{Filled}

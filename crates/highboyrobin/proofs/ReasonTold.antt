@@ -8,14 +8,14 @@ use lib.IntN.{ℤ}
 use Rattle.sums.specs.Members.{All-nth}
 use Rattle.order.specs.Order.{Order, no_job}
 use Rattle.order.specs.Refusals.{limits, accepted, refused, judge, order_rows, bound_row, bound_in_range, Accepted}
-use Rattle.order.specs.RefusalLaws.{accepted-iff, judge-accepted-append}
+use Rattle.order.proofs.RefusalLaws.{accepted-iff, judge-accepted-append}
 use Rattle.profile.specs.Reason.{Reason, over_end, stairs, Stands}
-use Rattle.profile.specs.StandingLaws.{reason-stands}
+use Rattle.profile.proofs.StandingLaws.{reason-stands}
 use Rattle.sentence.specs.Line.{read_back}
 use Rattle.sentence.specs.LineLaws.{reads-to}
-use Rattle.profile.specs.ReasonLaws.{reason-found}
+use Rattle.profile.proofs.ReasonLaws.{reason-found}
 use Rattle.profile.specs.Search.{Found, nothing, found, reason_of}
-use Rattle.order.specs.ClassLaws.{classes-few}
+use Rattle.order.proofs.ClassLaws.{classes-few}
 use Rattle.reason.specs.Told.{why_of}
 use Rattle.reason.specs.declared.Reason.TheVariants.{Job, Stairs}
 use Rattle.reason.specs.declared.Tightness.{Tightness}

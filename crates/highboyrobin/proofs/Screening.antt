@@ -7,7 +7,7 @@ use borrow.Author.Tests.{lt-ltb, le-ltb}
 use lib.IntN.{ℤ}
 use Rattle.order.specs.Order.{Order, processor_count, job_count}
 use Rattle.order.specs.Refusals.{limits, TableRow, Verdict, refused, judge, job_rows, order_rows}
-use Rattle.order.specs.RefusalLaws.{judge-clear}
+use Rattle.order.proofs.RefusalLaws.{judge-clear}
 use Rattle.order.specs.Callers.{limits_of, rows_by, rows_for}
 use Rattle.order.specs.Table.{refusal_told, acceptance_told, carried_by}
 use Rattle.order.specs.declared.Acceptance.{Acceptance}

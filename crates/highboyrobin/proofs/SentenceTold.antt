@@ -7,7 +7,7 @@ use lib.ListN.{length, drop}
 use Rattle.order.specs.Order.{Order}
 use Rattle.order.specs.Refusals.{limits, Verdict, accepted, refused, judge, answer_by, left_by, order_rows, bound_row, room_row}
 use Rattle.order.specs.Table.{refusal_told, acceptance_told}
-use Rattle.order.specs.TableLaws.{refused-told, verdict-refused, verdict-accepted}
+use Rattle.order.proofs.TableLaws.{refused-told, verdict-refused, verdict-accepted}
 use Rattle.order.specs.declared.Acceptance.{Acceptance}
 use Rattle.order.specs.declared.Acceptance.TheVariants.{Accepted as Accepts, Refused as Refuses}
 use Rattle.order.specs.declared.Refusal.{Refusal}

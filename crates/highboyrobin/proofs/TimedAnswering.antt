@@ -6,7 +6,7 @@ use lib.IntN.{ℤ}
 use Rattle.order.specs.Order.{Order}
 use Rattle.order.specs.Refusals.{Verdict, accepted, refused}
 use Rattle.order.specs.Table.{refusal_told}
-use Rattle.order.specs.TableLaws.{refused-told}
+use Rattle.order.proofs.TableLaws.{refused-told}
 use Rattle.order.specs.declared.Refusal.{Refusal}
 use Rattle.wrap.specs.FrameAt.{Times}
 use Rattle.highboyrobin.specs.Results.{result_of}

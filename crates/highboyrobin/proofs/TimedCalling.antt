@@ -5,7 +5,7 @@ use mathlib.Core.List.{List, [], ◌∷◌, ◌++◌}
 use borrow.Author.Tests.{ltb-false}
 use lib.ListN.{length}
 use Rattle.order.specs.Refusals.{limits, clear, TableRow, accepted, refused, judge, order_rows, file_row, Accepted}
-use Rattle.order.specs.RefusalLaws.{judge-accepted, judge-clear, judge-refused-append, whole-clear}
+use Rattle.order.proofs.RefusalLaws.{judge-accepted, judge-clear, judge-refused-append, whole-clear}
 use Rattle.order.specs.Table.{order_of}
 use Rattle.order_file.specs.File.{good_file, order_in}
 use Rattle.sums.specs.Lists.{All}

@@ -24,17 +24,17 @@ use Rattle.order.specs.Refusals.{
   rows_up_to_row,
   Accepted,
 }
-use Rattle.order.specs.RefusalLaws.{accepted-iff}
+use Rattle.order.proofs.RefusalLaws.{accepted-iff}
 use Rattle.order.specs.SortedLaws.{distinct-length}
 use Rattle.order.specs.Table.{refusal_told}
-use Rattle.order.specs.TableLaws.{refused-told, refused-by, verdict-refused, verdict-accepted}
+use Rattle.order.proofs.TableLaws.{refused-told, refused-by, verdict-refused, verdict-accepted}
 use Rattle.order.specs.declared.Refusal.{Refusal}
 use Rattle.plan.specs.Told.{checked_told}
 use Rattle.plan.specs.declared.Checked.{Checked}
 use Rattle.plan.specs.declared.Checked.TheVariants.{Yes, No, Refused as CheckRefused}
 use Rattle.wrap.specs.FrameAt.{Times}
-use Rattle.wrap.specs.Joined.{joined-count-in}
-use Rattle.timed.specs.ChangeLaws.{timed-rising}
+use Rattle.wrap.proofs.Joined.{joined-count-in}
+use Rattle.timed.proofs.ChangeLaws.{timed-rising}
 use Rattle.timed.specs.Changes.{changes, change_times, change_count, timed_frame, timed_rows_asked}
 use Rattle.timed.specs.Check.{is_right_timed}
 use Rattle.timed.specs.Rows.{asked_rows, timed_buffer, earlier_timed, timed_rows, none_timed, most_timed_rows, timed_check_rows}

@@ -3,7 +3,7 @@
 -- the first met with the number, and where it answers 0 no order with times between has the number.
 use Rattle.std.specs.Prelude.{ℕ, ◌≡◌, List, [], ◌∷◌, ◌++◌, ◌⊎◌, ℤ, length, ◌≤ℤ◌, ◌<ℤ◌}
 use Rattle.order.specs.Refusals.{limits, TableRow, accepted, judge, room_row, Accepted}
-use Rattle.order.specs.RefusalLaws.{judge-accepted, accepted-first}
+use Rattle.order.proofs.RefusalLaws.{judge-accepted, accepted-first}
 use Rattle.plan.specs.IsLeast.{IsLeast}
 use Rattle.profile.specs.Least.{least_lateness}
 use Rattle.profile.specs.Search.{nothing, found}

@@ -4,7 +4,7 @@ use Rattle.std.specs.Prelude.{ℕ, ◌≤◌, ◌≡◌, List, [], ◌∷◌, �
 use Rattle.std.proofs.Math.Path.{refl, sym}
 use Rattle.std.proofs.Common.{◌∙◌, arith}
 use Rattle.order.specs.Refusals.{screen, TableRow, Verdict, accepted, refused, judge, order_rows, bound_row, tight_row, file_row}
-use Rattle.order.specs.RefusalLaws.{judge-accepted-append, judge-refused-append}
+use Rattle.order.proofs.RefusalLaws.{judge-accepted-append, judge-refused-append}
 use Rattle.order.specs.Callers.{rows_by}
 use Rattle.order_file.specs.File.{good_file, read_rows}
 use Rattle.planner.specs.Rows.{buffer_row, is_found, least_rows, earlier_rows, plan_rows}

@@ -18,12 +18,12 @@ use Rattle.order.specs.Refusals.{
   tight_row,
   file_row,
 }
-use Rattle.order.specs.RefusalLaws.{judge-accepted, accepted-first}
+use Rattle.order.proofs.RefusalLaws.{judge-accepted, accepted-first}
 use Rattle.order_file.specs.File.{good_file, order_in}
 use Rattle.book.specs.Book.{opened, minutes_for, minutes_of, minutes_by, most_booked, book_row, booked_by}
 use Rattle.book.specs.BookLaws.{added-length}
 use Rattle.book.specs.Calls.{Call, given_back, book_after, orders_written}
-use Rattle.book.specs.CallLaws.{Judges, book-counts, book-length, book-sum, book-most}
+use Rattle.book.proofs.CallLaws.{Judges, book-counts, book-length, book-sum, book-most}
 use Rattle.profile.specs.Search.{reason_of}
 use Rattle.planner.specs.AnswerLaws.{least-begins, plan-begins}
 use Rattle.planner.specs.Rows.{buffer_row, is_found, least_rows, plan_rows}

@@ -22,11 +22,11 @@ use Rattle.order.specs.Refusals.{
   bound_row,
   Accepted,
 }
-use Rattle.order.specs.RefusalLaws.{judge-accepted, judge-clear, judge-accepted-append, judge-refused-append, accepted-first, whole-clear}
+use Rattle.order.proofs.RefusalLaws.{judge-accepted, judge-clear, judge-accepted-append, judge-refused-append, accepted-first, whole-clear}
 use Rattle.order_file.specs.File.{good_file, order_in}
 use Rattle.plan.specs.Plan.{Row, RightInParts, Meets}
 use Rattle.plan.specs.Check.{RightNumbers, is_right}
-use Rattle.plan.specs.CheckLaws.{is_right-iff}
+use Rattle.plan.proofs.CheckLaws.{is_right-iff}
 use Rattle.profile.specs.Least.{least_lateness}
 use Rattle.profile.specs.Reason.{Reason, over_end, stairs}
 use Rattle.profile.specs.Search.{Found, nothing, found, reason_of}

@@ -14,11 +14,11 @@ use Rattle.sums.specs.Sum.{sum, sum-cong}
 use Rattle.sums.specs.Totals.{total-cong, total-ones}
 use Rattle.order.specs.Order.{Order, processor_count}
 use Rattle.order.specs.Class.{class_for, memory_of_class, processors_in, processors_to}
-use Rattle.order.specs.ClassLaws.{classes-fall, class-of-processor, processors_in-is, processors_to-is}
+use Rattle.order.proofs.ClassLaws.{classes-fall, class-of-processor, processors_in-is, processors_to-is}
 use Rattle.order.specs.Refusals.{accepted, judge, left_by}
 use Rattle.order_file.specs.File.{order_in}
 use Rattle.profile.specs.Reason.{stairs}
-use Rattle.profile.specs.ReasonLaws.{reason-found}
+use Rattle.profile.proofs.ReasonLaws.{reason-found}
 use Rattle.profile.specs.Search.{found, reason_of}
 use Rattle.highboyrobin.specs.ClassCalls.{classes_call, pairs_to, class_count, class_pairs}
 

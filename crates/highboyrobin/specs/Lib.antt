@@ -14,7 +14,6 @@ pub mod ClassCallLaws
 pub mod NeedCallLaws
 pub mod TimedCallLaws
 pub mod BetweenCallLaws
-pub mod LineCallLaws
 pub mod ScreenCallLaws
 pub mod BlockCallLaws
 pub mod Inside

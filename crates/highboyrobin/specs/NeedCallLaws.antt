@@ -3,11 +3,11 @@
 use Rattle.std.specs.Prelude.{ℕ, ◌≤◌, ◌<◌, ◌≡◌, List, [], ◌∷◌, ℤ, length, get_or}
 use Rattle.std.proofs.Common.{arith, sym, ◌∙◌, subst}
 use Rattle.order.specs.Refusals.{TableRow, Verdict, accepted, refused, judge, left_by}
-use Rattle.order.specs.RefusalLaws.{judge-accepted, later-numbered}
+use Rattle.order.proofs.RefusalLaws.{judge-accepted, later-numbered}
 use Rattle.needs.specs.NeedTable.{counted, unmet, met_twice, met_by, longest, need_rows, needs_of}
 use Rattle.needs.specs.Inside.{Smallest}
 use Rattle.needs.specs.LengthLaws.{Length}
-use Rattle.needs.specs.NeedLaws.{accepted-table, need-own, seventeen, eighteen}
+use Rattle.needs.proofs.NeedLaws.{accepted-table, need-own, seventeen, eighteen}
 use Rattle.needs.specs.OwnLine.{OwnLine}
 use Rattle.highboyrobin.specs.NeedCalls.{long_list_row, needs_call}
 use Rattle.highboyrobin.specs.Results.{answer_row}

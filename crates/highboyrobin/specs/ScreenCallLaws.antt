@@ -23,9 +23,9 @@ use Rattle.order.specs.Refusals.{
   order_rows,
   file_row,
 }
-use Rattle.order.specs.RefusalLaws.{judge-accepted, whole-clear, both_true}
+use Rattle.order.proofs.RefusalLaws.{judge-accepted, whole-clear, both_true}
 use Rattle.order.specs.Callers.{Within, rows_by}
-use Rattle.order.specs.CallerLaws.{Itself, numbered, not-numbered, screen-same, screen-processors, screen-jobs}
+use Rattle.order.proofs.CallerLaws.{Itself, numbered, not-numbered, screen-same, screen-processors, screen-jobs}
 use Rattle.order_file.specs.Bytes.{number4}
 use Rattle.order_file.specs.File.{
   job_width,

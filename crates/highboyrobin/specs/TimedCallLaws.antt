@@ -5,12 +5,12 @@ use Rattle.std.proofs.Math.Path.{refl}
 use Rattle.std.proofs.Common.{sym, ◌∙◌}
 use Rattle.order.specs.Order.{Order}
 use Rattle.order.specs.Refusals.{TableRow, Verdict, accepted, refused, judge, tight_row, file_row}
-use Rattle.order.specs.RefusalLaws.{judge-accepted, judge-accepted-append, judge-refused-append}
+use Rattle.order.proofs.RefusalLaws.{judge-accepted, judge-accepted-append, judge-refused-append}
 use Rattle.order_file.specs.File.{good_file, order_in}
 use Rattle.planner.specs.TenLaws.{never}
 use Rattle.wrap.specs.FrameAt.{Times}
-use Rattle.timed.specs.NoneLaws.{NoneInParts}
-use Rattle.timed.specs.Request.{timed-decides, TimedPlanSaid, timed-plan-said}
+use Rattle.timed.proofs.NoneLaws.{NoneInParts}
+use Rattle.timed.proofs.Request.{timed-decides, TimedPlanSaid, timed-plan-said}
 use Rattle.timed.specs.Rows.{none_timed, asked_rows, earlier_timed, timed_rows}
 use Rattle.highboyrobin.specs.Results.{answer_row}
 use Rattle.highboyrobin.specs.TimedCalls.{times_in, wrong_times_row, timed_call, timed_plan_call, TimedAnswered}

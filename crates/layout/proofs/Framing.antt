@@ -14,8 +14,8 @@ use Rattle.order.specs.Order.{Numbers}
 use Rattle.plan.specs.Plan.{Row, Forward}
 use Rattle.plan.specs.Check.{numbers_of}
 use Rattle.plan.specs.Join.{joined}
-use Rattle.plan.specs.JoinLaws.{standing-none}
-use Rattle.plan.specs.JoinAgain.{Rises}
+use Rattle.plan.proofs.JoinLaws.{standing-none}
+use Rattle.plan.proofs.JoinAgain.{Rises}
 use Rattle.wrap.specs.Flows.{amount_in}
 use Rattle.wrap.specs.Frame.{Frame, Rising, lies, in_turn}
 use Rattle.table.specs.declared.Table.{Table}

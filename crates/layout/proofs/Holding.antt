@@ -19,8 +19,8 @@ use Rattle.plan.specs.Plan.{Row, Forward}
 use Rattle.plan.specs.Check.{numbers_of}
 use Rattle.plan.specs.NumberLaws.{length-numbers}
 use Rattle.plan.specs.Join.{GoesOnAs, join_row, join_rows}
-use Rattle.plan.specs.JoinLaws.{join-case, Standing, standing-more, row_count}
-use Rattle.plan.specs.JoinAgain.{Rises, Separate, rises-kept, row-behind}
+use Rattle.plan.proofs.JoinLaws.{join-case, Standing, standing-more, row_count}
+use Rattle.plan.proofs.JoinAgain.{Rises, Separate, rises-kept, row-behind}
 use Rattle.wrap.specs.Ending.{ends_at, ends_with, job_where}
 use Rattle.wrap.specs.EndingLaws.{where-none, ends_is}
 use Rattle.layout.specs.Sheet.{Sheet, sheet, ending_job, last_for, last_of, added, added_all, Holds}

@@ -11,11 +11,11 @@ use borrow.Author.Tests.{eq-eqb}
 use lib.ListN.{length}
 use Rattle.sums.specs.Lists.{All}
 use Rattle.sums.specs.Members.{All-map, All-both}
-use Rattle.order.specs.RefusalLaws.{true-or-false}
+use Rattle.order.proofs.RefusalLaws.{true-or-false}
 use Rattle.plan.specs.Plan.{Row, Forward}
 use Rattle.plan.specs.Join.{join_row, join_rows}
-use Rattle.plan.specs.JoinLaws.{join-case, all-rows, Standing, standing-more, standing-all}
-use Rattle.plan.specs.JoinAgain.{Rises, rises-kept}
+use Rattle.plan.proofs.JoinLaws.{join-case, all-rows, Standing, standing-more, standing-all}
+use Rattle.plan.proofs.JoinAgain.{Rises, rises-kept}
 use Rattle.wrap.specs.Ending.{ends_at, ends_with, job_where}
 use Rattle.wrap.specs.EndingLaws.{where-none, ends-at-true}
 use Rattle.layout.specs.Sheet.{Sheet, added_all}

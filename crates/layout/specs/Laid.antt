@@ -3,8 +3,8 @@ use Rattle.std.specs.Prelude.{ℕ, ◌+◌, ◌-◌, ◌≤◌, ◌<◌, ◌≡�
 use Rattle.sums.specs.Lists.{All}
 use Rattle.order.specs.Order.{Numbers}
 use Rattle.plan.specs.Plan.{Row, Forward}
-use Rattle.plan.specs.JoinLaws.{Standing}
-use Rattle.plan.specs.JoinAgain.{Rises}
+use Rattle.plan.proofs.JoinLaws.{Standing}
+use Rattle.plan.proofs.JoinAgain.{Rises}
 use Rattle.wrap.specs.Ending.{ends_with}
 use Rattle.wrap.specs.Layout.{Share, fill, shares_of}
 use Rattle.wrap.specs.Shares.{share}

@@ -4,7 +4,7 @@ use Rattle.std.specs.Prelude.{ℕ, suc, pred, ◌≤◌, Bool, ◌&&◌, List, [
 use Rattle.sums.specs.Lists.{All, Pairwise, nth, keep}
 use Rattle.order.specs.Order.{Numbers}
 use Rattle.plan.specs.Plan.{Row, Forward}
-use Rattle.plan.specs.JoinAgain.{Rises}
+use Rattle.plan.proofs.JoinAgain.{Rises}
 use Rattle.wrap.specs.Layout.{fill, shares_of}
 use Rattle.wrap.specs.Flows.{amount_in}
 use Rattle.wrap.specs.Frame.{Frame, open_in, in_turn}

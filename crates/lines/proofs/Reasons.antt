@@ -3,13 +3,13 @@ use mathlib.Core.Path.{◌≡◌, ap, ◌∙◌}
 use native.Mathlib.Omega.{arith}
 use lib.IntN.{ℤ}
 use Rattle.order.specs.Order.{Order}
-use Rattle.order.specs.ClassLaws.{classes-few}
+use Rattle.order.proofs.ClassLaws.{classes-few}
 use Rattle.order.specs.Refusals.{Accepted}
-use Rattle.order.specs.RefusalLaws.{accepted-iff}
+use Rattle.order.proofs.RefusalLaws.{accepted-iff}
 use Rattle.profile.specs.Reason.{Reason, over_end, stairs, IsReason}
-use Rattle.profile.specs.ReasonLaws.{reason-found}
+use Rattle.profile.proofs.ReasonLaws.{reason-found}
 use Rattle.profile.specs.Search.{found, reason_of}
-use Rattle.profile.specs.StandingLaws.{reason-stands}
+use Rattle.profile.proofs.StandingLaws.{reason-stands}
 use Rattle.reason.specs.Told.{why_of}
 use Rattle.reason.specs.declared.Why.{Why}
 use Rattle.sentence.specs.Handed.{handed}

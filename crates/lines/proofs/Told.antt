@@ -15,7 +15,7 @@ use Rattle.sums.specs.Lists.{tabulate}
 use Rattle.order.specs.Order.{Order}
 use Rattle.order.specs.Refusals.{Verdict, accepted, refused, judge, answer_by}
 use Rattle.order.specs.Table.{order_of, refusal_told, number_by, carried_by}
-use Rattle.order.specs.TableLaws.{refused-told}
+use Rattle.order.proofs.TableLaws.{refused-told}
 use Rattle.order.specs.declared.Order.{Order as OrderTable}
 use Rattle.order.specs.declared.Refusal.{Refusal}
 use Rattle.order.specs.declared.Refusal.TheVariants.{BadFile}

@@ -9,9 +9,9 @@ use borrow.Author.Tests.{lt-ltb, le-ltb}
 use lib.ListN.{length, get_or, set, take, drop, length-append, length-drop, length-map}
 use lib.Seq.{set_at, drop-cons, take-suc, take-length, length-take-le}
 use Rattle.sums.specs.Members.{All-from}
-use Rattle.order.specs.FindingLaws.{finding-some, finding-none}
+use Rattle.order.proofs.FindingLaws.{finding-some, finding-none}
 use Rattle.order.specs.Refusals.{clear, holds, Verdict, accepted, refused, judge, Answer, answer, refusal, answer_by, left_by, first, time_in_range}
-use Rattle.order.specs.RefusalLaws.{first-at, first-none}
+use Rattle.order.proofs.RefusalLaws.{first-at, first-none}
 use Rattle.order.specs.Table.{finding_of}
 use Rattle.needs.specs.NeedTable.{Line, counted, unmet, met_twice, longest, every_length, table_rows, need_rows, need_for, needs_of}
 use Rattle.needs.specs.Inside.{first_lines, Smallest}

@@ -1,1 +1,2 @@
 mod Ended
+pub mod NeedLaws

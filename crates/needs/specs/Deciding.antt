@@ -5,7 +5,7 @@ use Rattle.std.proofs.Common.{ap, inl, inr, arith, leb-true, leb-false, ne_eqb}
 use Rattle.std.proofs.Math.Decide.{dec_lt}
 use Rattle.sums.specs.Lists.{only}
 use Rattle.order.specs.Refusals.{Finding, clear, holds, Verdict, judge, row, first, time_in_range, room_row}
-use Rattle.order.specs.RefusalLaws.{either_true}
+use Rattle.order.proofs.RefusalLaws.{either_true}
 use Rattle.needs.specs.NeedTable.{Line, meets, counted, met_by, longest, every_length, unmet, met_twice, table_rows, need_rows}
 use Rattle.needs.specs.Inside.{Smallest}
 use Rattle.needs.specs.MeetLaws.{meets-facts, facts-meet}

@@ -4,9 +4,9 @@ use Rattle.std.proofs.Common.{sym, ap, ◌∙◌, subst, true≢false, le_of_suc
 use Rattle.sums.specs.Lists.{All, tabulate}
 use Rattle.sums.specs.Members.{All-at}
 use Rattle.sums.specs.Places.{length-tabulate, get_d_tabulate}
-use Rattle.order.specs.FindingLaws.{Outcome, none_passes, passes_at, outcome}
+use Rattle.order.proofs.FindingLaws.{Outcome, none_passes, passes_at, outcome}
 use Rattle.order.specs.Refusals.{Finding, clear, holds, first}
-use Rattle.order.specs.RefusalLaws.{clear≢holds}
+use Rattle.order.proofs.RefusalLaws.{clear≢holds}
 use Rattle.needs.specs.NeedTable.{longest, every_length}
 use Rattle.needs.specs.Inside.{Smallest}
 

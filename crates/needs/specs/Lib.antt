@@ -5,5 +5,4 @@ pub mod MeetLaws
 pub mod SmallestLaws
 pub mod LengthLaws
 pub mod OwnLine
-pub mod NeedLaws
 pub mod Deciding

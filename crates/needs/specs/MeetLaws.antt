@@ -13,7 +13,7 @@ use Rattle.sums.specs.Places.{length-tabulate, tabulate-cong}
 use Rattle.sums.specs.Sum.{sum_more, sum-ge, sum-cong, sum-const}
 use Rattle.sums.specs.Totals.{total-tabulate}
 use Rattle.order.specs.Refusals.{time_in_range}
-use Rattle.order.specs.RefusalLaws.{both_true, true-both, true-or-false}
+use Rattle.order.proofs.RefusalLaws.{both_true, true-both, true-or-false}
 use Rattle.needs.specs.NeedTable.{Line, good_line, meets, line_at, lines_in, most_lines, counted, met_by, longest, need_for}
 use Rattle.needs.specs.Inside.{first_lines, FirstMeets}
 

@@ -9,7 +9,7 @@ use Rattle.std.proofs.lemmas.Bool.{lt-leb}
 use Rattle.sums.specs.Lists.{only}
 use Rattle.sums.specs.Places.{length-tabulate}
 use Rattle.order.specs.Refusals.{clear, holds, first}
-use Rattle.order.specs.RefusalLaws.{first-tabulate, none-tabulate, both_true, true-both}
+use Rattle.order.proofs.RefusalLaws.{first-tabulate, none-tabulate, both_true, true-both}
 use Rattle.needs.specs.NeedTable.{Line, line_at, meets, met_by, longest, every_length, unmet, met_twice}
 use Rattle.needs.specs.Inside.{first_lines, FirstMeets, Smallest}
 use Rattle.needs.specs.MeetLaws.{Meets, meets-facts, facts-meet, met-none, met-more, met_at, none-meets}

@@ -19,15 +19,15 @@ use Rattle.order.specs.Refusals.{
   job_rows,
   order_rows,
 }
-use Rattle.order.specs.RefusalLaws.{judge-refused-append, judge-accepted-append, counts-in-limits}
-use Rattle.order.specs.StructLaws.{job-count, processor-count}
-use Rattle.order.specs.TableLaws.{refused-told}
+use Rattle.order.proofs.RefusalLaws.{judge-refused-append, judge-accepted-append, counts-in-limits}
+use Rattle.order.proofs.StructLaws.{job-count, processor-count}
+use Rattle.order.proofs.TableLaws.{refused-told}
 use Rattle.order.specs.Table.{order_of, finding_of, acceptance_told}
 use Rattle.order.specs.declared.Order.{Order as OrderTable}
 use Rattle.order.specs.declared.Refusal.{Refusal}
 use Rattle.order.specs.declared.Acceptance.{Acceptance}
 use Rattle.order.specs.declared.Acceptance.TheVariants.{Accepted, Refused}
-use Rattle.order.specs.FindingLaws.{finding-some, finding-none}
+use Rattle.order.proofs.FindingLaws.{finding-some, finding-none}
 
 -- where the first rows refuse, the whole table answers the same
 pub stays-refused : (rows later : List TableRow) (a : Acceptance) (r : Refusal) → acceptance_told a ≡ judge rows → a ≡ Refused r →

@@ -10,8 +10,8 @@ use Rattle.sums.specs.Lists.{tabulate}
 use Rattle.order.specs.Order.{Job}
 use Rattle.order.specs.Refusals.{first, fits_some}
 use Rattle.order.specs.Table.{finding_of, job_at, order_of}
-use Rattle.order.specs.FindingLaws.{walk-found, walk_none}
-use Rattle.order.specs.RefusalLaws.{fits_some-tabulate, fits_none-tabulate}
+use Rattle.order.proofs.FindingLaws.{walk-found, walk_none}
+use Rattle.order.proofs.RefusalLaws.{fits_some-tabulate, fits_none-tabulate}
 use Rattle.order.specs.declared.Order.{Order as OrderTable}
 
 -- the first job for which a test holds, found in a walk over a struct's jobs; or none is found

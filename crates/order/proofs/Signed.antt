@@ -13,7 +13,7 @@ use mir.Syntax.{w32}
 use Rattle.order.specs.Order.{end_at}
 use Rattle.order.specs.Refusals.{due_in_range, bound_in_range}
 use Rattle.order.specs.Deadline.{cut}
-use Rattle.order.specs.EndLaws.{mag-more, mag-both, mag-end}
+use Rattle.order.proofs.EndLaws.{mag-more, mag-both, mag-end}
 
 -- the two tests of a range
 module _ (z lo hi : ℤ) (f : SFits w32 z) where

@@ -9,15 +9,7 @@ pub mod Refusals
 pub mod Callers
 pub mod Table
 pub mod Machine
-pub mod RefusalLaws
-pub mod FindingLaws
 pub mod LeftLaws
-pub mod EndLaws
-pub mod LeadLaws
-pub mod TableLaws
-pub mod StructLaws
 pub mod SortedLaws
-pub mod ClassLaws
 pub mod OrderingLaws
 pub mod Rank
-pub mod CallerLaws

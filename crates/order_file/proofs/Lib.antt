@@ -6,3 +6,4 @@ mod Padded
 mod Trailing
 mod Columns
 mod Reading
+pub mod RoundTrip

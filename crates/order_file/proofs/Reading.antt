@@ -5,10 +5,10 @@ use mathlib.Core.List.{List, ◌++◌}
 use native.Mathlib.Omega.{arith}
 use Rattle.order.specs.Order.{Order, no_order, processor_count, job_count}
 use Rattle.order.specs.Refusals.{limits, TableRow, Verdict, accepted, refused, judge, answer, count_rows, job_rows, order_rows}
-use Rattle.order.specs.RefusalLaws.{judge-refused-append, counts-in-limits}
+use Rattle.order.proofs.RefusalLaws.{judge-refused-append, counts-in-limits}
 use Rattle.order.specs.Table.{order_of, table_of, acceptance_told}
-use Rattle.order.specs.TableLaws.{refused-told}
-use Rattle.order.specs.StructLaws.{table_of-order_of}
+use Rattle.order.proofs.TableLaws.{refused-told}
+use Rattle.order.proofs.StructLaws.{table_of-order_of}
 use Rattle.order.specs.declared.Order.{Order as OrderTable}
 use Rattle.order.specs.declared.Refusal.{Refusal}
 use Rattle.order.specs.declared.Refusal.TheVariants.{BadFile}

@@ -10,7 +10,7 @@ use lib.Dec.{eqb}
 use lib.ListN.{length}
 use Rattle.order.specs.Refusals.{shortest_file, longest_file}
 use Rattle.order_file.specs.File.{processor_place, job_place, processors_of, jobs_of, lists_agree, good_file, job_width, trailer_width}
-use Rattle.order_file.specs.RoundTrip.{Agrees, lists_agree-iff, good_file-iff}
+use Rattle.order_file.proofs.RoundTrip.{Agrees, lists_agree-iff, good_file-iff}
 use Rattle.order_file.specs.Inside.{trailer_of, trailer_by, Placed}
 use Rattle.order_file.specs.declared.Lists.{Lists}
 use Rattle.order_file.specs.declared.Trailer.TheVariants.{Good, Bad}

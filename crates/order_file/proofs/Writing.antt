@@ -26,10 +26,10 @@ use Rattle.order.specs.Refusals.{
   order_rows,
   room_row,
 }
-use Rattle.order.specs.RefusalLaws.{judge-refused-append, judge-accepted-append}
-use Rattle.order.specs.StructLaws.{job-count, processor-count, few-jobs, few-processors}
+use Rattle.order.proofs.RefusalLaws.{judge-refused-append, judge-accepted-append}
+use Rattle.order.proofs.StructLaws.{job-count, processor-count, few-jobs, few-processors}
 use Rattle.order.specs.Table.{order_of, refusal_told, acceptance_told}
-use Rattle.order.specs.TableLaws.{refused-told}
+use Rattle.order.proofs.TableLaws.{refused-told}
 use Rattle.order.specs.declared.Order.{Order as OrderTable}
 use Rattle.order.specs.declared.Refusal.{Refusal}
 use Rattle.order.specs.declared.Acceptance.{Acceptance}
@@ -47,7 +47,7 @@ use Rattle.order_file.specs.File.{
   trailer_width,
 }
 use Rattle.order_file.specs.FileLaws.{length-processor_bytes, length-job_bytes}
-use Rattle.order_file.specs.RoundTrip.{Bounded, read_back}
+use Rattle.order_file.proofs.RoundTrip.{Bounded, read_back}
 use Rattle.order_file.proofs.Stores.{Front, front-more}
 
 -- what the writer answers and leaves in the buffer, by the verdict, and that it is read back

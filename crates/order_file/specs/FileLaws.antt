@@ -5,7 +5,7 @@ use Rattle.std.specs.Int.Signed.{mag}
 use Rattle.sums.specs.Lists.{All, tabulate}
 use Rattle.sums.specs.Places.{tabulate-more}
 use Rattle.order.specs.Order.{Job, no_job}
-use Rattle.order.specs.StructLaws.{same-job}
+use Rattle.order.proofs.StructLaws.{same-job}
 use Rattle.order_file.specs.Bytes.{number4, bytes4, signed, pattern}
 use Rattle.order_file.specs.ByteLaws.{four_bytes, number4-past, pattern-small, signed-pattern}
 use Rattle.order_file.specs.File.{job_in, processor_bytes, bytes_of_job, job_bytes, job_width}

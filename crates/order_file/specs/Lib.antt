@@ -5,6 +5,5 @@ pub mod Inside
 pub mod PaddedLaws
 pub mod ByteLaws
 pub mod FileLaws
-pub mod RoundTrip
 pub mod ReaderLaws
 pub mod TrailerLaws

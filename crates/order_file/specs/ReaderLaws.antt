@@ -5,9 +5,9 @@ use Rattle.std.proofs.Math.Path.{sym}
 use Rattle.std.proofs.Common.{ap, ◌∙◌}
 use Rattle.order.specs.Order.{Order}
 use Rattle.order.specs.Refusals.{limits, TableRow, Verdict, accepted, judge, answer_by, order_rows, file_row, Accepted}
-use Rattle.order.specs.RefusalLaws.{judge-accepted, judge-clear, judge-refused-append}
+use Rattle.order.proofs.RefusalLaws.{judge-accepted, judge-clear, judge-refused-append}
 use Rattle.order.specs.Table.{order_of, refusal_told, acceptance_told}
-use Rattle.order.specs.TableLaws.{refused-told, verdict-refused, verdict-accepted}
+use Rattle.order.proofs.TableLaws.{refused-told, verdict-refused, verdict-accepted}
 use Rattle.order.specs.declared.Acceptance.{Acceptance}
 use Rattle.order.specs.declared.Acceptance.TheVariants.{Accepted as Accepts, Refused as Refuses}
 use Rattle.order.specs.declared.Refusal.{Refusal}

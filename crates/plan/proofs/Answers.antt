@@ -12,15 +12,15 @@ use Rattle.sums.specs.Lists.{tabulate}
 use Rattle.order.specs.Order.{Order, job_count}
 use Rattle.order.specs.Refusals.{limits, order_rows, bound_row, rows_to_check_row, judge, TableRow, Accepted, bound_in_range}
 use Rattle.order.specs.Refusals.{Answer, answer, refusal, answer_by}
-use Rattle.order.specs.RefusalLaws.{judge-accepted-append}
-use Rattle.order.specs.TableLaws.{refused-answer}
+use Rattle.order.proofs.RefusalLaws.{judge-accepted-append}
+use Rattle.order.proofs.TableLaws.{refused-answer}
 use Rattle.order.specs.Table.{refusal_told, acceptance_told}
 use Rattle.order.specs.declared.Refusal.{Refusal}
 use Rattle.order.specs.declared.Acceptance.{Acceptance}
 use Rattle.order.specs.declared.Acceptance.TheVariants.{Refused}
 use Rattle.plan.specs.Check.{rows_of, every, every_two, no_overlap, whole_job, is_right, check_rows}
-use Rattle.plan.specs.CheckLaws.{check-judges}
-use Rattle.plan.specs.RowRanges.{all_good}
+use Rattle.plan.proofs.CheckLaws.{check-judges}
+use Rattle.plan.proofs.RowRanges.{all_good}
 
 module _ (o : Order) (bound : ℤ) (numbers : List ℕ) where
   -- what the check answers

@@ -12,7 +12,7 @@ use Rattle.spans.specs.LineLaws.{true-is-not}
 use Rattle.plan.specs.Plan.{Apart}
 use Rattle.plan.specs.Check.{row_at, rows_of, every_two, no_overlap}
 use Rattle.plan.specs.EveryLaws.{every_two-places, every_two-at}
-use Rattle.plan.specs.RuleLaws.{no-overlap-iff}
+use Rattle.plan.proofs.RuleLaws.{no-overlap-iff}
 use Rattle.plan.specs.Inside.{Ranged}
 
 -- a number lent for each row

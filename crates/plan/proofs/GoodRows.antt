@@ -10,11 +10,11 @@ use lib.Dec.{leb, eqb}
 use lib.IntN.{ℤ}
 use lib.ListN.{length}
 use Rattle.order.specs.Order.{Order}
-use Rattle.order.specs.RefusalLaws.{both_true}
+use Rattle.order.proofs.RefusalLaws.{both_true}
 use Rattle.plan.specs.Check.{row_at, rows_of, every, well_formed, by_end}
 use Rattle.plan.specs.EveryLaws.{every-places, every-fails}
-use Rattle.plan.specs.RuleLaws.{good_row}
-use Rattle.plan.specs.RowRanges.{all_good}
+use Rattle.plan.proofs.RuleLaws.{good_row}
+use Rattle.plan.proofs.RowRanges.{all_good}
 use Rattle.plan.specs.Inside.{row_of, piece_at, row_by, row_read}
 use Rattle.plan.specs.declared.Piece.{Piece}
 use Rattle.plan.specs.declared.RowRead.{RowRead}

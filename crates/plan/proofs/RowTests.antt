@@ -18,8 +18,8 @@ use Rattle.order.specs.Table.{order_of}
 use Rattle.order.specs.declared.Order.{Order as OrderTable}
 use Rattle.plan.specs.Plan.{Row}
 use Rattle.plan.specs.Check.{well_formed, by_end}
-use Rattle.plan.specs.RuleLaws.{well-formed-iff}
-use Rattle.order.specs.StructLaws.{job-count, processor-count}
+use Rattle.plan.proofs.RuleLaws.{well-formed-iff}
+use Rattle.order.proofs.StructLaws.{job-count, processor-count}
 use Rattle.plan.proofs.Orders.{job-of, memory-of}
 
 module _ (t : OrderTable) (r : Row) where

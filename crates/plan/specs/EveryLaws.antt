@@ -10,7 +10,7 @@ use Rattle.sums.specs.Lists.{All, Pairwise, tabulate}
 use Rattle.sums.specs.Members.{All-at}
 use Rattle.sums.specs.Pairs.{Pairwise-at}
 use Rattle.sums.specs.Places.{length-tabulate, get_d_tabulate}
-use Rattle.order.specs.RefusalLaws.{both_true}
+use Rattle.order.proofs.RefusalLaws.{both_true}
 use Rattle.plan.specs.Check.{every, every_two}
 
 module _ {A : Type 0} (test : A → Bool) where

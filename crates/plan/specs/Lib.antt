@@ -4,12 +4,5 @@ pub mod Check
 pub mod Told
 pub mod Inside
 pub mod EveryLaws
-pub mod RuleLaws
-pub mod RowRanges
 pub mod NumberLaws
-pub mod CheckLaws
-pub mod PartsLaws
 pub mod Join
-pub mod JoinLaws
-pub mod JoinRight
-pub mod JoinAgain

@@ -26,7 +26,7 @@ use Rattle.order.specs.Refusals.{
   Accepted,
 }
 use Rattle.order.specs.Class.{classes}
-use Rattle.order.specs.RefusalLaws.{
+use Rattle.order.proofs.RefusalLaws.{
   judge-accepted,
   judge-refused-append,
   judge-accepted-append,
@@ -35,7 +35,7 @@ use Rattle.order.specs.RefusalLaws.{
   accepted-iff,
 }
 use Rattle.order.specs.Table.{refusal_told, acceptance_told}
-use Rattle.order.specs.TableLaws.{refused-told}
+use Rattle.order.proofs.TableLaws.{refused-told}
 use Rattle.order.specs.declared.Acceptance.{Acceptance}
 use Rattle.order.specs.declared.Acceptance.TheVariants.{Accepted as Accepts, Refused as Refuses}
 use Rattle.order.specs.declared.Refusal.{Refusal}
@@ -43,7 +43,7 @@ use Rattle.order.specs.declared.Refusal.TheVariants.{BoundOutOfRange, BufferTooS
 use Rattle.plan.specs.IsLeast.{IsLeast}
 use Rattle.profile.specs.Least.{least_lateness}
 use Rattle.profile.specs.Reason.{Reason, over_end, stairs}
-use Rattle.profile.specs.ReasonLaws.{NoReason, reason-none}
+use Rattle.profile.proofs.ReasonLaws.{NoReason, reason-none}
 use Rattle.profile.specs.Search.{Found, nothing, found, reason_of}
 use Rattle.reason.specs.Told.{sixteen, why_of, why_told}
 use Rattle.reason.specs.ToldLaws.{why-told}
@@ -65,9 +65,9 @@ use Rattle.planner.specs.Judged.{judged_told, tightness_judged, why_judged, Judg
 use Rattle.planner.specs.Written.{Written, BufferBy}
 use Rattle.planner.specs.Making.{MadeOf}
 use Rattle.profile.specs.LeastRead.{read-least}
-use Rattle.order.specs.LeadLaws.{workable}
-use Rattle.profile.specs.LeastRange.{least-in-range}
-use Rattle.profile.specs.Threshold.{no-reason-from}
+use Rattle.order.proofs.LeadLaws.{workable}
+use Rattle.profile.proofs.LeastRange.{least-in-range}
+use Rattle.profile.proofs.Threshold.{no-reason-from}
 use lib.Signed.{≤ℤ_refl}
 use mir.Val.{to_z, of_z}
 use mir.Syntax.{w32}

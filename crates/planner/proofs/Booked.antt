@@ -7,9 +7,9 @@ use mathlib.Core.List.{List, [], ◌∷◌, ◌++◌}
 use lib.IntN.{ℤ}
 use Rattle.order.specs.Order.{Order}
 use Rattle.order.specs.Refusals.{TableRow, Verdict, accepted, refused, judge, answer_by}
-use Rattle.order.specs.RefusalLaws.{judge-refused-append, judge-accepted-append}
+use Rattle.order.proofs.RefusalLaws.{judge-refused-append, judge-accepted-append}
 use Rattle.order.specs.Table.{acceptance_told}
-use Rattle.order.specs.TableLaws.{refused-told}
+use Rattle.order.proofs.TableLaws.{refused-told}
 use Rattle.order.specs.declared.Acceptance.TheVariants.{Accepted as Accepts, Refused as Refuses}
 use Rattle.order.specs.declared.Refusal.{Refusal}
 use Rattle.order.specs.declared.Refusal.TheVariants.{BookFull}

@@ -11,8 +11,8 @@ use lib.ListN.{length, get_or, drop}
 use Rattle.sums.specs.Arrays.{RowOf}
 use Rattle.order.specs.Order.{Order}
 use Rattle.order.specs.Lead.{last_due, reach_at}
-use Rattle.order.specs.LeadLaws.{workable}
-use Rattle.order.specs.RefusalLaws.{Acceptable, accepted-iff}
+use Rattle.order.proofs.LeadLaws.{workable}
+use Rattle.order.proofs.RefusalLaws.{Acceptable, accepted-iff}
 use Rattle.order.specs.SortedLaws.{dues-few}
 use Rattle.plan.specs.Check.{numbers_of}
 use Rattle.plan.specs.Join.{joined}
@@ -20,10 +20,10 @@ use Rattle.plan.specs.Plan.{Row}
 use Rattle.wrap.specs.Stretches.{FeasibleFor}
 use Rattle.wrap.specs.Marks.{mark-up}
 use Rattle.wrap.specs.Layout.{layout}
-use Rattle.wrap.specs.LayoutJoined.{joined-few, joined-plan}
+use Rattle.wrap.proofs.LayoutJoined.{joined-few, joined-plan}
 use Rattle.wrap.specs.Flows.{amount_in}
 use Rattle.wrap.specs.Frame.{Frame, Rising}
-use Rattle.wrap.specs.FrameBase.{base_frame, layout_is, feasible-in}
+use Rattle.wrap.proofs.FrameBase.{base_frame, layout_is, feasible-in}
 use Rattle.engine.specs.View.{grid, Answer}
 use Rattle.engine.specs.Run.{RunOf}
 use Rattle.table.specs.Held.{by_number}
@@ -33,7 +33,7 @@ use Rattle.allot.specs.Flows.{flow_on, Long, Sized}
 use Rattle.allot.specs.InFrame.{Agrees}
 use Rattle.allot.specs.LaidInFrame.{planned-is, planned-given}
 use Rattle.allot.specs.GridMarks.{lent-agrees}
-use Rattle.allot.specs.Feasible.{tabled-sized, tabled-feasible, tabled-chosen}
+use Rattle.allot.proofs.Feasible.{tabled-sized, tabled-feasible, tabled-chosen}
 use Rattle.layout.specs.Laid.{Numbered}
 use Rattle.layout.specs.Planned.{frame_lent, lent_frame, planned, Joinable}
 use Rattle.planner.specs.RowLaws.{asked-few}

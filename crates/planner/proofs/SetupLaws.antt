@@ -7,7 +7,7 @@ use lib.Dec.{ltb}
 use Rattle.order.specs.Order.{Order}
 use Rattle.order.specs.Lead.{last_due}
 use Rattle.order.specs.Refusals.{Accepted}
-use Rattle.order.specs.RefusalLaws.{accepted-iff}
+use Rattle.order.proofs.RefusalLaws.{accepted-iff}
 use Rattle.table.specs.Tabled.{Tabled}
 use Rattle.table.specs.declared.Table.{Table}
 use Rattle.allot.specs.GridMarks.{grid-counted}

@@ -5,7 +5,7 @@ use Rattle.std.proofs.Common.{sym, ap, ◌∙◌, subst, append_assoc}
 use Rattle.order.specs.Order.{Order}
 use Rattle.order.specs.Refusals.{limits, TableRow, Verdict, accepted, refused, judge, answer_by, order_rows, bound_row, tight_row}
 use Rattle.order.specs.Table.{refusal_told, number_by}
-use Rattle.order.specs.TableLaws.{refused-told, not-ten, refused-by, verdict-refused, verdict-accepted}
+use Rattle.order.proofs.TableLaws.{refused-told, not-ten, refused-by, verdict-refused, verdict-accepted}
 use Rattle.order.specs.declared.Refusal.{Refusal}
 use Rattle.profile.specs.Least.{least_lateness}
 use Rattle.profile.specs.Reason.{Reason as TightReason}

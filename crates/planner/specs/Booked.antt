@@ -5,10 +5,10 @@ use Rattle.sums.specs.Lists.{total, nth}
 use Rattle.sums.specs.Members.{All-of-map, in-All}
 use Rattle.order.specs.Order.{Order, Numbers}
 use Rattle.order.specs.Refusals.{limits, most_makers, refused, judge, order_rows, bound_row, tight_row}
-use Rattle.order.specs.RefusalLaws.{accepted-first}
+use Rattle.order.proofs.RefusalLaws.{accepted-first}
 use Rattle.book.specs.Book.{opened, minutes_for, minutes_of, most_booked, booked_by}
 use Rattle.book.specs.Calls.{Call, judged_with, given_back, book_after, orders_written}
-use Rattle.book.specs.CallLaws.{refused-left-out, Judges, book-counts, book-sum, book-most}
+use Rattle.book.proofs.CallLaws.{refused-left-out, Judges, book-counts, book-sum, book-most}
 use Rattle.profile.specs.Search.{reason_of}
 use Rattle.planner.specs.Rows.{buffer_row, is_found, least_rows, earlier_rows, plan_rows, booked_least_rows, booked_plan_rows}
 

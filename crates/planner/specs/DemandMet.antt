@@ -4,15 +4,15 @@ use Rattle.std.proofs.Common.{sym, ap, ◌∙◌, inl, inr, arith, leb→le}
 use Rattle.order.specs.Order.{Order}
 use Rattle.order.specs.Whole.{le-or-lt}
 use Rattle.order.specs.Lead.{last_due, Workable}
-use Rattle.order.specs.LeadLaws.{workable}
+use Rattle.order.proofs.LeadLaws.{workable}
 use Rattle.order.specs.Refusals.{judge, accepted, refused, tight_row, Accepted}
-use Rattle.order.specs.RefusalLaws.{accepted-iff, judge-accepted-append}
+use Rattle.order.proofs.RefusalLaws.{accepted-iff, judge-accepted-append}
 use Rattle.plan.specs.Plan.{Row, Meets}
 use Rattle.profile.specs.Least.{least_lateness}
 use Rattle.profile.specs.Reason.{Reason}
-use Rattle.profile.specs.ReasonLaws.{reason-found, reason-exceeds}
+use Rattle.profile.proofs.ReasonLaws.{reason-found, reason-exceeds}
 use Rattle.profile.specs.Search.{Found, found, nothing, reason_of}
-use Rattle.profile.specs.Threshold.{reason-below, threshold}
+use Rattle.profile.proofs.Threshold.{reason-below, threshold}
 use Rattle.feasible.specs.Least.{is-least}
 use Rattle.planner.specs.Rows.{is_found, earlier_rows, plan_rows}
 use Rattle.planner.specs.Demand.{Demand3}

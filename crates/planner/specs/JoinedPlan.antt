@@ -5,12 +5,12 @@ use Rattle.sums.specs.Lists.{Pairwise}
 use Rattle.order.specs.Order.{Order}
 use Rattle.plan.specs.Plan.{Row}
 use Rattle.plan.specs.Join.{joined}
-use Rattle.plan.specs.JoinLaws.{joined-count}
-use Rattle.plan.specs.JoinAgain.{Separate}
+use Rattle.plan.proofs.JoinLaws.{joined-count}
+use Rattle.plan.proofs.JoinAgain.{Separate}
 use Rattle.wrap.specs.Layout.{layout}
-use Rattle.wrap.specs.FrameBase.{base_frame}
-use Rattle.wrap.specs.Joined.{BeginsBefore}
-use Rattle.wrap.specs.LayoutJoined.{joined-few, plan-separate, plan-again, plan-ordered}
+use Rattle.wrap.proofs.FrameBase.{base_frame}
+use Rattle.wrap.proofs.Joined.{BeginsBefore}
+use Rattle.wrap.proofs.LayoutJoined.{joined-few, plan-separate, plan-again, plan-ordered}
 use Rattle.planner.specs.Rows.{rows_asked}
 use Rattle.planner.specs.Written.{PlanOf}
 

@@ -3,7 +3,7 @@ use Rattle.std.specs.Prelude.{ℕ, ◌*◌, ◌≤◌, ◌≡◌, true, List, �
 use Rattle.order.specs.Order.{Order}
 use Rattle.order.specs.Lead.{last_due}
 use Rattle.order.specs.Refusals.{Accepted, bound_in_range}
-use Rattle.profile.specs.ReasonLaws.{NoReason}
+use Rattle.profile.proofs.ReasonLaws.{NoReason}
 use Rattle.table.specs.Tabled.{Tabled}
 use Rattle.table.specs.declared.Table.{Table}
 use Rattle.planner.specs.Rows.{rows_asked}

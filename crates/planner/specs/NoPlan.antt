@@ -4,15 +4,15 @@ use Rattle.std.proofs.Common.{ap, ◌∙◌, subst, arith}
 use Rattle.sums.specs.Lists.{In}
 use Rattle.order.specs.Order.{Order}
 use Rattle.order.specs.Lead.{last_due, Workable}
-use Rattle.order.specs.LeadLaws.{workable}
+use Rattle.order.proofs.LeadLaws.{workable}
 use Rattle.order.specs.Refusals.{Accepted}
-use Rattle.order.specs.RefusalLaws.{accepted-iff}
+use Rattle.order.proofs.RefusalLaws.{accepted-iff}
 use Rattle.plan.specs.Plan.{Row, RightInParts, Meets}
 use Rattle.profile.specs.Reason.{Reason, IsReason, Stands, owed_of, on_hand_of}
-use Rattle.profile.specs.ReasonLaws.{reason-found, reason-none, reason-exceeds}
+use Rattle.profile.proofs.ReasonLaws.{reason-found, reason-none, reason-exceeds}
 use Rattle.profile.specs.Search.{Found, nothing, found, reason_of}
 use Rattle.profile.specs.Standing.{reasons_at, head_of}
-use Rattle.profile.specs.StandingLaws.{reasons-are, reason-first}
+use Rattle.profile.proofs.StandingLaws.{reasons-are, reason-first}
 use Rattle.feasible.specs.Sound.{no-reason-where-met}
 use Rattle.feasible.specs.Complete.{complete}
 

@@ -3,9 +3,9 @@ use Rattle.std.specs.Prelude.{ℕ, ◌+◌, ◌-◌, ◌≤◌, List, ℤ, lengt
 use Rattle.std.proofs.Common.{ap, arith, mul-le-mul_left, mul-le-mul_right}
 use Rattle.order.specs.Order.{Order, processor_count, job_count}
 use Rattle.order.specs.Refusals.{Accepted}
-use Rattle.order.specs.RefusalLaws.{accepted-iff}
+use Rattle.order.proofs.RefusalLaws.{accepted-iff}
 use Rattle.wrap.specs.Stretches.{stretch_count}
-use Rattle.wrap.specs.LayoutJoined.{joined-few}
+use Rattle.wrap.proofs.LayoutJoined.{joined-few}
 use Rattle.order.specs.SortedLaws.{dues-few}
 use Rattle.planner.specs.Rows.{rows_asked}
 use Rattle.planner.specs.Written.{Written}

@@ -8,12 +8,12 @@ use Rattle.sums.specs.Lists.{tabulate}
 use Rattle.sums.specs.Places.{get_d_tabulate}
 use Rattle.order.specs.Order.{Order}
 use Rattle.order.specs.Lead.{last_due, reach_at}
-use Rattle.order.specs.LeadLaws.{workable}
+use Rattle.order.proofs.LeadLaws.{workable}
 use Rattle.order.specs.Refusals.{Accepted, TableRow, room_row, tight_row}
-use Rattle.order.specs.RefusalLaws.{accepted-iff}
+use Rattle.order.proofs.RefusalLaws.{accepted-iff}
 use Rattle.plan.specs.Join.{joined}
 use Rattle.plan.specs.Plan.{Row}
-use Rattle.wrap.specs.FrameBase.{base_frame, layout_is}
+use Rattle.wrap.proofs.FrameBase.{base_frame, layout_is}
 use Rattle.wrap.specs.Marks.{mark-up}
 use Rattle.table.specs.Held.{Reading, by_number, by_place, ReadingOf}
 use Rattle.table.specs.HeldLaws.{held-read, input-read}

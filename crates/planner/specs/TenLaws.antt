@@ -23,7 +23,7 @@ use Rattle.order.specs.Refusals.{
   Accepted,
   bound_in_range,
 }
-use Rattle.order.specs.RefusalLaws.{
+use Rattle.order.proofs.RefusalLaws.{
   judge-accepted,
   judge-accepted-append,
   judge-refused-append,

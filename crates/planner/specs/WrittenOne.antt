@@ -6,7 +6,7 @@ use Rattle.order.specs.Refusals.{Verdict, accepted, refused}
 use Rattle.plan.specs.Plan.{Row}
 use Rattle.plan.specs.Check.{numbers_of}
 use Rattle.plan.specs.Join.{joined}
-use Rattle.wrap.specs.FrameBase.{base_frame, layout_is}
+use Rattle.wrap.proofs.FrameBase.{base_frame, layout_is}
 use Rattle.wrap.specs.LayoutSame.{layout-in-same}
 use Rattle.allot.specs.Chosen.{chosen-one}
 use Rattle.planner.specs.Written.{PlanOf, Written, BufferBy}

@@ -7,7 +7,7 @@ use Rattle.sums.specs.Most.{ceiling, largest-le, le-largest, most-le, most-ge, c
 use Rattle.order.specs.Order.{Job, Order}
 use Rattle.order.specs.Sorted.{due_times}
 use Rattle.order.specs.Class.{classes, processors_to}
-use Rattle.order.specs.ClassLaws.{processors_to-some}
+use Rattle.order.proofs.ClassLaws.{processors_to-some}
 use Rattle.order.specs.Lead.{lead}
 use Rattle.profile.specs.Search.{choices}
 use Rattle.profile.specs.Least.{weight_from, heaviest, least_reach}

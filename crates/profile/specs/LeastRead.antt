@@ -2,7 +2,7 @@
 use Rattle.std.specs.Prelude.{◌≡◌, true, ℤ}
 use Rattle.std.proofs.Common.{ap, ◌∙◌, arith, to_z, of_z}
 use Rattle.std.specs.Int.{w32}
-use Rattle.order.specs.EndLaws.{mag-range}
+use Rattle.order.proofs.EndLaws.{mag-range}
 use Rattle.order.specs.Machine.{machine-back}
 use Rattle.order.specs.Refusals.{bound_in_range}
 

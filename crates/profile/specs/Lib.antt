@@ -2,15 +2,6 @@ pub mod Profile
 pub mod Reason
 pub mod Search
 pub mod Least
-pub mod Ranking
-pub mod SearchLaws
-pub mod ReasonLaws
 pub mod Standing
-pub mod StandingLaws
-pub mod MinutesLaws
-pub mod Weights
 pub mod LeastLaws
-pub mod RiseLaws
-pub mod Threshold
-pub mod LeastRange
 pub mod LeastRead

@@ -10,7 +10,7 @@ use lib.Dec.{ltb}
 use Rattle.sums.specs.Lists.{nth, tabulate}
 use Rattle.order.specs.Order.{Numbers}
 use Rattle.order.specs.Refusals.{first}
-use Rattle.order.specs.RefusalLaws.{first-tabulate, none-tabulate}
+use Rattle.order.proofs.RefusalLaws.{first-tabulate, none-tabulate}
 use Rattle.order.specs.Table.{finding_of}
 use Rattle.table.specs.Held.{beside, by_number}
 use Rattle.table.specs.HeldLaws.{value-at}

@@ -20,7 +20,7 @@ use Rattle.table.specs.Tabled.{TabledBy}
 use Rattle.table.specs.declared.Table.{Table}
 use Rattle.stairs.specs.Places.{profiles, value, best}
 use Rattle.reason.specs.Asked.{owed_by, minutes_at, weight, procs_to, latest_of, least_for, least_reach_of}
-use Rattle.order.specs.LeadLaws.{lead-due}
+use Rattle.order.proofs.LeadLaws.{lead-due}
 use Rattle.reason.specs.Choices.{largest-image, largest-agree, choices-places, profiles-sized, Sized}
 
 module _ {number : ℕ → ℕ} (o : Order) (t : Table) (m : TabledBy number last_due o t) where

@@ -5,7 +5,7 @@ use Rattle.std.proofs.Common.{ap, ◌∙◌}
 use Rattle.order.specs.Order.{Order}
 use Rattle.order.specs.Lead.{bound_at, reach_at, last_due}
 use Rattle.order.specs.Refusals.{Accepted}
-use Rattle.order.specs.RefusalLaws.{accepted-iff}
+use Rattle.order.proofs.RefusalLaws.{accepted-iff}
 use Rattle.table.specs.Held.{by_place}
 use Rattle.table.specs.HeldLaws.{input-read}
 use Rattle.table.specs.Tabled.{Tabled, InInputOrder}

@@ -14,12 +14,12 @@ use Rattle.sums.specs.Members.{All-map, All-at, All-from}
 use Rattle.order.specs.Order.{Order, Job, job_count, job_of, no_job, end_of}
 use Rattle.order.specs.Sorted.{due_times}
 use Rattle.order.specs.Refusals.{Finding, clear, holds, first_after, first}
-use Rattle.order.specs.RefusalLaws.{Acceptable, first-clear}
+use Rattle.order.proofs.RefusalLaws.{Acceptable, first-clear}
 use Rattle.profile.specs.Search.{Found, nothing, found, is_overfull, first_overfull, first_over_end, reason_by, reason_of}
 use Rattle.order.specs.Lead.{lead, reach_at, last_due, Workable}
-use Rattle.order.specs.LeadLaws.{late-reach, workable}
+use Rattle.order.proofs.LeadLaws.{late-reach, workable}
 use Rattle.sums.specs.Downwards.{in-down}
-use Rattle.profile.specs.Threshold.{overfull-reach}
+use Rattle.profile.proofs.Threshold.{overfull-reach}
 use Rattle.table.specs.Held.{Reading, by_number, ReadingOf}
 use Rattle.table.specs.HeldLaws.{held-read}
 use Rattle.table.specs.Tabled.{TabledBy, Tabled}

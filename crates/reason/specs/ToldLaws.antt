@@ -5,7 +5,7 @@ use Rattle.sums.specs.Places.{take-tabulate}
 use Rattle.order.specs.Order.{Order}
 use Rattle.order.specs.Class.{classes}
 use Rattle.profile.specs.Reason.{Reason as TightReason, over_end, stairs}
-use Rattle.profile.specs.ReasonLaws.{reason-found}
+use Rattle.profile.proofs.ReasonLaws.{reason-found}
 use Rattle.profile.specs.Search.{Found, found, nothing, reason_of}
 use Rattle.reason.specs.Told.{why_of, why_told}
 use Rattle.reason.specs.declared.Why.{Why}

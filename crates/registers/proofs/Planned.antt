@@ -12,8 +12,8 @@ use Rattle.order.specs.Order.{Order, no_order, processor_count, job_count}
 use Rattle.order.specs.Refusals.{screen, Verdict, accepted, refused, judge, answer_by}
 use Rattle.order.specs.Callers.{Within, rows_for}
 use Rattle.order.specs.Table.{order_of, table_of, refusal_told, number_by}
-use Rattle.order.specs.RefusalLaws.{accepted≢refused}
-use Rattle.order.specs.TableLaws.{refused-told}
+use Rattle.order.proofs.RefusalLaws.{accepted≢refused}
+use Rattle.order.proofs.TableLaws.{refused-told}
 use Rattle.order.specs.declared.Acceptance.TheVariants.{Accepted as Accepts, Refused as Refuses}
 use Rattle.order.specs.declared.Caller.TheVariants.{Screen}
 use Rattle.order.specs.declared.Refusal.{Refusal}

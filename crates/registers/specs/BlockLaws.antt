@@ -25,8 +25,8 @@ use Rattle.order.specs.Refusals.{
   order_rows,
   file_row,
 }
-use Rattle.order.specs.RefusalLaws.{judge-accepted, accepted-first, whole-clear, both_true}
-use Rattle.order.specs.CallerLaws.{numbered, screen-jobs}
+use Rattle.order.proofs.RefusalLaws.{judge-accepted, accepted-first, whole-clear, both_true}
+use Rattle.order.proofs.CallerLaws.{numbered, screen-jobs}
 use Rattle.order_file.specs.Bytes.{number4, bytes4}
 use Rattle.order_file.specs.File.{
   job_width,

@@ -7,7 +7,7 @@ use Rattle.std.proofs.Math.ListN.{get_or-eq_default}
 use Rattle.std.proofs.Math.Seq.{drop-append-add}
 use Rattle.sums.specs.Lists.{All, tabulate, nth}
 use Rattle.sums.specs.Places.{length-tabulate, get_d_tabulate}
-use Rattle.order.specs.RefusalLaws.{both_true}
+use Rattle.order.proofs.RefusalLaws.{both_true}
 use Rattle.order_file.specs.Bytes.{bytes4}
 use Rattle.plan.specs.Plan.{Row}
 use Rattle.plan.specs.Check.{numbers_of, row_at}

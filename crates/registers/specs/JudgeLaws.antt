@@ -5,10 +5,10 @@ use Rattle.std.proofs.Math.Path.{refl, sym, ap}
 use Rattle.std.proofs.Common.{◌∙◌, arith, mul-le-mul_left, mul-le-mul_right, le-ltb, lt-ltb}
 use Rattle.order.specs.Order.{Order, processor_count, job_count}
 use Rattle.order.specs.Refusals.{limits, screen, accepted, refused, clear, judge, count_rows, order_rows, bound_row, tight_row}
-use Rattle.order.specs.RefusalLaws.{judge-accepted, judge-refused-append, judge-accepted-append, accepted-first}
+use Rattle.order.proofs.RefusalLaws.{judge-accepted, judge-refused-append, judge-accepted-append, accepted-first}
 use Rattle.order.specs.SortedLaws.{dues-few}
 use Rattle.order.specs.Callers.{Within, rows_by, rows_for}
-use Rattle.order.specs.CallerLaws.{counts-within, same-within}
+use Rattle.order.proofs.CallerLaws.{counts-within, same-within}
 use Rattle.order.specs.declared.Caller.TheVariants.{Screen}
 use Rattle.order_file.specs.File.{read_rows}
 use Rattle.plan.specs.Plan.{Row}

@@ -24,9 +24,9 @@ use Rattle.order.specs.Refusals.{
   Accepted,
   bound_in_range,
 }
-use Rattle.order.specs.RefusalLaws.{judge-accepted-append, judge-refused-append}
+use Rattle.order.proofs.RefusalLaws.{judge-accepted-append, judge-refused-append}
 use Rattle.order.specs.Table.{refusal_told, acceptance_told}
-use Rattle.order.specs.TableLaws.{refused-told}
+use Rattle.order.proofs.TableLaws.{refused-told}
 use Rattle.order.specs.declared.Acceptance.{Acceptance}
 use Rattle.order.specs.declared.Acceptance.TheVariants.{Refused}
 use Rattle.order.specs.declared.Refusal.{Refusal}

@@ -10,7 +10,7 @@ use Rattle.sums.specs.Lists.{nth}
 use Rattle.sums.specs.Places.{get_d_tabulate}
 use Rattle.order.specs.Order.{Order, processor_count}
 use Rattle.order.specs.Class.{classes}
-use Rattle.order.specs.ClassLaws.{classes-few}
+use Rattle.order.proofs.ClassLaws.{classes-few}
 use Rattle.table.specs.Passed.{listing}
 use Rattle.table.specs.declared.Listing.{Listing}
 use Rattle.sentence.specs.Line.{between, class_text, classes_from}

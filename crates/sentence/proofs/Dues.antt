@@ -16,12 +16,12 @@ use Rattle.sums.specs.Lists.{In}
 use Rattle.sums.specs.Places.{get_d_tabulate}
 use Rattle.order.specs.Machine.{machine-back}
 use Rattle.order.specs.Order.{Order, Job, no_job, job_count, Numbers, job_of}
-use Rattle.order.specs.RefusalLaws.{le_z-true, true-le_z}
+use Rattle.order.proofs.RefusalLaws.{le_z-true, true-le_z}
 use Rattle.order.specs.Sorted.{due_times}
 use Rattle.order.specs.Table.{order_of, job_at}
-use Rattle.order.specs.StructLaws.{job-count}
+use Rattle.order.proofs.StructLaws.{job-count}
 use Rattle.order.specs.declared.Order.{Order as OrderTable}
-use Rattle.profile.specs.SearchLaws.{due_in, in-due}
+use Rattle.profile.proofs.SearchLaws.{due_in, in-due}
 use Rattle.profile.specs.Standing.{same_z}
 use Rattle.sentence.specs.Handed.{all_zero}
 use Rattle.sentence.specs.Inside.{StepFits}

@@ -16,11 +16,11 @@ use Rattle.sums.specs.Members.{All-nth}
 use Rattle.sums.specs.Places.{get_d_tabulate}
 use Rattle.order.specs.Order.{Order, Job, no_job, job_count, Numbers, job_of, end_at, end_of}
 use Rattle.order.specs.Table.{order_of, job_at}
-use Rattle.order.specs.EndLaws.{mag-end}
+use Rattle.order.proofs.EndLaws.{mag-end}
 use Rattle.order.specs.Machine.{machine-back, machine-low}
 use Rattle.order.specs.Refusals.{Accepted, due_in_range, bound_in_range}
-use Rattle.order.specs.RefusalLaws.{accepted-iff, le_z-true, true-le_z}
-use Rattle.order.specs.StructLaws.{job-count, due-in-range-at}
+use Rattle.order.proofs.RefusalLaws.{accepted-iff, le_z-true, true-le_z}
+use Rattle.order.proofs.StructLaws.{job-count, due-in-range-at}
 use Rattle.order.specs.Whole.{le-or-lt}
 use Rattle.order.specs.declared.Order.{Order as OrderTable}
 use Rattle.profile.specs.Reason.{over_end, OverEnd, Stands}

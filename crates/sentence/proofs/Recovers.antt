@@ -13,7 +13,7 @@ use lib.Seq.{drop-cons}
 use Rattle.sums.specs.Places.{get_d_tabulate}
 use Rattle.sums.specs.Same.{same_list}
 use Rattle.order.specs.Order.{Job as OrderJob, Order, no_job, job_of}
-use Rattle.order.specs.StructLaws.{job-count}
+use Rattle.order.proofs.StructLaws.{job-count}
 use Rattle.order.specs.Table.{order_of, job_at}
 use Rattle.order.specs.declared.Order.{Order as OrderTable}
 use Rattle.reason.specs.Told.{sixteen}

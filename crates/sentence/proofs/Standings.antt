@@ -10,11 +10,11 @@ use Rattle.order.specs.Class.{classes}
 use Rattle.order.specs.Lead.{reach_at, last_due}
 use Rattle.order.specs.Order.{Order, processor_count, job_count, Numbers, job_of}
 use Rattle.order.specs.Refusals.{clear, first}
-use Rattle.order.specs.RefusalLaws.{Acceptable}
+use Rattle.order.proofs.RefusalLaws.{Acceptable}
 use Rattle.order.specs.Table.{finding_of}
 use Rattle.profile.specs.Profile.{minutes_owed}
 use Rattle.profile.specs.Reason.{InTime, stairs, Stands}
-use Rattle.profile.specs.ReasonLaws.{none-over-end}
+use Rattle.profile.proofs.ReasonLaws.{none-over-end}
 use Rattle.profile.specs.Search.{found, first_over_end}
 use Rattle.reason.specs.Asked.{late}
 use Rattle.reason.specs.Telling.{same-job}

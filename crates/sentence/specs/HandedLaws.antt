@@ -4,7 +4,7 @@ use Rattle.std.proofs.Common.{sym, ap, ◌∙◌, arith, eqb-true, eq-eqb, leb-t
 use Rattle.sums.specs.Lists.{tabulate}
 use Rattle.sums.specs.Places.{take-tabulate}
 use Rattle.order.specs.Order.{Order, job_of}
-use Rattle.order.specs.RefusalLaws.{both_true}
+use Rattle.order.proofs.RefusalLaws.{both_true}
 use Rattle.profile.specs.Reason.{Reason as TightReason, over_end, stairs}
 use Rattle.profile.specs.Search.{nothing, found}
 use Rattle.profile.specs.Standing.{same_z}

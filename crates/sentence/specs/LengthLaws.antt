@@ -8,11 +8,11 @@ use Rattle.sums.specs.Lists.{All, nth}
 use Rattle.sums.specs.Members.{All-in, in-All, All-nth}
 use Rattle.order.specs.Order.{Job, Order, no_job, job_of, end_of}
 use Rattle.order.specs.Class.{classes}
-use Rattle.order.specs.ClassLaws.{classes-few, class-in-memories}
-use Rattle.order.specs.EndLaws.{mag-end, mag-range}
+use Rattle.order.proofs.ClassLaws.{classes-few, class-in-memories}
+use Rattle.order.proofs.EndLaws.{mag-end, mag-range}
 use Rattle.order.specs.Refusals.{Accepted, due_in_range, bound_in_range}
-use Rattle.order.specs.RefusalLaws.{accepted-iff, dues-in-range}
-use Rattle.profile.specs.MinutesLaws.{minutes-owed-most, dues-range, stands-natural}
+use Rattle.order.proofs.RefusalLaws.{accepted-iff, dues-in-range}
+use Rattle.profile.proofs.MinutesLaws.{minutes-owed-most, dues-range, stands-natural}
 use Rattle.profile.specs.Profile.{minutes_owed, minutes_on_hand}
 use Rattle.profile.specs.Reason.{Reason, over_end, stairs, Stands}
 use Rattle.text.specs.Text.{ascii, decimal, number, signed_number}

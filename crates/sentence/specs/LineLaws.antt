@@ -11,16 +11,16 @@ use Rattle.sums.specs.Members.{All-map}
 use Rattle.sums.specs.Places.{take-tabulate}
 use Rattle.sums.specs.Same.{Tells, same_list, list_tells}
 use Rattle.order.specs.Order.{Order}
-use Rattle.order.specs.ClassLaws.{classes-few}
-use Rattle.order.specs.EndLaws.{mag-range}
+use Rattle.order.proofs.ClassLaws.{classes-few}
+use Rattle.order.proofs.EndLaws.{mag-range}
 use Rattle.order.specs.Refusals.{Accepted}
-use Rattle.order.specs.RefusalLaws.{accepted-iff}
-use Rattle.profile.specs.MinutesLaws.{dues-range}
+use Rattle.order.proofs.RefusalLaws.{accepted-iff}
+use Rattle.profile.proofs.MinutesLaws.{dues-range}
 use Rattle.profile.specs.Reason.{Reason, over_end, stairs, Stands, owed_of, on_hand_of}
 use Rattle.profile.specs.Search.{Found, nothing, found}
-use Rattle.profile.specs.SearchLaws.{found-passes, nothing-passes}
+use Rattle.profile.proofs.SearchLaws.{found-passes, nothing-passes}
 use Rattle.profile.specs.Standing.{reasons_at, is_standing}
-use Rattle.profile.specs.StandingLaws.{reasons-are, standing-is}
+use Rattle.profile.proofs.StandingLaws.{reasons-are, standing-is}
 use Rattle.reason.specs.Told.{why_of, why_told}
 use Rattle.sentence.specs.Line.{subject_of, sums_text, line_of, composed, read_back}
 use Rattle.sentence.specs.Scanning.{candidate}

@@ -8,7 +8,7 @@ use Rattle.sums.specs.Pairs.{Pairwise-at, Pairwise-from}
 use Rattle.order.specs.Order.{Order}
 use Rattle.order.specs.Sorted.{due_times}
 use Rattle.order.specs.Whole.{≤ℤ-trans}
-use Rattle.profile.specs.Ranking.{Chosen}
+use Rattle.profile.proofs.Ranking.{Chosen}
 use Rattle.sentence.specs.Inside.{StepsFit}
 
 module _ (o : Order) (dues : List ℤ) (k : ℕ) (few : k ≤ length dues) where

@@ -8,14 +8,14 @@ use Rattle.sums.specs.Totals.{sum_first}
 use Rattle.order.specs.Order.{Job, Order, job_count, Numbers, no_job, job_of, end_at, end_of}
 use Rattle.order.specs.Class.{classes, processors_in}
 use Rattle.order.specs.Lead.{lead, reach_at, last_due}
-use Rattle.order.specs.LeadLaws.{in-time-reach, end-reach, due-by-last}
+use Rattle.order.proofs.LeadLaws.{in-time-reach, end-reach, due-by-last}
 use Rattle.order.specs.Refusals.{due_in_range}
-use Rattle.order.specs.RefusalLaws.{Acceptable, dues-in-range}
+use Rattle.order.proofs.RefusalLaws.{Acceptable, dues-in-range}
 use Rattle.order.specs.Whole.{pos-lt, pos-cut}
 use Rattle.profile.specs.Profile.{class_owes, owed_from, on_hand_from, minutes_owed, minutes_on_hand}
 use Rattle.profile.specs.Reason.{InTime, stairs, Stands}
-use Rattle.profile.specs.SearchLaws.{in-due, profile-chosen, chosen-profile}
-use Rattle.profile.specs.Weights.{Reached, class-owes}
+use Rattle.profile.proofs.SearchLaws.{in-due, profile-chosen, chosen-profile}
+use Rattle.profile.proofs.Weights.{Reached, class-owes}
 use Rattle.table.specs.Tabled.{Tabled}
 use Rattle.table.specs.declared.Table.{Table}
 use Rattle.reason.specs.Asked.{owes_by}

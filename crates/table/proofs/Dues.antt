@@ -13,8 +13,8 @@ use Rattle.order.specs.Machine.{machine-back}
 use Rattle.order.specs.Order.{end_at}
 use Rattle.order.specs.Refusals.{due_in_range}
 use Rattle.order.specs.Lead.{lead, due_at, bound_at, last_due}
-use Rattle.order.specs.EndLaws.{mag_sum}
-use Rattle.order.specs.LeadLaws.{lead-whole, due-by-last, lead-most, due-small, bound-small}
+use Rattle.order.proofs.EndLaws.{mag_sum}
+use Rattle.order.proofs.LeadLaws.{lead-whole, due-by-last, lead-most, due-small, bound-small}
 
 pub due-fits : (n : ℕ) → n ≤ 2000000 → SFits w32 (due_at last_due n)
 due-fits n h = record { sfits = due-small n h }

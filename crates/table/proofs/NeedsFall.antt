@@ -9,10 +9,10 @@ use Rattle.sums.specs.Pairs.{Pairwise-at}
 use Rattle.sums.specs.Places.{get_d_tabulate}
 use Rattle.order.specs.Order.{Job, Numbers, processor_count, job_of, no_job}
 use Rattle.order.specs.Class.{class_of}
-use Rattle.order.specs.ClassLaws.{class-at-most}
+use Rattle.order.proofs.ClassLaws.{class-at-most}
 use Rattle.order.specs.OrderingLaws.{jobs-ordered}
 use Rattle.order.specs.Sorted.{job_order}
-use Rattle.order.specs.StructLaws.{job-count}
+use Rattle.order.proofs.StructLaws.{job-count}
 use Rattle.order.specs.Table.{order_of, job_at, padded}
 use Rattle.order.specs.declared.Order.{Order as OrderTable}
 use Rattle.table.specs.ClassRows.{listed-suffices}

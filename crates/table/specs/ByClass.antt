@@ -12,7 +12,7 @@ use Rattle.order.specs.Order.{Order, job_count, job_of}
 use Rattle.order.specs.OrderingLaws.{jobs-ordered}
 use Rattle.order.specs.Sorted.{job_order}
 use Rattle.order.specs.Class.{class_of}
-use Rattle.order.specs.ClassLaws.{class-antitone}
+use Rattle.order.proofs.ClassLaws.{class-antitone}
 use Rattle.order.specs.Lead.{lead}
 use Rattle.table.specs.Held.{number_at, EachOnce, beside, by_number}
 use Rattle.table.specs.HeldLaws.{input-once, beside-is, beside-once, held-read}

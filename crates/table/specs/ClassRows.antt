@@ -7,7 +7,7 @@ use Rattle.sums.specs.Lists.{tabulate}
 use Rattle.sums.specs.Places.{get_d_tabulate, tabulate-cong, tabulate-get_or}
 use Rattle.order.specs.Order.{Order, Job, processor_count}
 use Rattle.order.specs.Class.{classes, last_that_suffices, class_for, class_of}
-use Rattle.order.specs.ClassLaws.{class-suffices, class-at-most, classes-few}
+use Rattle.order.proofs.ClassLaws.{class-suffices, class-at-most, classes-few}
 use Rattle.order.specs.Table.{padded}
 use Rattle.table.specs.Passed.{listing}
 use Rattle.table.specs.declared.Listing.{Listing}

@@ -12,8 +12,8 @@ use Rattle.order.specs.Order.{Order, Job, job_of, no_job}
 use Rattle.order.specs.Sorted.{distinct, due_times}
 use Rattle.order.specs.SortedLaws.{ltb-strict, lt_z-strict, distinct-falls, in-distinct, distinct-in}
 use Rattle.order.specs.Refusals.{due_in_range, Accepted}
-use Rattle.order.specs.RefusalLaws.{Acceptable, accepted-iff, dues-in-range}
-use Rattle.order.specs.StructLaws.{job-count}
+use Rattle.order.proofs.RefusalLaws.{Acceptable, accepted-iff, dues-in-range}
+use Rattle.order.proofs.StructLaws.{job-count}
 use Rattle.order.specs.Table.{order_of, job_at}
 use Rattle.order.specs.declared.Order.{Order as OrderTable}
 use Rattle.order.specs.Lead.{lead, due_at, last_due, Workable}
@@ -22,7 +22,7 @@ use Rattle.table.specs.Tabled.{GridOf}
 use Rattle.table.specs.declared.Members.{Members}
 use Rattle.table.specs.Downwards.{DistinctOf}
 use Rattle.table.specs.SameMembers.{same-members, lt_z-never}
-use Rattle.order.specs.LeadLaws.{workable, lead-due, due-back, due-falls, lead-most}
+use Rattle.order.proofs.LeadLaws.{workable, lead-due, due-back, due-falls, lead-most}
 use Rattle.sums.specs.Downwards.{Pairwise-down, down-in, in-down}
 
 -- Whole numbers by their leads: the distinct ones, downwards, are those of the distinct leads, upwards.

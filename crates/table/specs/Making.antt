@@ -9,8 +9,8 @@ use Rattle.sums.specs.Places.{length-tabulate, get_d_tabulate}
 use Rattle.order.specs.Order.{Order, Job, Numbers, processor_count, job_count, job_of, memory_of, no_job}
 use Rattle.order.specs.Sorted.{processor_order, job_order}
 use Rattle.order.specs.Class.{classes, class_for, class_of, processors_in, processors_to}
-use Rattle.order.specs.RefusalLaws.{Acceptable, dues-in-range}
-use Rattle.order.specs.StructLaws.{job-count, processor-count}
+use Rattle.order.proofs.RefusalLaws.{Acceptable, dues-in-range}
+use Rattle.order.proofs.StructLaws.{job-count, processor-count}
 use Rattle.order.specs.Table.{order_of, job_at, padded}
 use Rattle.order.specs.declared.Order.{Order as OrderTable}
 use Rattle.order.specs.Lead.{lead, last_due}
@@ -24,8 +24,8 @@ use Rattle.table.specs.Tabled.{Fine, GridOf, Tabled}
 use Rattle.table.specs.declared.Listing.{Listing}
 use Rattle.table.specs.declared.Members.{Members}
 use Rattle.table.specs.declared.Table.{Table}
-use Rattle.order.specs.ClassLaws.{class-at-most, class-some, processors_in-some, processors_in-few, processors_to-few}
-use Rattle.order.specs.LeadLaws.{lead-most}
+use Rattle.order.proofs.ClassLaws.{class-at-most, class-some, processors_in-some, processors_in-few, processors_to-few}
+use Rattle.order.proofs.LeadLaws.{lead-most}
 use Rattle.table.specs.GridLaws.{grid-small}
 
 -- the table of a struct, from its parts

@@ -17,7 +17,7 @@ use Rattle.sums.specs.Places.{set-tabulate}
 use Rattle.sums.specs.Totals.{total-append, total-cong}
 use Rattle.order.specs.Order.{Order}
 use Rattle.order.specs.Class.{classes, last_that_suffices, class_for, memory_of_class, processors_in}
-use Rattle.order.specs.ClassLaws.{
+use Rattle.order.proofs.ClassLaws.{
   classes-fall,
   memory-in-classes,
   class-in-memories,

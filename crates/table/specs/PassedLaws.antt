@@ -11,7 +11,7 @@ use Rattle.order.specs.Order.{Order, Numbers, processor_count, memory_of}
 use Rattle.order.specs.Sorted.{distinct, processor_order}
 use Rattle.order.specs.OrderingLaws.{processors-ordered}
 use Rattle.order.specs.Class.{classes, last_that_suffices, class_for, memory_of_class, processors_in}
-use Rattle.order.specs.StructLaws.{processor-count}
+use Rattle.order.proofs.StructLaws.{processor-count}
 use Rattle.order.specs.Table.{order_of, padded}
 use Rattle.order.specs.declared.Order.{Order as OrderTable}
 use Rattle.table.specs.FallingLaws.{distinct-same, ordered-places}

@@ -12,8 +12,8 @@ use Rattle.sums.specs.Lists.{tabulate}
 use Rattle.order.specs.Order.{Order, job_count}
 use Rattle.order.specs.Refusals.{judge, TableRow, accepted, rows_up_to_row}
 use Rattle.order.specs.Refusals.{Answer, answer, refusal, answer_by}
-use Rattle.order.specs.RefusalLaws.{judge-accepted-append}
-use Rattle.order.specs.TableLaws.{refused-answer}
+use Rattle.order.proofs.RefusalLaws.{judge-accepted-append}
+use Rattle.order.proofs.TableLaws.{refused-answer}
 use Rattle.order.specs.Table.{refusal_told, acceptance_told}
 use Rattle.order.specs.declared.Refusal.{Refusal}
 use Rattle.order.specs.declared.Acceptance.{Acceptance}
@@ -21,9 +21,9 @@ use Rattle.order.specs.declared.Acceptance.TheVariants.{Refused}
 use Rattle.plan.specs.Check.{rows_of, every, every_two, no_overlap, whole_job, is_right}
 use Rattle.wrap.specs.FrameAt.{Times}
 use Rattle.timed.specs.Check.{in_times, is_right_timed}
-use Rattle.timed.specs.CheckLaws.{timed-check-judges}
+use Rattle.timed.proofs.CheckLaws.{timed-check-judges}
 use Rattle.timed.specs.Rows.{asked_rows, most_timed_rows, timed_check_rows}
-use Rattle.plan.specs.RowRanges.{all_good}
+use Rattle.plan.proofs.RowRanges.{all_good}
 
 module _ (o : Order) (bound : ℤ) (t : Times) (numbers : List ℕ) where
   -- what the check answers

@@ -27,7 +27,7 @@ use Rattle.order.specs.Refusals.{
   answer,
   answer_by,
 }
-use Rattle.order.specs.RefusalLaws.{
+use Rattle.order.proofs.RefusalLaws.{
   both_true,
   judge-accepted,
   judge-refused-append,
@@ -35,7 +35,7 @@ use Rattle.order.specs.RefusalLaws.{
   first-clear,
 }
 use Rattle.order.specs.Table.{refusal_told}
-use Rattle.order.specs.TableLaws.{refused-told}
+use Rattle.order.proofs.TableLaws.{refused-told}
 use Rattle.order.specs.declared.Refusal.{Refusal}
 use Rattle.order.specs.declared.Refusal.TheVariants.{BufferTooShort}
 use Rattle.order.specs.Lead.{last_due}
@@ -44,7 +44,7 @@ use Rattle.table.specs.declared.Table.{Table}
 use Rattle.wrap.specs.FrameAt.{Times}
 use Rattle.timed.specs.Changes.{timed_rows_asked}
 use Rattle.timed.specs.Making.{InRange, TimedOf, ChangesOf, Made}
-use Rattle.timed.specs.NoneLaws.{none-timed, some-timed}
+use Rattle.timed.proofs.NoneLaws.{none-timed, some-timed}
 use Rattle.timed.specs.Rows.{none_timed, asked_rows, timed_buffer, earlier_timed, timed_rows}
 use Rattle.timed.specs.Times.{ready_row, window_row, most_minute, times_of}
 use Rattle.timed.specs.Written.{TimedBufferBy, timed_told, timed_count, asked_told}

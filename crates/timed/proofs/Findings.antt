@@ -7,7 +7,7 @@ use native.Mathlib.Numerals.{add-one}
 use borrow.Author.Tests.{le-leb, lt-leb}
 use Rattle.sums.specs.Lists.{tabulate}
 use Rattle.order.specs.Refusals.{first}
-use Rattle.order.specs.RefusalLaws.{first-tabulate, none-tabulate}
+use Rattle.order.proofs.RefusalLaws.{first-tabulate, none-tabulate}
 use Rattle.order.specs.Table.{finding_of}
 use Rattle.timed.specs.Times.{minute_in_range}
 

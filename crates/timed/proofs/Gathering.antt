@@ -20,7 +20,7 @@ use Rattle.order.specs.Order.{Order, processor_count, job_count, Numbers, no_job
 use Rattle.order.specs.Deadline.{cut}
 use Rattle.order.specs.Lead.{lead, due_at}
 use Rattle.order.specs.Refusals.{due_in_range}
-use Rattle.order.specs.RefusalLaws.{accepted-iff, dues-in-range}
+use Rattle.order.proofs.RefusalLaws.{accepted-iff, dues-in-range}
 use Rattle.order.specs.Sorted.{distinct}
 use Rattle.order.specs.SortedLaws.{distinct-length}
 use Rattle.order.specs.Whole.{pos-le}
@@ -31,7 +31,7 @@ use Rattle.table.specs.GridLaws.{distinct-by-leads}
 use Rattle.table.specs.declared.Table.{Table}
 use Rattle.allot.specs.Tables.{Put}
 use Rattle.timed.specs.Changes.{changes, change_times}
-use Rattle.timed.specs.ChangeLaws.{mark_at-is}
+use Rattle.timed.specs.Settled.{mark_at-is}
 use Rattle.timed.specs.Leads.{top, most_bound, WindowsPut}
 use Rattle.timed.specs.LeadLaws.{lead-minute, minute-of-lead, lead-end, end-by-top}
 use Rattle.timed.specs.Making.{TimedOf, ChangesOf}

@@ -8,3 +8,8 @@ mod Ensuring
 mod InTimes
 mod Walks
 mod Answers
+pub mod ChangeLaws
+pub mod CheckLaws
+pub mod NoneLaws
+pub mod Request
+pub mod SamePlan

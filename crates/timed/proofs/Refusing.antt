@@ -19,8 +19,8 @@ use Rattle.order.specs.Refusals.{
   bound_in_range,
   Accepted,
 }
-use Rattle.order.specs.RefusalLaws.{judge-accepted, judge-refused-append, judge-accepted-append, accepted-first, whole-clear}
-use Rattle.order.specs.TableLaws.{refused-told}
+use Rattle.order.proofs.RefusalLaws.{judge-accepted, judge-refused-append, judge-accepted-append, accepted-first, whole-clear}
+use Rattle.order.proofs.TableLaws.{refused-told}
 use Rattle.order.specs.Table.{finding_of, acceptance_told}
 use Rattle.order.specs.declared.Refusal.{Refusal}
 use Rattle.order.specs.declared.Acceptance.{Acceptance}
@@ -28,7 +28,7 @@ use Rattle.order.specs.declared.Acceptance.TheVariants.{Refused}
 use Rattle.wrap.specs.FrameAt.{Times}
 use Rattle.timed.specs.Times.{minute_in_range, window_good, ready_row, window_row}
 use Rattle.timed.specs.Rows.{asked_rows}
-use Rattle.order.specs.FindingLaws.{finding-some, finding-none}
+use Rattle.order.proofs.FindingLaws.{finding-some, finding-none}
 
 module _ (o : Order) (bound : ℤ) (t : Times) where
   abbrev later : List TableRow

@@ -10,7 +10,7 @@ use mir.Val.{to_z, of_z, SFits, Fits}
 use mir.ValLaws.{to_z-of_z}
 use Rattle.order.specs.Refusals.{bound_in_range}
 use Rattle.order.specs.Lead.{lead}
-use Rattle.order.specs.LeadLaws.{lead-whole}
+use Rattle.order.proofs.LeadLaws.{lead-whole}
 use Rattle.timed.specs.Leads.{most_bound}
 use Rattle.timed.specs.LeadLaws.{bound-by-most, shift-most}
 

@@ -14,15 +14,15 @@ use Rattle.engine.specs.View.{grid, Answer}
 use Rattle.engine.specs.Run.{RunOf}
 use Rattle.order.specs.Order.{Order, processor_count, job_count}
 use Rattle.order.specs.Lead.{last_due, reach_at}
-use Rattle.order.specs.LeadLaws.{workable}
-use Rattle.order.specs.RefusalLaws.{Acceptable, accepted-iff}
+use Rattle.order.proofs.LeadLaws.{workable}
+use Rattle.order.proofs.RefusalLaws.{Acceptable, accepted-iff}
 use Rattle.plan.specs.Check.{numbers_of}
 use Rattle.plan.specs.Join.{joined}
 use Rattle.plan.specs.Plan.{Row}
 use Rattle.wrap.specs.Flows.{amount_in}
 use Rattle.wrap.specs.Frame.{Frame, FeasibleIn, layout_in, Rising}
 use Rattle.wrap.specs.FrameAt.{RightTimed, timed-in, timed-out}
-use Rattle.wrap.specs.Joined.{joined-layout-right, joined-count-in}
+use Rattle.wrap.proofs.Joined.{joined-layout-right, joined-count-in}
 use Rattle.feasible.specs.FramePlan.{cut-no-plan}
 use Rattle.table.specs.Held.{by_number, ReadingOf}
 use Rattle.table.specs.HeldLaws.{held-read}
@@ -33,7 +33,7 @@ use Rattle.allot.specs.LaidInFrame.{planned-is, planned-given}
 use Rattle.layout.specs.Laid.{Numbered}
 use Rattle.layout.specs.Planned.{frame_lent, lent_frame, planned, Joinable}
 use Rattle.timed.specs.Changes.{timed_frame}
-use Rattle.timed.specs.ChangeLaws.{timed-rising, timed-framed}
+use Rattle.timed.proofs.ChangeLaws.{timed-rising, timed-framed}
 use Rattle.timed.specs.LentTimes.{times-agree}
 use Rattle.timed.specs.Making.{RoomFor}
 use Rattle.timed.specs.Times.{times_of}

@@ -6,11 +6,11 @@ use Rattle.std.proofs.Math.IntN.{pos, +ℤ_assoc}
 use Rattle.std.specs.Int.Signed.{le_z}
 use Rattle.order.specs.Order.{end_at}
 use Rattle.order.specs.Deadline.{cut}
-use Rattle.order.specs.EndLaws.{end-from}
+use Rattle.order.proofs.EndLaws.{end-from}
 use Rattle.order.specs.Lead.{lead, due_at, last_due}
-use Rattle.order.specs.LeadLaws.{lead_is, due-lead, end-lead, due-by-last}
+use Rattle.order.proofs.LeadLaws.{lead_is, due-lead, end-lead, due-by-last}
 use Rattle.order.specs.Refusals.{due_in_range, bound_in_range}
-use Rattle.order.specs.RefusalLaws.{both_true, le_z-true}
+use Rattle.order.proofs.RefusalLaws.{both_true, le_z-true}
 use Rattle.order.specs.Whole.{cut-minus, le-add, add-swap}
 use Rattle.timed.specs.Leads.{top, most_bound}
 

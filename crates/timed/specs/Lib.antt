@@ -1,15 +1,11 @@
 pub mod Times
 pub mod Changes
-pub mod ChangeLaws
+pub mod Settled
 pub mod Rows
-pub mod NoneLaws
 pub mod Written
-pub mod Request
 pub mod Check
-pub mod CheckLaws
 pub mod Inside
 pub mod Leads
 pub mod LeadLaws
 pub mod Making
 pub mod LentTimes
-pub mod SamePlan

@@ -2,7 +2,7 @@
 use Rattle.std.specs.Prelude.{ℕ, ◌/◌, ◌≡◌, refl, Bool, true, false, List, [], ◌∷◌, ◌++◌, ◌⊎◌, ℤ}
 use Rattle.std.proofs.Common.{inl, inr}
 use Rattle.order.specs.Order.{Order}
-use Rattle.order.specs.LeadLaws.{workable}
+use Rattle.order.proofs.LeadLaws.{workable}
 use Rattle.order.specs.Refusals.{
   limits,
   TableRow,
@@ -16,25 +16,25 @@ use Rattle.order.specs.Refusals.{
   tight_row,
   rows_up_to_row,
 }
-use Rattle.order.specs.RefusalLaws.{accepted-iff}
+use Rattle.order.proofs.RefusalLaws.{accepted-iff}
 use Rattle.plan.specs.Plan.{Row}
 use Rattle.wrap.specs.FrameAt.{Times, RightTimed}
 use Rattle.allot.specs.InFrame.{classed-in}
 use Rattle.timed.specs.Times.{ready_row, window_row}
 use Rattle.timed.specs.Changes.{timed_rows_asked}
-use Rattle.timed.specs.ChangeLaws.{timed-decided}
+use Rattle.timed.specs.Settled.{between-decided, named, named-has}
 
 -- no list of rows whatever is a right plan that keeps the times
 abbrev pub NoTimedPlan : Order → ℤ → Times → Type 0
 NoTimedPlan o bound t = (rows : List Row) → ¬ RightTimed 1 o bound t rows
 
--- whether that is so of an accepted order, as `timed-decided` settles it; NoneLaws says that it is exactly this
+-- whether that is so of an accepted order, as `between-decided` settles it; NoneLaws says that it is exactly this
 abbrev pub says_none : {A B : Type 0} → A ⊎ B → Bool
 says_none (inl some) = false
 says_none (inr none) = true
 
 unfoldable pub none_by : (o : Order) (bound : ℤ) (t : Times) (v : Verdict) → judge (order_rows limits o) ≡ v → Bool
-none_by o bound t accepted e = says_none (timed-decided o bound t (classed-in o (workable o ((accepted-iff o).0 e))))
+none_by o bound t accepted e = says_none (between-decided o bound t (named o bound t) (named-has o bound t) (classed-in o (workable o ((accepted-iff o).0 e))))
 none_by o bound t (refused number carried) e = false
 
 unfoldable pub none_timed : Order → ℤ → Times → Bool

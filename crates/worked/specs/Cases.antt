@@ -41,14 +41,14 @@ use Rattle.plan.specs.Plan.{Row, Right}
 use Rattle.plan.specs.Join.{join_row, join_rows, joined}
 use Rattle.plan.specs.IsLeast.{IsLeast}
 use Rattle.plan.specs.Check.{numbers_of, rows_of, every, every_two, is_right}
-use Rattle.plan.specs.CheckLaws.{is_right-iff}
+use Rattle.plan.proofs.CheckLaws.{is_right-iff}
 use Rattle.plan.specs.NumberLaws.{rows-of-numbers}
 use Rattle.profile.specs.Profile.{owed, class_owes, owed_from, on_hand_from}
 use Rattle.profile.specs.Reason.{Reason, over_end, stairs, IsReason, Stands, owed_of, on_hand_of}
 use Rattle.profile.specs.Search.{Found, nothing, found, choices, ranked, first_such, first_overfull, reason_of}
-use Rattle.profile.specs.ReasonLaws.{reason-found}
+use Rattle.profile.proofs.ReasonLaws.{reason-found}
 use Rattle.profile.specs.Standing.{jobs_over_end, overfull_stairs, reasons_at, is_one_of, is_standing}
-use Rattle.profile.specs.StandingLaws.{standing-is}
+use Rattle.profile.proofs.StandingLaws.{standing-is}
 use Rattle.text.specs.Text.{ascii, digits_within, decimal, signed_decimal}
 use Rattle.sentence.specs.Line.{classes_from, line_of, composed, read_back}
 use Rattle.sentence.specs.LineLaws.{reads-to}
@@ -66,10 +66,10 @@ use Rattle.feasible.specs.FramePlan.{plan-amounts-in}
 use Rattle.table.specs.Held.{number_at}
 use Rattle.table.specs.Passed.{passed}
 use Rattle.timed.specs.Changes.{changes, change_times, change_count, mark_at, timed_frame, timed_rows_asked}
-use Rattle.timed.specs.ChangeLaws.{timed-framed}
+use Rattle.timed.proofs.ChangeLaws.{timed-framed}
 use Rattle.timed.specs.Rows.{asked_rows, earlier_timed}
 use Rattle.timed.specs.Check.{is_right_timed}
-use Rattle.timed.specs.CheckLaws.{timed-yes}
+use Rattle.timed.proofs.CheckLaws.{timed-yes}
 use Rattle.feasible.specs.Least.{is-least}
 use Rattle.estimate.specs.Estimate.{Estimate, least_at_lows, least_at_highs, next_times, path_at, path_length, first_met, estimate_rows}
 use Rattle.estimate.specs.Request.{least_along}
@@ -527,7 +527,7 @@ cases =
     ∷ []
 
 -- what a case is about: whether the order is accepted and its least lateness; the reason and its minutes; yes or no
-data Value : Type 0 where
+pub data Value : Type 0 where
   least_of : Verdict → ℤ → Value
   reason_at : Found Reason → ℕ → ℤ → Value
   checked : Bool → Value
@@ -562,7 +562,7 @@ overfull_by o bound t cut =
     ltb (right flow (λ s. get_or cut s 0)) (inside_of flow (λ s. get_or cut s 0))
 
 -- its value as computed, and as the case states it
-abbrev computed : Case → Value
+abbrev pub computed : Case → Value
 computed (least_is o least) = least_of (judge (order_rows limits o)) (least_lateness o)
 computed (reason_is o bound reason owes hand) =
     reason_at (reason_of o bound) (owed_of o bound reason) (on_hand_of o bound reason)
@@ -600,7 +600,7 @@ computed (screen_gets o bound numbers verdict) = judged (judge (rows_for Screen 
 computed (block_judges s first second) = to_both (judge (bound_table s)) (judge (least_table s))
 computed (block_reads s address bytes) = reading (tabulate (length bytes) (λ i. read_at s (address + i)))
 
-abbrev stated : Case → Value
+abbrev pub stated : Case → Value
 stated (least_is o least) = least_of accepted least
 stated (reason_is o bound reason owes hand) = reason_at (found reason) owes hand
 stated (right_is o bound rows) = checked true
@@ -722,24 +722,9 @@ case-holds (screen_gets o bound numbers verdict) e = cc
 case-holds (block_judges s first second) e = (cc, cc)
 case-holds (block_reads s address bytes) e = cc
 
-all_hold : (cs : List Case) → map computed cs ≡ map stated cs → All Holds cs
+pub all_hold : (cs : List Case) → map computed cs ≡ map stated cs → All Holds cs
 all_hold [] e = tt
 all_hold (c ∷ cs) e =
     let first : computed c ≡ stated c = cc in
     let rest : map computed cs ≡ map stated cs = cc in
     (case-holds c first, all_hold cs rest)
-
-all-computed : map computed cases ≡ map stated cases
-unfolding sum end_at end_of insert distinct due_times classes last_that_suffices class_for class_of processors_in processors_to judge first_after
-    fits_some numbers_of every every_two is_right owed class_owes owed_from on_hand_from choices ranked first_such first_overfull reason_of
-    weight_at weight_from largest heaviest most least_reach least_lateness keep jobs_over_end overfull_stairs reasons_at is_one_of same_list
-    classes_from line_of composed read_back digits_within decimal signed_decimal place_by_key by_falling processor_order job_order ends mark
-    fill shares_of stretch_rows rows_up_to layout job_where join_row join_rows processor_bytes job_bytes file_of order_in minutes_by added some_over
-    book_after least_rows earlier_rows plan_rows changes change_times mark_at asked_rows earlier_timed is_right_timed lies open_order open_to
-    stretch_rows_in in_turn layout_in deadline_of right meets lines_in counted met_by need_for behind climbed first_twice
-    estimate_rows next_times path_at first_met rows_by good_file least_table bound_table
-all-computed = refl
-
--- every case holds
-pub every-case : All Holds cases
-every-case = all_hold cases all-computed

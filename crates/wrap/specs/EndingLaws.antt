@@ -8,9 +8,9 @@ use Rattle.std.proofs.Math.Logic.{inl, inr}
 use Rattle.sums.specs.Lists.{All, In, Pairwise}
 use Rattle.sums.specs.Members.{All-in}
 use Rattle.sums.specs.Pairs.{pairs-in}
-use Rattle.order.specs.RefusalLaws.{both_true, true-or-false}
+use Rattle.order.proofs.RefusalLaws.{both_true, true-or-false}
 use Rattle.plan.specs.Plan.{Row, Forward}
-use Rattle.plan.specs.JoinAgain.{Rises}
+use Rattle.plan.proofs.JoinAgain.{Rises}
 use Rattle.wrap.specs.Ending.{job_where, ends_at, begins_at, ends_with}
 
 module _ (test : Row → Bool) where

@@ -12,10 +12,10 @@ use Rattle.sums.specs.Lists.{only}
 use Rattle.sums.specs.Members.{All-at, nth_in}
 use Rattle.order.specs.Order.{Order, no_job, job_count, Numbers, job_of, memory_of, end_of}
 use Rattle.order.specs.Class.{class_of, classes, processors_in, processors_to}
-use Rattle.order.specs.ClassLaws.{class-some, class-at-most}
+use Rattle.order.proofs.ClassLaws.{class-some, class-at-most}
 use Rattle.order.specs.Deadline.{cut, cut-le, deadline_of}
 use Rattle.order.specs.Lead.{Workable}
-use Rattle.order.specs.RefusalLaws.{true-le_z}
+use Rattle.order.proofs.RefusalLaws.{true-le_z}
 use Rattle.amounts.specs.Flow.{held, Feasible}
 use Rattle.amounts.specs.Exchange.{common_flow}
 use Rattle.amounts.specs.Profile.{Jobs, OnMarks, stretches_of, NoneTooLong, Met}

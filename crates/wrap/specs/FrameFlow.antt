@@ -11,7 +11,7 @@ use Rattle.sums.specs.Members.{All-map, in-All, nth_in}
 use Rattle.sums.specs.Totals.{total-le, total-none}
 use Rattle.order.specs.Order.{Order, job_count, Numbers, job_of, memory_of}
 use Rattle.order.specs.Class.{classes, class_of}
-use Rattle.order.specs.ClassLaws.{class-of-processor}
+use Rattle.order.proofs.ClassLaws.{class-of-processor}
 use Rattle.amounts.specs.Flow.{Flow, held, Feasible, Cut}
 use Rattle.amounts.specs.Complete.{Classes, Outcome, complete}
 use Rattle.wrap.specs.Stretches.{held_up_to}

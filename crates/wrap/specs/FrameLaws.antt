@@ -14,10 +14,10 @@ use Rattle.sums.specs.Pairs.{Pairwise-map, Pairwise-append}
 use Rattle.sums.specs.Kept.{keep_all, keep-pairs, keep-total, keep-few}
 use Rattle.sums.specs.Totals.{only-le, total-append, total-le, total-ones, total-tabulate}
 use Rattle.order.specs.Order.{Order, processor_count, Numbers, memory_of}
-use Rattle.order.specs.RefusalLaws.{both_true}
+use Rattle.order.proofs.RefusalLaws.{both_true}
 use Rattle.order.specs.Sorted.{processor_order}
 use Rattle.order.specs.Class.{class_for}
-use Rattle.order.specs.ClassLaws.{class-antitone}
+use Rattle.order.proofs.ClassLaws.{class-antitone}
 use Rattle.order.specs.OrderingLaws.{processors-ordered, prefix-counted}
 use Rattle.plan.specs.Plan.{Row}
 use Rattle.wrap.specs.Frame.{Frame, lies, open_in, open_order, open_to, in_turn, Rising}

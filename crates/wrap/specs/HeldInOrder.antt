@@ -10,7 +10,7 @@ use Rattle.sums.specs.Pairs.{Pairwise-map}
 use Rattle.order.specs.Order.{Order, job_count, processor_count, Numbers, job_of}
 use Rattle.order.specs.Sorted.{job_order}
 use Rattle.order.specs.Class.{classes, class_for, class_of, processors_to}
-use Rattle.order.specs.ClassLaws.{class-antitone, class-at-most, processors_to-is}
+use Rattle.order.proofs.ClassLaws.{class-antitone, class-at-most, processors_to-is}
 use Rattle.order.specs.OrderingLaws.{jobs-ordered}
 use Rattle.wrap.specs.Stretches.{held_up_to}
 

@@ -11,15 +11,8 @@ pub mod DuePlaces
 pub mod Flows
 pub mod Frame
 pub mod FrameLaws
-pub mod FrameRight
 pub mod FrameFlow
 pub mod FrameAt
-pub mod FrameBase
-pub mod LayoutOrdered
-pub mod LayoutRight
 pub mod Ending
 pub mod EndingLaws
-pub mod Joined
-pub mod JoinedWhere
 pub mod LayoutSame
-pub mod LayoutJoined

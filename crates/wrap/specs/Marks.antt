@@ -15,7 +15,7 @@ use Rattle.order.specs.Sorted.{due_times}
 use Rattle.order.specs.SortedLaws.{lt_z-strict, distinct-falls}
 use Rattle.order.specs.Deadline.{cut}
 use Rattle.order.specs.Ends.{cut-≤, <-cut}
-use Rattle.order.specs.EndLaws.{end-le, end_lt}
+use Rattle.order.proofs.EndLaws.{end-le, end_lt}
 use Rattle.order.specs.Whole.{lt_z-true, pos-cut, <ℤ-≤ℤ}
 use Rattle.wrap.specs.Stretches.{stretch_count, ends, mark}
 

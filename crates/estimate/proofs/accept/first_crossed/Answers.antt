@@ -6,7 +6,7 @@ use borrow.Author.Count.{below_none, below_more}
 use borrow.Author.Tests.{lt-ltb, le-ltb}
 use lib.Dec.{ltb}
 use lib.ListN.{get_or}
-use Rattle.order.specs.FindingLaws.{walk-found, walk_none}
+use Rattle.order.proofs.FindingLaws.{walk-found, walk_none}
 use borrow.Author.Rules.{rules}
 use Rattle.estimate.proofs.accept.first_crossed.Goals as goal
 

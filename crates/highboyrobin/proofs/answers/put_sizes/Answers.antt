@@ -1,7 +1,7 @@
 use mathlib.Core.Path.{sym, ap}
 use lib.IntN.{pos}
 use Rattle.order.specs.Machine.{machine-back}
-use Rattle.order.specs.StructLaws.{job-count, processor-count, few-jobs, few-processors}
+use Rattle.order.proofs.StructLaws.{job-count, processor-count, few-jobs, few-processors}
 use mathlib.Core.Path.{◌∙◌}
 use lib.ListN.{length-set}
 use Rattle.highboyrobin.proofs.Stored.{three-stored}

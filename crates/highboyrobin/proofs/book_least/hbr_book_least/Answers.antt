@@ -9,7 +9,7 @@ use Rattle.order_file.specs.ReaderLaws.{reader-refused, order_is, order-accepted
 use Rattle.planner.specs.RowLaws.{written-few}
 use Rattle.planner.specs.AnswerLaws.{booked-least-begins}
 use Rattle.profile.specs.LeastRead.{read-least}
-use Rattle.profile.specs.LeastRange.{least-in-range}
+use Rattle.profile.proofs.LeastRange.{least-in-range}
 use Rattle.highboyrobin.specs.BookCalls.{counts_in}
 use Rattle.highboyrobin.proofs.Answering.{book-refused, book-told, book-done}
 use Rattle.highboyrobin.proofs.BooksTold.{least-book-moved, least-book-refused, least-book-at}

@@ -5,8 +5,8 @@ use mathlib.Core.List.{[], append-nil}
 use lib.ListN.{length}
 use Rattle.order.specs.Order.{Order}
 use Rattle.order.specs.Refusals.{limits, order_rows, Accepted}
-use Rattle.order.specs.RefusalLaws.{accepted-iff}
-use Rattle.order.specs.StructLaws.{few-processors}
+use Rattle.order.proofs.RefusalLaws.{accepted-iff}
+use Rattle.order.proofs.StructLaws.{few-processors}
 use Rattle.order.specs.Table.{order_of}
 use Rattle.order_file.specs.File.{order_in}
 use Rattle.order_file.specs.ReaderLaws.{reader-refused, order_is, order-accepted}

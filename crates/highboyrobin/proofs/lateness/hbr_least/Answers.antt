@@ -1,4 +1,4 @@
-use Rattle.profile.specs.LeastRange.{least-in-range}
+use Rattle.profile.proofs.LeastRange.{least-in-range}
 use Rattle.profile.specs.LeastRead.{read-least}
 use mathlib.Core.Path.{refl, ap, ◌∙◌}
 use mathlib.Core.List.{◌∷◌}

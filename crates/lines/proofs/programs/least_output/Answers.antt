@@ -1,7 +1,7 @@
 use native.Mathlib.Omega.{arith}
 use borrow.Author.Rules.{rules}
 use Rattle.profile.specs.Least.{least_lateness}
-use Rattle.profile.specs.LeastRange.{least-in-range}
+use Rattle.profile.proofs.LeastRange.{least-in-range}
 use Rattle.profile.specs.LeastRead.{read-least}
 use Rattle.order.specs.Table.{order_of}
 use Rattle.planner.specs.RowLaws.{written-few}

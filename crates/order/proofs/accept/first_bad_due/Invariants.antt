@@ -3,7 +3,7 @@ use lib.IntN.{pos}
 use Rattle.order.specs.Machine.{machine-back}
 use borrow.Author.Count.{below_none, below_more}
 use mathlib.Core.Path.{ap, ◌∙◌}
-use Rattle.order.specs.FindingLaws.{not-of, not_of_false}
+use Rattle.order.proofs.FindingLaws.{not-of, not_of_false}
 use Rattle.order.proofs.Ranges.{job-found, no-job-found}
 use Prim.Native.Nat.{ℕ, ◌≤◌, ◌<◌, ◌-◌}
 use mathlib.Core.Path.{◌≡◌}

@@ -1,5 +1,5 @@
 use borrow.Author.Count.{below_none, below_more}
-use Rattle.order.specs.FindingLaws.{not-of, not_of_false}
+use Rattle.order.proofs.FindingLaws.{not-of, not_of_false}
 use Rattle.order.proofs.Ranges.{job-found, no-job-found}
 use Prim.Native.Nat.{ℕ, ◌≤◌, ◌<◌, ◌-◌}
 use mathlib.Core.Path.{◌≡◌}

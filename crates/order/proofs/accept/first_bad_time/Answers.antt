@@ -1,5 +1,5 @@
 use borrow.Author.Count.{below_none, below_more}
-use Rattle.order.specs.FindingLaws.{time-low, time-high, time-good}
+use Rattle.order.proofs.FindingLaws.{time-low, time-high, time-good}
 use Rattle.order.proofs.Ranges.{job-found, no-job-found}
 use Prim.Native.Nat.{ℕ, ◌≤◌, ◌<◌, ◌-◌}
 use mathlib.Core.Path.{◌≡◌}

@@ -4,7 +4,7 @@ use mathlib.Core.Bool.{false, not}
 use borrow.Author.Count.{below_none, below_more}
 use Rattle.order.specs.Refusals.{fits_some}
 use Rattle.order.specs.Table.{job_at, order_of}
-use Rattle.order.specs.FindingLaws.{not-of, not_of_false}
+use Rattle.order.proofs.FindingLaws.{not-of, not_of_false}
 use Rattle.order.proofs.Ranges.{job-found, no-job-found}
 use borrow.Author.Rules.{rules}
 use native.Mathlib.Omega.{arith}

@@ -1,5 +1,5 @@
 -- `write_order`: acceptance decides, then the room in the buffer; the three parts stored one after the other are the file.
-use Rattle.order_file.specs.RoundTrip.{struct-bounded}
+use Rattle.order_file.proofs.RoundTrip.{struct-bounded}
 use Rattle.order_file.proofs.Writing.{array-small, refused-written, counts-few, too_short, file-written}
 use borrow.Author.Rules.{rules}
 use Rattle.order_file.proofs.write.write_order.Goals as goal

@@ -9,7 +9,7 @@ use Rattle.order.specs.Order.{job_count}
 use Rattle.order.specs.Table.{order_of}
 use Rattle.plan.specs.Check.{rows_of, whole_job}
 use Rattle.plan.specs.EveryLaws.{every-places, every-fails}
-use Rattle.order.specs.StructLaws.{job-count}
+use Rattle.order.proofs.StructLaws.{job-count}
 use Rattle.plan.proofs.Lengths.{whole-job, wrong-sum}
 use Rattle.plan.proofs.rows.jobs_whole.Goals as goal
 

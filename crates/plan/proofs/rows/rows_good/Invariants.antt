@@ -14,8 +14,8 @@ use mir.ValLaws.{to_z-of_z}
 use Rattle.order.specs.Machine.{machine-back}
 use Rattle.order.specs.Refusals.{due_in_range, bound_in_range}
 use Rattle.order.specs.Table.{order_of}
-use Rattle.order.specs.StructLaws.{few-jobs, few-processors, due-in-range-at}
-use Rattle.plan.specs.RowRanges.{good-back}
+use Rattle.order.proofs.StructLaws.{few-jobs, few-processors, due-in-range-at}
+use Rattle.plan.proofs.RowRanges.{good-back}
 use Rattle.plan.proofs.GoodRows.{passes, malformed, well-formed, by-its-end, rows_pass, row-fails}
 use Rattle.plan.specs.Inside.{row_of}
 use Rattle.plan.proofs.RowTests.{its-job, ends_read}

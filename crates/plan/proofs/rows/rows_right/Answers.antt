@@ -6,8 +6,8 @@ use mir.Syntax.{w32}
 use mir.ValLaws.{to_z-of_z}
 use Rattle.order.specs.Refusals.{bound_in_range}
 use Rattle.order.specs.Table.{order_of}
-use Rattle.order.specs.StructLaws.{few-jobs}
-use Rattle.plan.specs.RowRanges.{good-back, good-ranged}
+use Rattle.order.proofs.StructLaws.{few-jobs}
+use Rattle.plan.proofs.RowRanges.{good-back, good-ranged}
 use Rattle.plan.proofs.Answers.{bad-rows, overlapping, jobs-decide}
 use Rattle.plan.proofs.rows.rows_right.Goals as goal
 

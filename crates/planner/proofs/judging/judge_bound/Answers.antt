@@ -3,7 +3,7 @@ use mathlib.Core.Path.{sym, ◌∙◌}
 use borrow.Author.Tests.{ltb-true, ltb-false}
 use mir.Syntax.{w32}
 use mir.ValLaws.{to_z-of_z}
-use Rattle.order.specs.RefusalLaws.{accepted-iff}
+use Rattle.order.proofs.RefusalLaws.{accepted-iff}
 use Rattle.order.specs.Table.{order_of}
 use Rattle.order.specs.declared.Refusal.TheVariants.{BoundOutOfRange, BufferTooShort}
 use Rattle.table.specs.Making.{fine_of}

@@ -1,9 +1,9 @@
 use borrow.Author.Rules.{rules}
 use lib.ListN.{length}
-use Rattle.order.specs.RefusalLaws.{accepted-iff}
+use Rattle.order.proofs.RefusalLaws.{accepted-iff}
 use Rattle.order.specs.Table.{order_of}
 use Rattle.profile.specs.Least.{least_lateness}
-use Rattle.profile.specs.LeastRange.{least-in-range}
+use Rattle.profile.proofs.LeastRange.{least-in-range}
 use Rattle.table.specs.Making.{fine_of}
 use Rattle.feasible.specs.Least.{is-least}
 use Rattle.profile.specs.LeastRead.{read-least}

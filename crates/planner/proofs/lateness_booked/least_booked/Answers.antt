@@ -1,10 +1,10 @@
 use lib.ListN.{length}
 use mathlib.Core.Path.{◌∙◌}
-use Rattle.order.specs.RefusalLaws.{accepted-iff}
+use Rattle.order.proofs.RefusalLaws.{accepted-iff}
 use Rattle.order.specs.Table.{order_of}
 use Rattle.book.specs.ToldLaws.{booking-full, booking-counts}
 use Rattle.profile.specs.Least.{least_lateness}
-use Rattle.profile.specs.LeastRange.{least-in-range}
+use Rattle.profile.proofs.LeastRange.{least-in-range}
 use Rattle.table.specs.Making.{fine_of}
 use Rattle.feasible.specs.Least.{is-least}
 use Rattle.profile.specs.LeastRead.{read-least}

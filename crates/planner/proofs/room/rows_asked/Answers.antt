@@ -3,8 +3,8 @@ use mathlib.Core.Path.{◌≡◌, refl, ◌∙◌}
 use native.Mathlib.Omega.{arith}
 use borrow.Author.Rules.{rules}
 use Rattle.order.specs.Lead.{last_due}
-use Rattle.order.specs.RefusalLaws.{accepted-iff}
-use Rattle.order.specs.StructLaws.{job-count, processor-count, few-jobs, few-processors}
+use Rattle.order.proofs.RefusalLaws.{accepted-iff}
+use Rattle.order.proofs.StructLaws.{job-count, processor-count, few-jobs, few-processors}
 use Rattle.order.specs.Table.{order_of}
 use Rattle.order.specs.declared.Order.{Order as OrderTable}
 use Rattle.wrap.specs.Stretches.{stretch_count}

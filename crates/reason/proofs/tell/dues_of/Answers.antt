@@ -5,7 +5,7 @@ use borrow.Author.Rules.{rules}
 use lib.IntN.{pos}
 use lib.ListN.{length, get_or}
 use Rattle.order.specs.Machine.{machine-back}
-use Rattle.order.specs.LeadLaws.{due-small}
+use Rattle.order.proofs.LeadLaws.{due-small}
 use Rattle.reason.specs.Asked.{due_or}
 use Rattle.reason.proofs.Dues.{dues-none, dues-more}
 use Rattle.reason.proofs.tell.dues_of.Goals as goal

@@ -2,7 +2,7 @@ use mathlib.Core.Path.{ap, ◌∙◌}
 use borrow.Author.Rules.{rules}
 use Rattle.order.specs.Machine.{machine-back}
 use Rattle.order.specs.Lead.{bound_at, last_due}
-use Rattle.order.specs.LeadLaws.{bound-small}
+use Rattle.order.proofs.LeadLaws.{bound-small}
 use Rattle.reason.proofs.tell.least_in.Goals as goal
 
 pub bound_of-requires : goal.bound_of-requires

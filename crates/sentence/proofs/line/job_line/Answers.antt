@@ -1,6 +1,6 @@
 use mathlib.Core.Path.{sym, ap, ◌∙◌}
 use Prim.Native.Nat.{◌-◌, ◌≤◌}
-use Rattle.order.specs.StructLaws.{few-jobs}
+use Rattle.order.proofs.StructLaws.{few-jobs}
 use Rattle.order.specs.Order.{Job}
 use Rattle.order.specs.Table.{order_of}
 use Rattle.order.specs.Machine.{machine-back}

@@ -4,8 +4,8 @@ use mir.Syntax.{w32}
 use mir.ValLaws.{to_z-of_z}
 use Rattle.order.specs.Machine.{machine-low}
 use Rattle.order.specs.Refusals.{bound_in_range}
-use Rattle.order.specs.RefusalLaws.{accepted-iff}
-use Rattle.order.specs.StructLaws.{few-processors}
+use Rattle.order.proofs.RefusalLaws.{accepted-iff}
+use Rattle.order.proofs.StructLaws.{few-processors}
 use Rattle.order.specs.Table.{order_of}
 use Rattle.profile.specs.Reason.{stairs}
 use Rattle.text.specs.TextLaws.{put-none, put_as, put_both}

@@ -5,7 +5,7 @@ use mir.Val.{of_z}
 use mir.ValLaws.{to_z-of_z}
 use Rattle.sums.specs.Lists.{In}
 use Rattle.order.specs.Sorted.{due_times}
-use Rattle.order.specs.StructLaws.{few-jobs}
+use Rattle.order.proofs.StructLaws.{few-jobs}
 use Rattle.order.specs.Table.{order_of}
 use Rattle.sentence.proofs.Dues.{same-machine, due-listed, listed-due}
 use Prim.Native.Nat.{ℕ, ◌-◌, ◌<◌, ◌≤◌}

@@ -6,7 +6,7 @@ use mir.Syntax.{w32}
 use mir.ValLaws.{to_z-of_z}
 use Rattle.order.specs.Lead.{reach_at, last_due}
 use Rattle.order.specs.Refusals.{bound_in_range}
-use Rattle.order.specs.RefusalLaws.{accepted-iff}
+use Rattle.order.proofs.RefusalLaws.{accepted-iff}
 use Rattle.order.specs.Table.{order_of}
 use Rattle.table.specs.Making.{fine_of}
 use Rattle.sentence.specs.WeighLaws.{stands-fits}

@@ -7,8 +7,8 @@ use Rattle.sums.specs.Arrays.{RowOf, fill-at}
 use Rattle.sums.specs.Lists.{tabulate}
 use Rattle.order.specs.Order.{Numbers, job_of}
 use Rattle.order.specs.Class.{last_that_suffices, class_of}
-use Rattle.order.specs.RefusalLaws.{accepted-iff}
-use Rattle.order.specs.StructLaws.{few-jobs}
+use Rattle.order.proofs.RefusalLaws.{accepted-iff}
+use Rattle.order.proofs.StructLaws.{few-jobs}
 use Rattle.order.specs.Table.{order_of}
 use Rattle.table.specs.ClassRows.{few-listed, class-of-is}
 use Rattle.table.specs.Held.{number_at}

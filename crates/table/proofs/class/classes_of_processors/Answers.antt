@@ -6,8 +6,8 @@ use lib.ListN.{length, get_or}
 use Rattle.order.specs.Class.{class_for}
 use Rattle.order.specs.Table.{order_of}
 use Rattle.sums.specs.Arrays.{RowOf, fill-at}
-use Rattle.order.specs.RefusalLaws.{accepted-iff}
-use Rattle.order.specs.StructLaws.{few-processors}
+use Rattle.order.proofs.RefusalLaws.{accepted-iff}
+use Rattle.order.proofs.StructLaws.{few-processors}
 use Rattle.table.specs.ClassRows.{few-listed, class-is}
 use Rattle.table.proofs.class.classes_of_processors.Goals as goal
 

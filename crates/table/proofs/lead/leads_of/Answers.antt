@@ -8,7 +8,7 @@ use Rattle.order.specs.Machine.{machine-back}
 use Rattle.order.specs.Refusals.{due_in_range}
 use Rattle.order.specs.Lead.{lead, last_due}
 use Rattle.sums.specs.Arrays.{RowOf, fill-at}
-use Rattle.order.specs.StructLaws.{few-jobs, due-in-range-at}
+use Rattle.order.proofs.StructLaws.{few-jobs, due-in-range-at}
 use Rattle.table.proofs.lead.leads_of.Goals as goal
 
 pub loop-j-init : goal.loop-j-init

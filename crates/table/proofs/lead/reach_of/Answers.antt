@@ -5,7 +5,7 @@ use lib.IntN.{ℤ}
 use mir.Syntax.{w32}
 use mir.ValLaws.{to_z-of_z}
 use Rattle.order.specs.Lead.{reach_at, last_due}
-use Rattle.order.specs.LeadLaws.{reach-most}
+use Rattle.order.proofs.LeadLaws.{reach-most}
 use Rattle.table.proofs.lead.reach_of.Goals as goal
 
 pub returns : goal.returns

@@ -7,7 +7,7 @@ use Rattle.sums.specs.Lists.{tabulate}
 use Rattle.sums.specs.Places.{length-tabulate, tabulate-more}
 use Rattle.order.specs.Order.{Numbers, memory_of, processor_count}
 use Rattle.order.specs.Sorted.{processor_order}
-use Rattle.order.specs.StructLaws.{processor-count}
+use Rattle.order.proofs.StructLaws.{processor-count}
 use Rattle.order.specs.Table.{order_of}
 use Rattle.order.specs.declared.Order.{Order}
 use Rattle.table.specs.OneMoreLaws.{last-small}

@@ -9,7 +9,7 @@ use Rattle.order.specs.Table.{order_of, acceptance_told}
 use Rattle.timed.specs.Making.{TimedOf, ChangesOf, Timeable}
 use Rattle.timed.specs.Rows.{asked_rows}
 use Rattle.timed.specs.Times.{times_of}
-use Rattle.order.specs.RefusalLaws.{accepted-iff}
+use Rattle.order.proofs.RefusalLaws.{accepted-iff}
 use Rattle.timed.proofs.Refusing.{order-good}
 use Rattle.timed.proofs.Ensuring.{timed-of, asked_is, asked-few, rows-refused, rows_told}
 use Rattle.timed.proofs.asking.rows_timed.Goals as goal

@@ -3,12 +3,12 @@ use mathlib.Core.Path.{sym, ap, ◌∙◌}
 use borrow.Author.Tests.{not-true, not-false}
 use mir.ValLaws.{to_z-of_z}
 use mir.Syntax.{w32}
-use Rattle.order.specs.StructLaws.{few-jobs}
+use Rattle.order.proofs.StructLaws.{few-jobs}
 use Rattle.order.specs.Table.{order_of}
 use Rattle.order.specs.Refusals.{bound_in_range}
 use Rattle.timed.specs.Times.{times_of}
 use Rattle.timed.proofs.Answers.{bad-rows, not-kept, overlapping, jobs-decide}
-use Rattle.plan.specs.RowRanges.{good-back, good-ranged}
+use Rattle.plan.proofs.RowRanges.{good-back, good-ranged}
 use Rattle.timed.proofs.checking.right_timed.Goals as goal
 
 pub rows_good-requires : goal.rows_good-requires

@@ -4,7 +4,7 @@ use borrow.Author.Tests.{not-true, not-false}
 use borrow.Author.Rules.{rules}
 use mir.ValLaws.{to_z-of_z}
 use mir.Syntax.{w32}
-use Rattle.order.specs.StructLaws.{job-count, processor-count, few-jobs, few-processors}
+use Rattle.order.proofs.StructLaws.{job-count, processor-count, few-jobs, few-processors}
 use Rattle.order.specs.Table.{order_of, acceptance_told}
 use Rattle.order.specs.Refusals.{bound_in_range}
 use Rattle.timed.specs.Times.{times_of}

@@ -7,7 +7,7 @@ use borrow.Author.Count.{below_none, below_more}
 use borrow.Author.Rules.{rules}
 use Rattle.sums.specs.Lists.{nth}
 use Rattle.timed.specs.Times.{window_good}
-use Rattle.order.specs.FindingLaws.{not-of, not_of_false}
+use Rattle.order.proofs.FindingLaws.{not-of, not_of_false}
 use Rattle.timed.proofs.Findings.{one_found, none_found}
 use Rattle.timed.proofs.judging.first_bad_window.Goals as goal
 

@@ -11,7 +11,7 @@ use Rattle.timed.specs.Rows.{asked_rows}
 use Rattle.timed.specs.Times.{times_of}
 use Prim.Native.Nat.{◌≤◌, ◌/◌}
 use lib.ListN.{length}
-use Rattle.order.specs.RefusalLaws.{accepted-iff}
+use Rattle.order.proofs.RefusalLaws.{accepted-iff}
 use Rattle.timed.specs.Changes.{timed_rows_asked}
 use Rattle.timed.proofs.Refusing.{order-good}
 use Rattle.timed.proofs.Ensuring.{asked-refused, short-refused, made-ensured, timed-of, asked_is, asked-few}

@@ -1,0 +1,9 @@
+pub mod LeastRange
+pub mod MinutesLaws
+pub mod Ranking
+pub mod ReasonLaws
+pub mod RiseLaws
+pub mod SearchLaws
+pub mod StandingLaws
+pub mod Threshold
+pub mod Weights
