@@ -4,9 +4,9 @@ use mathlib.Core.Path.{◌≡◌, refl, sym, ap, ◌∙◌, subst}
 use mathlib.Core.List.{List}
 use native.Mathlib.Omega.{arith}
 use lib.Dec.{leb}
-use lib.ListN.{length, get_or, take, length-take}
+use lib.ListN.{get_or, take, length-take}
 use Rattle.sums.specs.Sum.{sum}
-use Rattle.sums.specs.Lists.{All, total, only, nth, keep}
+use Rattle.sums.specs.Lists.{total, only, nth, keep}
 use Rattle.sums.specs.Kept.{keep_all}
 use Rattle.sums.specs.Members.{All-map, in-All}
 use Rattle.sums.specs.Totals.{only-le, total-le, total-ones}

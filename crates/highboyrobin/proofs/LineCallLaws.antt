@@ -1,6 +1,6 @@
 -- What hbr_sentence and hbr_parse say: a line is composed for exactly the numbers that hbr_reason answers for a reason that stands, it is
 -- a fact about every plan, and hbr_parse answers the same numbers for it, for another line none.
-use Rattle.std.specs.Prelude.{ℕ, ◌+◌, ◌≤◌, ◌≡◌, Bool, true, false, cond, ◌&&◌, List, ◌++◌, ◌↔◌, eqb, ℤ, pos, negsuc, take, drop}
+use Rattle.std.specs.Prelude.{ℕ, ◌≤◌, ◌≡◌, Bool, true, false, cond, ◌&&◌, List, ◌++◌, ◌↔◌, eqb, ℤ, pos, negsuc, take, drop}
 use Rattle.std.proofs.Math.Path.{refl, ap}
 use Rattle.std.proofs.Common.{sym, ◌∙◌, subst, arith, eqb-true, take_at}
 use Rattle.std.proofs.Math.ListN.{length, get_or}

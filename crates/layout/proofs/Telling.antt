@@ -1,6 +1,6 @@
 -- Which job each processor ends a stretch with: the numbers of last rows tell it of the rows that stand, and these end a stretch as its
 -- layout does, where the rows before it ended before.
-use Prim.Native.Nat.{ℕ, ◌+◌, ◌-◌, ◌*◌, ◌≤◌, ◌<◌}
+use Prim.Native.Nat.{ℕ, ◌+◌, ◌*◌, ◌≤◌, ◌<◌}
 use mathlib.Core.Path.{◌≡◌, refl, sym, ap, ◌∙◌}
 use mathlib.Core.Bool.{false, cond}
 use mathlib.Core.List.{List, [], ◌∷◌, append-nil}

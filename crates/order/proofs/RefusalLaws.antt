@@ -8,28 +8,7 @@ use Rattle.sums.specs.Lists.{All, nth, tabulate}
 use Rattle.sums.specs.Members.{All-map, All-from}
 use Rattle.sums.specs.Places.{length-tabulate, get_d_tabulate}
 use Rattle.order.specs.Order.{Job, Order, Numbers, Fits, processor_count, job_count, memory_of}
-use Rattle.order.specs.Refusals.{
-  limits,
-  Finding,
-  clear,
-  holds,
-  TableRow,
-  Verdict,
-  accepted,
-  refused,
-  verdict_of,
-  judge,
-  whole,
-  first_after,
-  first,
-  due_in_range,
-  most_makers,
-  fits_some,
-  row,
-  count_rows,
-  order_rows,
-  Accepted,
-}
+use Rattle.order.specs.Refusals.{limits, Finding, clear, holds, TableRow, Verdict, accepted, refused, verdict_of, judge, whole, first_after, first, due_in_range, most_makers, fits_some, count_rows, order_rows, Accepted}
 
 -- row number k is returned with what it carries: its condition holds, and that of no earlier row does
 pub record Returned (rows : List TableRow) (number carried : ℕ) : Type 0 where

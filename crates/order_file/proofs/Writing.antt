@@ -8,8 +8,7 @@ use mathlib.Core.List.{List, [], ◌∷◌, ◌++◌, map, append_assoc}
 use native.Mathlib.Omega.{arith}
 use borrow.Author.Tests.{lt-ltb, le-ltb}
 use lib.ListN.{length, take, drop}
-use mir.Syntax.{w32}
-use mir.Val.{vint, of_list, WTs}
+use mir.Val.{of_list, WTs}
 use Rattle.sums.specs.Lists.{All}
 use Rattle.order.specs.Order.{Order}
 use Rattle.order.specs.Refusals.{

@@ -2,7 +2,6 @@
 use Rattle.std.specs.Prelude.{ℕ, suc, ◌+◌, ◌-◌, ◌*◌, max, pred, Bool, cond, List, [], map, ltb, eqb, ℤ, pos, length, get_or}
 use Rattle.sums.specs.Sum.{sum}
 use Rattle.sums.specs.Lists.{only, tabulate}
-use Rattle.order.specs.Class.{classes}
 use Rattle.order.specs.Refusals.{Finding, clear, holds, first}
 use Rattle.profile.specs.Search.{nothing, found}
 use Rattle.order.specs.Lead.{lead}

@@ -9,7 +9,7 @@ use lib.Seq.{get_or-drop, get_or-take, length-take-le}
 use Rattle.sums.specs.Lists.{tabulate}
 use Rattle.sums.specs.Places.{tabulate-cong, tabulate-get_or}
 use Rattle.order.specs.Order.{Order, no_order, processor_count, job_count}
-use Rattle.order.specs.Refusals.{screen, Verdict, accepted, refused, judge, answer_by}
+use Rattle.order.specs.Refusals.{screen, Verdict, accepted, judge, answer_by}
 use Rattle.order.specs.Callers.{Within, rows_for}
 use Rattle.order.specs.Table.{order_of, table_of, refusal_told, number_by}
 use Rattle.order.proofs.RefusalLaws.{accepted≢refused}

@@ -20,18 +20,7 @@ use Rattle.registers.specs.Registers.{
   allowing,
   storing,
 }
-use Rattle.registers.specs.Memory.{
-  block_of,
-  stored_by,
-  spare_by,
-  spare_of,
-  Moved,
-  with_flags,
-  with_allowed,
-  lateness_put,
-  finished_at,
-  concluded,
-}
+use Rattle.registers.specs.Memory.{block_of, stored_by, spare_by, Moved, with_flags, with_allowed, lateness_put, finished_at, concluded}
 use Rattle.registers.specs.declared.Flags.{Flags}
 use Rattle.registers.specs.declared.Outcome.{Outcome}
 use Rattle.registers.specs.declared.Outcome.TheVariants.{Done, Refused}

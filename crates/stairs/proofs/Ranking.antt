@@ -12,7 +12,7 @@ use Rattle.stairs.specs.Places.{profiles, FoundPlaces, first_overfull_at, places
 use Rattle.sums.specs.Arrays.{pad}
 use Rattle.stairs.specs.Tables.{comp, first_from, put, cell, Completed, room_of, stop_at}
 use Rattle.stairs.specs.PlacesLaws.{or_else, first_step}
-use Rattle.stairs.specs.CompletionLaws.{outcome, finds-where, none_more, hit, overfull-suc, overfull-stays}
+use Rattle.stairs.specs.CompletionLaws.{finds-where, none_more, hit, overfull-suc, overfull-stays}
 use Rattle.stairs.specs.declared.Outcome.TheVariants.{Places, Nothing}
 use Rattle.stairs.specs.declared.Stop.{Stop}
 

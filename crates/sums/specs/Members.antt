@@ -1,5 +1,5 @@
 -- Laws of members: what holds of each member of a list, at a place and by its number, of two lists one behind the other, of an image.
-use Rattle.std.specs.Prelude.{ℕ, zero, suc, ◌+◌, ◌≤◌, ◌<◌, ◌≡◌, refl, List, [], ◌∷◌, ◌++◌, map, ◌⊎◌, length, get_or}
+use Rattle.std.specs.Prelude.{ℕ, zero, suc, ◌≤◌, ◌<◌, ◌≡◌, refl, List, [], ◌∷◌, ◌++◌, map, ◌⊎◌, length, get_or}
 use Rattle.std.proofs.Common.{sym, ap, subst, inl, inr, arith, le_of_suc-le-suc}
 use Rattle.sums.specs.Lists.{All, In, nth}
 

@@ -1,5 +1,5 @@
 -- Laws of what holds of each two members of a list.
-use Rattle.std.specs.Prelude.{ℕ, zero, suc, ◌+◌, ◌<◌, ◌≡◌, refl, List, [], ◌∷◌, ◌++◌, map, ◌⊎◌, length, get_or}
+use Rattle.std.specs.Prelude.{ℕ, zero, suc, ◌<◌, ◌≡◌, refl, List, [], ◌∷◌, ◌++◌, map, ◌⊎◌, length, get_or}
 use Rattle.std.proofs.Common.{sym, ◌∙◌, inl, inr, arith, le_of_suc-le-suc}
 use Rattle.sums.specs.Lists.{All, In, Pairwise}
 use Rattle.sums.specs.Members.{All-map, All-both, All-append, All-in, in-All, All-at, All-from, All-of-map}

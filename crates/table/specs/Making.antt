@@ -8,7 +8,7 @@ use Rattle.sums.specs.Members.{All-nth, nth_in}
 use Rattle.sums.specs.Places.{length-tabulate, get_d_tabulate}
 use Rattle.order.specs.Order.{Order, Job, Numbers, processor_count, job_count, job_of, memory_of, no_job}
 use Rattle.order.specs.Sorted.{processor_order, job_order}
-use Rattle.order.specs.Class.{classes, class_for, class_of, processors_in, processors_to}
+use Rattle.order.specs.Class.{class_for, class_of, processors_in, processors_to}
 use Rattle.order.proofs.RefusalLaws.{Acceptable, dues-in-range}
 use Rattle.order.proofs.StructLaws.{job-count, processor-count}
 use Rattle.order.specs.Table.{order_of, job_at, padded}

@@ -36,7 +36,6 @@ use Rattle.timed.specs.Leads.{top, most_bound, WindowsPut}
 use Rattle.timed.specs.LeadLaws.{lead-minute, minute-of-lead, lead-end, end-by-top}
 use Rattle.timed.specs.Making.{TimedOf, ChangesOf}
 use Rattle.timed.specs.Times.{times_of}
-use Rattle.timed.specs.declared.Changes.{Changes}
 use Rattle.timed.specs.declared.Times.{Times as TimesTable}
 
 module _ (o : Order) (t : Table) (bound : ℤ) (times : TimesTable) (T : TimedOf o t bound times)

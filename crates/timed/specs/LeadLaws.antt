@@ -1,5 +1,5 @@
 -- The leads of ends and of minutes before 11,000,001, and the changes of an order by them.
-use Rattle.std.specs.Prelude.{ℕ, suc, ◌+◌, ◌-◌, ◌≤◌, ◌≡◌, true, leb, ℤ, negsuc, ◌+ℤ◌, ◌≤ℤ◌}
+use Rattle.std.specs.Prelude.{ℕ, ◌+◌, ◌-◌, ◌≤◌, ◌≡◌, true, leb, ℤ, negsuc, ◌+ℤ◌, ◌≤ℤ◌}
 use Rattle.std.proofs.Math.Path.{sym, ap}
 use Rattle.std.proofs.Common.{◌∙◌, subst, arith, leb-true}
 use Rattle.std.proofs.Math.IntN.{pos, +ℤ_assoc}

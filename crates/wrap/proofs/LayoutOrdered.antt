@@ -10,7 +10,7 @@ use Rattle.wrap.specs.Stretches.{stretch_count}
 use Rattle.wrap.specs.Marks.{mark-up}
 use Rattle.wrap.specs.Layout.{layout}
 use Rattle.wrap.specs.RowOrder.{RowBefore}
-use Rattle.wrap.specs.Frame.{lies, layout_in, RowBeforeIn}
+use Rattle.wrap.specs.Frame.{layout_in, RowBeforeIn}
 use Rattle.wrap.proofs.FrameRight.{layout-ordered-in, layout-count-in}
 use Rattle.wrap.proofs.FrameBase.{base_frame, layout_is}
 

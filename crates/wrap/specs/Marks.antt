@@ -1,6 +1,6 @@
 -- The marks between the stretches: minute 0, then the distinct ends upwards, cut off at 0. They never fall, and they rise
 -- where the ends are behind minute 0.
-use Rattle.std.specs.Prelude.{ℕ, zero, suc, ◌+◌, ◌-◌, ◌≤◌, ◌<◌, ◌≡◌, true, List, reverse, ℤ, pos, get_or, ◌<ℤ◌}
+use Rattle.std.specs.Prelude.{ℕ, zero, suc, ◌≤◌, ◌<◌, ◌≡◌, true, List, reverse, ℤ, pos, get_or, ◌<ℤ◌}
 use Rattle.std.proofs.Math.Path.{refl}
 use Rattle.std.proofs.Common.{sym, ap, subst, arith}
 use Rattle.std.proofs.Math.Decide.{ℕ_discrete}

@@ -1,4 +1,3 @@
-use borrow.Author.Rules.{rules}
 use mathlib.Core.Path.{refl, sym, ◌∙◌}
 use Rattle.allot.proofs.Shares.{cap-in, cap-out}
 use Rattle.allot.proofs.tables.cap_of.Goals as goal

@@ -1,10 +1,9 @@
 use borrow.Author.Rules.{rules}
 use native.Mathlib.Omega.{arith}
-use Prim.Native.Nat.{◌-◌, ◌≤◌}
+use Prim.Native.Nat.{◌-◌}
 use mathlib.Core.Path.{◌≡◌, refl}
-use lib.ListN.{length, get_or, take}
-use Rattle.allot.specs.Tables.{Kinds}
-use Rattle.allot.proofs.Shares.{kind_at, zeros-at, Counting, counting-none, counting_more}
+use lib.ListN.{get_or}
+use Rattle.allot.proofs.Shares.{kind_at, zeros-at, counting-none, counting_more}
 use Rattle.allot.proofs.tables.count_kinds.Goals as goal
 
 pub loop-k-init : goal.loop-k-init

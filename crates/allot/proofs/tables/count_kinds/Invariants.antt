@@ -1,10 +1,8 @@
-use borrow.Author.Rules.{rules}
-use native.Mathlib.Omega.{arith}
 use Prim.Native.Nat.{◌-◌, ◌≤◌}
-use mathlib.Core.Path.{◌≡◌, refl}
-use lib.ListN.{length, get_or, take}
+use mathlib.Core.Path.{◌≡◌}
+use lib.ListN.{length, take}
 use Rattle.allot.specs.Tables.{Kinds}
-use Rattle.allot.proofs.Shares.{kind_at, zeros-at, Counting, counting-none, counting_more}
+use Rattle.allot.proofs.Shares.{Counting}
 use Rattle.allot.proofs.tables.count_kinds.Given as goal
 
 abbrev pub invariant-loop-k : goal.invariant-loop-k

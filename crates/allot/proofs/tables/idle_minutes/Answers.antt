@@ -1,9 +1,6 @@
 use borrow.Author.Rules.{rules}
 use native.Mathlib.Omega.{arith}
-use Prim.Native.Nat.{◌+◌, ◌-◌, ◌*◌, ◌≤◌}
 use mathlib.Core.Path.{◌≡◌}
-use lib.ListN.{get_or}
-use Rattle.sums.specs.Sum.{sum}
 use Rattle.engine.specs.View.{row-end}
 use Rattle.allot.proofs.Shares.{idle-none, idle-step, idle-next, places-few}
 use Rattle.allot.proofs.tables.idle_minutes.Goals as goal

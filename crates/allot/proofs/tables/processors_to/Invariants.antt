@@ -1,9 +1,6 @@
-use Prim.Native.Nat.{◌+◌, ◌≤◌, ◌-◌}
-use mathlib.Core.Path.{◌≡◌, refl}
-use native.Mathlib.Omega.{arith}
-use borrow.Author.Rules.{rules}
-use Rattle.sums.specs.Gate.{sum_mono}
-use Rattle.sums.specs.Sum.{sum, sum_more}
+use Prim.Native.Nat.{◌≤◌, ◌-◌}
+use mathlib.Core.Path.{◌≡◌}
+use Rattle.sums.specs.Sum.{sum}
 use Rattle.allot.specs.Tables.{count_of}
 use Rattle.allot.proofs.tables.processors_to.Given as goal
 

@@ -1,13 +1,9 @@
 use borrow.Author.Rules.{rules}
 use native.Mathlib.Omega.{arith}
-use Prim.Native.Nat.{◌≤◌, ◌-◌}
 use mathlib.Core.Path.{refl, ◌≡◌}
-use lib.ListN.{length}
 use Rattle.engine.specs.View.{row-end}
 use Rattle.allot.proofs.Shares.{caps-few}
 use Rattle.allot.proofs.Writing.{rows_none, rows_more}
-use Rattle.allot.specs.Tables.{Rows}
-use Rattle.allot.specs.Flows.{cap_on}
 use Rattle.allot.proofs.tables.put_caps.Goals as goal
 
 pub loop-j-init : goal.loop-j-init

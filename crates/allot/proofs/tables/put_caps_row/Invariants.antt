@@ -1,11 +1,7 @@
-use borrow.Author.Rules.{rules}
-use native.Mathlib.Omega.{arith}
 use Prim.Native.Nat.{◌≤◌, ◌-◌}
-use mathlib.Core.Path.{◌≡◌, refl, sym}
-use lib.ListN.{length, length-set}
+use mathlib.Core.Path.{◌≡◌}
+use lib.ListN.{length}
 use Rattle.sums.specs.Lists.{nth}
-use Rattle.allot.proofs.Shares.{next_start}
-use Rattle.allot.specs.PutLaws.{put-none, put-more}
 use Rattle.allot.specs.Tables.{Put}
 use Rattle.allot.specs.Flows.{cap_at}
 use Rattle.allot.proofs.tables.put_caps_row.Given as goal

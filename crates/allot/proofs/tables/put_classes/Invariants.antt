@@ -1,11 +1,6 @@
-use borrow.Author.Rules.{rules}
-use native.Mathlib.Omega.{arith}
 use Prim.Native.Nat.{ℕ, ◌≤◌, ◌<◌, ◌-◌}
-use mathlib.Core.Path.{refl, ◌≡◌}
-use borrow.Author.Count.{below_none}
-use lib.ListN.{length, get_or, length-set}
-use Rattle.sums.specs.Arrays.{fill-at}
-use Rattle.allot.proofs.Idle.{classes-done}
+use mathlib.Core.Path.{◌≡◌}
+use lib.ListN.{length, get_or}
 use Rattle.allot.proofs.tables.put_classes.Given as goal
 
 abbrev pub invariant-loop-j : goal.invariant-loop-j

@@ -1,15 +1,13 @@
 use borrow.Author.Rules.{rules}
 use native.Mathlib.Omega.{arith}
 use native.Mathlib.Numerals.{add-one}
-use Prim.Native.Nat.{ℕ, suc, ◌≤◌, ◌-◌, ◌*◌}
+use Prim.Native.Nat.{ℕ, suc, ◌*◌}
 use mathlib.Core.Path.{◌≡◌, refl, sym, ap}
-use lib.ListN.{length, get_or, take}
-use Rattle.sums.specs.Lists.{nth}
+use lib.ListN.{get_or, take}
 use Rattle.engine.specs.View.{row-end}
 use Rattle.allot.proofs.Shares.{next_start, places-few}
 use Rattle.allot.proofs.Rooms.{open-kinds, open-counts, room-is}
 use Rattle.allot.proofs.Writing.{rows_none, rows_more}
-use Rattle.allot.specs.Tables.{Rows}
 use Rattle.allot.specs.Flows.{room_on}
 use Rattle.allot.proofs.tables.put_rooms.Goals as goal
 

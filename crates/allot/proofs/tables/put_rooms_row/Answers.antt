@@ -1,13 +1,12 @@
-use Prim.Native.Nat.{ℕ, ◌≤◌, ◌-◌, suc, ◌*◌}
+use Prim.Native.Nat.{ℕ, suc, ◌*◌}
 use mathlib.Core.Path.{◌≡◌, ap}
 use native.Mathlib.Omega.{arith}
 use borrow.Author.Rules.{rules}
-use lib.ListN.{length, length-set}
+use lib.ListN.{length-set}
 use Rattle.sums.specs.Gate.{sum_mono}
-use Rattle.sums.specs.Sum.{sum}
 use Rattle.allot.proofs.Shares.{room_small}
 use Rattle.allot.specs.PutLaws.{put-none, put-more}
-use Rattle.allot.specs.Tables.{count_of, Put}
+use Rattle.allot.specs.Tables.{count_of}
 use Rattle.allot.proofs.tables.put_rooms_row.Goals as goal
 
 pub loop-k-init : goal.loop-k-init

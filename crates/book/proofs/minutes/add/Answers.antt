@@ -1,7 +1,6 @@
 -- `add`: the invariant is that the places before i hold the sums, the others 0.
-use Prim.Native.Nat.{◌-◌, ◌≤◌}
 use Rattle.book.specs.BookLaws.{added-few}
-use Rattle.book.proofs.Adding.{Summed, no-sum, one-sum-more, all-sums}
+use Rattle.book.proofs.Adding.{no-sum, one-sum-more, all-sums}
 use borrow.Author.Rules.{rules}
 use native.Mathlib.Omega.{arith}
 use Rattle.book.proofs.minutes.add.Goals as goal

@@ -1,7 +1,6 @@
 -- `book_order`: full where some sum is over, else the sums.
 use mathlib.Core.Path.{sym, ◌∙◌}
 use Rattle.book.proofs.Adding.{full-booking, good-booking}
-use borrow.Author.Rules.{rules}
 use Rattle.book.proofs.minutes.book_order.Goals as goal
 
 pub returns-then-is_full : goal.returns-then-is_full

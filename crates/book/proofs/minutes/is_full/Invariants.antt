@@ -1,13 +1,7 @@
 -- `is_full`: the invariant is that no count before i is over.
 use Prim.Native.Nat.{ℕ, ◌+◌, ◌-◌, ◌≤◌, ◌<◌}
 use lib.ListN.{get_or}
-use borrow.Author.Count.{below_none, below_more}
-use mathlib.Core.Path.{sym}
-use Rattle.book.proofs.Adding.{sum_at, at-most-each}
-use Rattle.book.specs.Book.{added, most_booked}
-use Rattle.book.specs.BookLaws.{some-over, none_over}
-use borrow.Author.Rules.{rules}
-use native.Mathlib.Omega.{arith}
+use Rattle.book.specs.Book.{most_booked}
 use Rattle.book.proofs.minutes.is_full.Given as goal
 
 abbrev pub invariant-loop-i : goal.invariant-loop-i

@@ -1,12 +1,9 @@
 -- `minutes_by`: the invariant is that the minutes are those of the first j jobs.
 use Prim.Native.Nat.{◌-◌, ◌≤◌}
-use mathlib.Core.Path.{◌≡◌, refl}
+use mathlib.Core.Path.{◌≡◌}
 use Rattle.sums.specs.Lists.{tabulate}
 use Rattle.order.specs.Refusals.{most_makers}
-use Rattle.order.proofs.StructLaws.{few-jobs, time-in-range-at, maker-in-range-at}
-use Rattle.book.proofs.Counting.{minutes_in, minutes-read, one-job-more, all-minutes}
-use borrow.Author.Rules.{rules}
-use native.Mathlib.Omega.{arith}
+use Rattle.book.proofs.Counting.{minutes_in}
 use Rattle.book.proofs.minutes.minutes_by.Given as goal
 
 abbrev pub invariant-loop-j : goal.invariant-loop-j

@@ -1,5 +1,4 @@
 use Rattle.callers.proofs.Passing.{accept-refuses, accept-passes}
-use borrow.Author.Rules.{rules}
 use Rattle.callers.proofs.accept.accept_for.Goals as goal
 
 pub returns-in_default : goal.returns-in_default

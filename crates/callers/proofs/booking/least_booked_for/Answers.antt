@@ -4,7 +4,6 @@ use Rattle.callers.specs.Counted.{book-least-counted}
 use Rattle.order.specs.Table.{order_of}
 use Rattle.planner.specs.declared.Least.TheVariants.{Refused as LeastRefused}
 use lib.ListN.{length}
-use borrow.Author.Rules.{rules}
 use Rattle.callers.proofs.booking.least_booked_for.Goals as goal
 
 pub returns-in-Refused : goal.returns-in-Refused

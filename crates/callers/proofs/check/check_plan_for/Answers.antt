@@ -6,7 +6,6 @@ use Rattle.plan.specs.declared.Checked.TheVariants.{Refused as CheckRefused}
 use lib.ListN.{length}
 use mir.Syntax.{w32}
 use mir.ValLaws.{to_z-of_z}
-use borrow.Author.Rules.{rules}
 use Rattle.callers.proofs.check.check_plan_for.Goals as goal
 
 pub returns-in-Refused : goal.returns-in-Refused

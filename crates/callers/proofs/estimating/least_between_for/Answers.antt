@@ -1,5 +1,4 @@
 use Rattle.callers.proofs.Between.{Spans, between-passes, spans-refused}
-use borrow.Author.Rules.{rules}
 use Rattle.callers.proofs.estimating.least_between_for.Goals as goal
 
 pub returns-in-Refused : goal.returns-in-Refused

@@ -7,7 +7,6 @@ use lib.IntN.{ℤ}
 use mathlib.Core.Path.{refl, subst}
 use mir.Syntax.{w32}
 use mir.ValLaws.{to_z-of_z}
-use borrow.Author.Rules.{rules}
 use Rattle.callers.proofs.estimating.order_between_for.Goals as goal
 
 pub returns-in-Refused : goal.returns-in-Refused

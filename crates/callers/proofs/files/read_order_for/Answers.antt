@@ -1,6 +1,5 @@
 use Rattle.callers.proofs.Trailing.{read-refused, read-passed}
 use mathlib.Core.Path.{refl}
-use borrow.Author.Rules.{rules}
 use Rattle.callers.proofs.files.read_order_for.Goals as goal
 
 pub returns-in_default : goal.returns-in_default

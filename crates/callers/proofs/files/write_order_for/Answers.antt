@@ -4,7 +4,6 @@ use Rattle.callers.specs.Counted.{write-counted}
 use Rattle.order.specs.Table.{order_of}
 use Rattle.order_file.specs.declared.OrderWritten.TheVariants.{Refused as WriteRefused}
 use lib.ListN.{length}
-use borrow.Author.Rules.{rules}
 use Rattle.callers.proofs.files.write_order_for.Goals as goal
 
 pub returns-in-Refused : goal.returns-in-Refused

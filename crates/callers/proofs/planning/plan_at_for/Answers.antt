@@ -9,7 +9,6 @@ use mathlib.Core.List.{[]}
 use mathlib.Core.Path.{refl}
 use mir.Syntax.{w32}
 use mir.ValLaws.{to_z-of_z}
-use borrow.Author.Rules.{rules}
 use Rattle.callers.proofs.planning.plan_at_for.Goals as goal
 
 pub returns-in-Refused : goal.returns-in-Refused

@@ -6,7 +6,6 @@ use Rattle.sentence.specs.declared.Composed.TheVariants.{Refused as ComposeRefus
 use lib.ListN.{length}
 use mir.Syntax.{w32}
 use mir.ValLaws.{to_z-of_z}
-use borrow.Author.Rules.{rules}
 use Rattle.callers.proofs.telling.compose_for.Goals as goal
 
 pub returns-in-Refused : goal.returns-in-Refused

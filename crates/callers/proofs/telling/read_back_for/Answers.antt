@@ -7,7 +7,6 @@ use Rattle.reason.specs.Told.{why_of}
 use mathlib.Core.Path.{refl, ap}
 use mir.Syntax.{w32}
 use mir.ValLaws.{to_z-of_z}
-use borrow.Author.Rules.{rules}
 use Rattle.callers.proofs.telling.read_back_for.Goals as goal
 
 pub returns-in_default : goal.returns-in_default

@@ -7,7 +7,6 @@ use Rattle.timed.specs.declared.TimedPlan.TheVariants.{Refused as TimedRefused}
 use lib.ListN.{length}
 use mir.Syntax.{w32}
 use mir.ValLaws.{to_z-of_z}
-use borrow.Author.Rules.{rules}
 use Rattle.callers.proofs.timing.plan_timed_for.Goals as goal
 
 pub returns-in-Refused : goal.returns-in-Refused

@@ -6,7 +6,6 @@ use Rattle.timed.specs.Times.{times_of}
 use Rattle.timed.specs.declared.TimedRows.TheVariants.{Refused as AskRefused}
 use mir.Syntax.{w32}
 use mir.ValLaws.{to_z-of_z}
-use borrow.Author.Rules.{rules}
 use Rattle.callers.proofs.timing.rows_timed_for.Goals as goal
 
 pub returns-in-Refused : goal.returns-in-Refused

@@ -1,6 +1,4 @@
 use Prim.Native.Nat.{◌≤◌, ◌-◌}
-use borrow.Author.Rules.{rules}
-use native.Mathlib.Omega.{arith}
 use Rattle.cases.proofs.listing.print_classes.Given as goal
 
 abbrev pub invariant-loop-k : goal.invariant-loop-k

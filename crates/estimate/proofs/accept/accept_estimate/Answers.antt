@@ -10,7 +10,6 @@ use Rattle.estimate.proofs.Judging.{
   need-refused,
   all-accepted,
 }
-use borrow.Author.Rules.{rules}
 use Rattle.estimate.proofs.accept.accept_estimate.Goals as goal
 
 pub returns-in_default : goal.returns-in_default

@@ -1,12 +1,8 @@
 use Prim.Native.Nat.{ℕ, ◌-◌, ◌≤◌, ◌<◌}
 use mathlib.Core.Path.{◌≡◌}
 use mathlib.Core.Bool.{false, not, ◌&&◌}
-use native.Mathlib.Omega.{arith}
-use borrow.Author.Count.{below_none, below_more}
 use lib.ListN.{get_or}
-use Rattle.order.proofs.FindingLaws.{walk-found, walk_none, not-of, not_of_false}
 use Rattle.order.specs.Refusals.{time_in_range}
-use borrow.Author.Rules.{rules}
 use Rattle.estimate.proofs.accept.first_bad_end.Given as goal
 
 abbrev pub invariant-loop-j : goal.invariant-loop-j

@@ -1,13 +1,8 @@
 use Prim.Native.Nat.{ℕ, ◌-◌, ◌≤◌, ◌<◌}
 use mathlib.Core.Path.{◌≡◌}
 use mathlib.Core.Bool.{false}
-use native.Mathlib.Omega.{arith}
-use borrow.Author.Count.{below_none, below_more}
-use borrow.Author.Tests.{lt-ltb, le-ltb}
 use lib.Dec.{ltb}
 use lib.ListN.{get_or}
-use Rattle.order.proofs.FindingLaws.{walk-found, walk_none}
-use borrow.Author.Rules.{rules}
 use Rattle.estimate.proofs.accept.first_crossed.Given as goal
 
 abbrev pub invariant-loop-j : goal.invariant-loop-j

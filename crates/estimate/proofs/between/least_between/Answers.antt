@@ -1,5 +1,4 @@
 use Rattle.estimate.proofs.Answers.{estimate-good, leasts-refused, leasts-told}
-use borrow.Author.Rules.{rules}
 use Rattle.estimate.proofs.between.least_between.Goals as goal
 
 pub returns-in-Refused : goal.returns-in-Refused

@@ -1,18 +1,13 @@
-use Prim.Native.Nat.{ℕ, ◌-◌, ◌≤◌, ◌<◌}
 use mathlib.Core.Path.{◌≡◌, sym, subst}
 use native.Mathlib.Omega.{arith}
 use lib.IntN.{ℤ}
 use lib.Signed.{◌≤ℤ◌, ◌<ℤ◌}
 use mir.Syntax.{w32}
-use mir.Val.{to_z}
 use mir.ValLaws.{to_z-of_z}
-use Rattle.order.specs.Refusals.{limits, accepted, judge}
 use Rattle.order.specs.Whole.{≤ℤ-<ℤ-trans}
-use Rattle.estimate.specs.Estimate.{estimate_rows}
 use Rattle.estimate.specs.Request.{least_along, along-rises}
 use Rattle.estimate.specs.Told.{estimate_of}
 use Rattle.estimate.proofs.Answers.{along-below, along-reached}
-use borrow.Author.Rules.{rules}
 use Rattle.estimate.proofs.met.first_reached.Goals as goal
 
 pub loop-low-init : goal.loop-low-init

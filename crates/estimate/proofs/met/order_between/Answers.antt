@@ -13,7 +13,6 @@ use Rattle.estimate.proofs.Answers.{
   met-above,
   met_at,
 }
-use borrow.Author.Rules.{rules}
 use Rattle.estimate.proofs.met.order_between.Goals as goal
 
 pub returns-in-Refused : goal.returns-in-Refused

@@ -1,7 +1,6 @@
 use Rattle.estimate.specs.Told.{estimate_of}
 use Rattle.estimate.proofs.Answers.{along-read}
 use Rattle.estimate.proofs.Ordered.{along-accepted, along-fine, along-least}
-use borrow.Author.Rules.{rules}
 use Rattle.estimate.proofs.path.least_after.Goals as goal
 
 pub table_of-requires : goal.table_of-requires

@@ -1,8 +1,7 @@
-use Prim.Native.Nat.{◌-◌, ◌*◌, ◌≤◌}
 use mathlib.Core.Path.{◌≡◌, sym, ap, ◌∙◌}
 use native.Mathlib.Omega.{arith}
 use Rattle.sums.specs.Sum.{sum, sum-none, sum_more}
-use Rattle.estimate.specs.Inside.{width_at, Spans}
+use Rattle.estimate.specs.Inside.{width_at}
 use borrow.Author.Rules.{rules}
 use Rattle.estimate.proofs.path.minutes_between.Goals as goal
 

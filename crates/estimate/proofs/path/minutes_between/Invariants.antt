@@ -1,9 +1,7 @@
 use Prim.Native.Nat.{◌-◌, ◌*◌, ◌≤◌}
-use mathlib.Core.Path.{◌≡◌, sym, ap, ◌∙◌}
-use native.Mathlib.Omega.{arith}
-use Rattle.sums.specs.Sum.{sum, sum-none, sum_more}
+use mathlib.Core.Path.{◌≡◌}
+use Rattle.sums.specs.Sum.{sum}
 use Rattle.estimate.specs.Inside.{width_at, Spans}
-use borrow.Author.Rules.{rules}
 use Rattle.estimate.proofs.path.minutes_between.Given as goal
 
 abbrev pub invariant-loop-j : goal.invariant-loop-j

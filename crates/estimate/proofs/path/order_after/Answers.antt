@@ -3,7 +3,6 @@ use Rattle.estimate.specs.Estimate.{path_at}
 use Rattle.estimate.specs.Told.{estimate_of}
 use Rattle.estimate.specs.StructLaws.{spans, array-is}
 use Rattle.estimate.proofs.Ordered.{with_array}
-use borrow.Author.Rules.{rules}
 use Rattle.estimate.proofs.path.order_after.Goals as goal
 
 pub times_after-requires : goal.times_after-requires

@@ -1,7 +1,6 @@
 use mathlib.Core.Path.{◌∙◌}
 use native.Mathlib.Omega.{arith}
 use Rattle.estimate.specs.StructLaws.{spans, length-is, length_most}
-use borrow.Author.Rules.{rules}
 use Rattle.estimate.proofs.path.path_length.Goals as goal
 
 pub minutes_between-requires : goal.minutes_between-requires

@@ -1,8 +1,7 @@
-use Prim.Native.Nat.{◌-◌, ◌≤◌}
 use mathlib.Core.Path.{◌≡◌, ap, ◌∙◌}
 use native.Mathlib.Omega.{arith}
-use Rattle.sums.specs.Sum.{sum, sum-none, sum_more}
-use Rattle.estimate.specs.Inside.{width_at, Spans, array_after}
+use Rattle.sums.specs.Sum.{sum-none, sum_more}
+use Rattle.estimate.specs.Inside.{width_at, array_after}
 use Rattle.estimate.proofs.Filling.{none_after, one-after}
 use borrow.Author.Rules.{rules}
 use Rattle.estimate.proofs.path.times_after.Goals as goal

@@ -1,10 +1,7 @@
 use Prim.Native.Nat.{◌-◌, ◌≤◌}
-use mathlib.Core.Path.{◌≡◌, ap, ◌∙◌}
-use native.Mathlib.Omega.{arith}
-use Rattle.sums.specs.Sum.{sum, sum-none, sum_more}
+use mathlib.Core.Path.{◌≡◌}
+use Rattle.sums.specs.Sum.{sum}
 use Rattle.estimate.specs.Inside.{width_at, Spans, array_after}
-use Rattle.estimate.proofs.Filling.{none_after, one-after}
-use borrow.Author.Rules.{rules}
 use Rattle.estimate.proofs.path.times_after.Given as goal
 
 abbrev pub invariant-loop-j : goal.invariant-loop-j

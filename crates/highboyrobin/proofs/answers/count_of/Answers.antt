@@ -1,5 +1,4 @@
 use Rattle.order.specs.Machine.{machine-low}
-use borrow.Author.Rules.{rules}
 use Rattle.highboyrobin.proofs.answers.count_of.Goals as goal
 
 pub returns : goal.returns

@@ -1,7 +1,6 @@
 use mathlib.Core.Path.{◌∙◌}
 use Rattle.order.specs.Machine.{machine-back}
 use Rattle.highboyrobin.proofs.Stored.{one-stored}
-use borrow.Author.Rules.{rules}
 use Rattle.highboyrobin.proofs.answers.put_count.Goals as goal
 
 pub returns : goal.returns

@@ -2,7 +2,6 @@ use mathlib.Core.Path.{ap}
 use lib.IntN.{pos}
 use Rattle.highboyrobin.proofs.Stored.{nineteen-stored}
 use Rattle.highboyrobin.proofs.ReasonTold.{kind-small}
-use borrow.Author.Rules.{rules}
 use native.Mathlib.Omega.{arith}
 use Rattle.highboyrobin.proofs.answers.put_reason.Goals as goal
 

@@ -5,7 +5,6 @@ use Rattle.order.proofs.StructLaws.{job-count, processor-count, few-jobs, few-pr
 use mathlib.Core.Path.{◌∙◌}
 use lib.ListN.{length-set}
 use Rattle.highboyrobin.proofs.Stored.{three-stored}
-use borrow.Author.Rules.{rules}
 use native.Mathlib.Omega.{arith}
 use Rattle.highboyrobin.proofs.answers.put_sizes.Goals as goal
 

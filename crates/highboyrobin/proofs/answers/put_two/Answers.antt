@@ -1,7 +1,6 @@
 use mir.ValLaws.{to_z-of_z}
 use mir.Syntax.{w32}
 use Rattle.highboyrobin.proofs.Stored.{two-stored}
-use borrow.Author.Rules.{rules}
 use Rattle.highboyrobin.proofs.answers.put_two.Goals as goal
 
 pub returns : goal.returns

@@ -5,7 +5,6 @@ use Rattle.highboyrobin.proofs.Answering.{ended-told, ended-done, read-ended}
 use Rattle.highboyrobin.proofs.BetweenCalling.{rows-begin, between-refused, between-estimate, between-read, between-room}
 use Rattle.highboyrobin.proofs.BetweenTold.{LeastsSay, leasts-refused, leasts-are, low_read, high_read, two-same}
 use Rattle.highboyrobin.proofs.Carried.{carried-few, estimate-carries}
-use borrow.Author.Rules.{rules}
 use Rattle.highboyrobin.proofs.between.hbr_between.Goals as goal
 
 pub returns-in-Refused : goal.returns-in-Refused

@@ -4,7 +4,6 @@ use Rattle.order.specs.Table.{order_of}
 use Rattle.highboyrobin.proofs.BetweenTold.{handed-refused, handed-done}
 use Rattle.highboyrobin.proofs.Carried.{carried-few, write-carries}
 use Rattle.highboyrobin.proofs.FilesTold.{writer-refused, writer-wrote, file-few}
-use borrow.Author.Rules.{rules}
 use Rattle.highboyrobin.proofs.between_order.hand_out.Goals as goal
 
 pub result_of-requires : goal.result_of-requires

@@ -7,7 +7,6 @@ use Rattle.highboyrobin.specs.BetweenCalls.{estimate_in}
 use Rattle.highboyrobin.proofs.BetweenCalling.{order-rows-begin, between-refused, between-estimate, between-read, between-room}
 use Rattle.highboyrobin.proofs.BetweenTold.{met-moved, met-refused, met-accepted, order-refused, met-told, met-none, met-handed}
 use Rattle.highboyrobin.proofs.Carried.{carried-few, estimate-carries}
-use borrow.Author.Rules.{rules}
 use Rattle.highboyrobin.proofs.between_order.hbr_between_order.Goals as goal
 
 pub returns-in-Refused : goal.returns-in-Refused

@@ -1,6 +1,5 @@
 use lib.ListN.{length}
 use Rattle.highboyrobin.proofs.BlockTold.{bytes-short, numbers-short, both_long, clear-refused, clear-done}
-use borrow.Author.Rules.{rules}
 use Rattle.highboyrobin.proofs.block_clear.hbr_block_clear.Goals as goal
 
 pub returns-then-block-lt256 : goal.returns-then-block-lt256

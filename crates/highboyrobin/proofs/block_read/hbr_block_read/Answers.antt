@@ -4,7 +4,6 @@ use mathlib.Core.List.{[], ◌∷◌}
 use mathlib.Core.Path.{ap}
 use Prim.Native.Nat.{ℕ}
 use Rattle.highboyrobin.proofs.BlockTold.{bytes-short, numbers-short, both_long, answer-short, read-refused, read_done}
-use borrow.Author.Rules.{rules}
 use Rattle.highboyrobin.proofs.block_read.hbr_block_read.Goals as goal
 
 pub returns-then-answer-lt1 : goal.returns-then-answer-lt1

@@ -15,7 +15,6 @@ use Rattle.highboyrobin.proofs.Answering.{book-refused, book-told, book-done}
 use Rattle.highboyrobin.proofs.BooksTold.{least-book-moved, least-book-refused, least-book-at}
 use Rattle.highboyrobin.proofs.Calling.{list-few, list_read, list-refused, list-short}
 use Rattle.highboyrobin.proofs.Carried.{carried-few, read-carries, least-book-carries}
-use borrow.Author.Rules.{rules}
 use native.Mathlib.Omega.{arith}
 use Rattle.highboyrobin.proofs.book_least.hbr_book_least.Goals as goal
 

@@ -13,7 +13,6 @@ use Rattle.highboyrobin.proofs.Answering.{book-refused, book-told, book-done}
 use Rattle.highboyrobin.proofs.BooksTold.{book-moved, booked-refused, booked-tight, booked-rows}
 use Rattle.highboyrobin.proofs.Calling.{list-few, list_read, list-refused, list-short}
 use Rattle.highboyrobin.proofs.Carried.{carried-few, read-carries, plan-book-carries}
-use borrow.Author.Rules.{rules}
 use native.Mathlib.Omega.{arith}
 use Rattle.highboyrobin.proofs.book_plan.hbr_book_plan.Goals as goal
 

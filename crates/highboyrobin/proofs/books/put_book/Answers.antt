@@ -1,8 +1,7 @@
 -- `put_book`: the invariant is that the first i numbers are the counts, and the others as they were.
-use Prim.Native.Nat.{ℕ, ◌+◌, ◌-◌, ◌≤◌}
+use Prim.Native.Nat.{ℕ, ◌+◌}
 use mathlib.Core.Path.{◌≡◌, refl, ap, ◌∙◌}
-use mathlib.Core.List.{◌++◌}
-use lib.ListN.{length, get_or, set, take, drop}
+use lib.ListN.{get_or, set}
 use Rattle.highboyrobin.proofs.Stored.{none-stored, next-stored, all-stored, stored-length}
 use borrow.Author.Rules.{rules}
 use native.Mathlib.Omega.{arith}

@@ -1,11 +1,8 @@
 -- `put_book`: the invariant is that the first i numbers are the counts, and the others as they were.
-use Prim.Native.Nat.{ℕ, ◌+◌, ◌-◌, ◌≤◌}
-use mathlib.Core.Path.{◌≡◌, refl, ap, ◌∙◌}
+use Prim.Native.Nat.{◌+◌, ◌-◌, ◌≤◌}
+use mathlib.Core.Path.{◌≡◌}
 use mathlib.Core.List.{◌++◌}
-use lib.ListN.{length, get_or, set, take, drop}
-use Rattle.highboyrobin.proofs.Stored.{none-stored, next-stored, all-stored, stored-length}
-use borrow.Author.Rules.{rules}
-use native.Mathlib.Omega.{arith}
+use lib.ListN.{length, take, drop}
 use Rattle.highboyrobin.proofs.books.put_book.Given as goal
 
 abbrev pub invariant-loop-i : goal.invariant-loop-i

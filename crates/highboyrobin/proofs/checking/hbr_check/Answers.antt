@@ -12,7 +12,6 @@ use Rattle.order_file.specs.ReaderLaws.{reader-refused, order_is}
 use Rattle.highboyrobin.proofs.Calling.{call-short, call-refused, call-read}
 use Rattle.highboyrobin.specs.Calls.{yes_or_no}
 use Rattle.highboyrobin.proofs.ChecksTold.{check-begins, check-moved, check-refused, check-yes, check-no}
-use borrow.Author.Rules.{rules}
 use Rattle.highboyrobin.proofs.checking.hbr_check.Goals as goal
 
 pub returns-then-answer-lt1 : goal.returns-then-answer-lt1

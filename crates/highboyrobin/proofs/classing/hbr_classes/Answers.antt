@@ -15,7 +15,6 @@ use Rattle.table.specs.Passed.{listing}
 use Rattle.highboyrobin.proofs.Calling.{list-few, list_read, list-refused, list-short}
 use Rattle.highboyrobin.proofs.Carried.{carried-few, read-carries}
 use Rattle.highboyrobin.proofs.ClassesTold.{classes-refused, classes-why, classes-done}
-use borrow.Author.Rules.{rules}
 use native.Mathlib.Omega.{arith}
 use Rattle.highboyrobin.proofs.classing.hbr_classes.Goals as goal
 

@@ -1,11 +1,10 @@
-use Prim.Native.Nat.{ℕ, ◌-◌, ◌*◌, ◌≤◌}
+use Prim.Native.Nat.{ℕ, ◌*◌}
 use mathlib.Core.Path.{◌≡◌, ap, ◌∙◌}
 use mathlib.Core.List.{List, ◌++◌}
-use lib.ListN.{length, get_or, drop, length-set}
+use lib.ListN.{get_or, drop, length-set}
 use Rattle.table.specs.declared.Listing.{Listing}
 use Rattle.highboyrobin.specs.ClassCalls.{pairs_to}
 use Rattle.highboyrobin.proofs.ClassesTold.{none-paired, next-paired, paired-length}
-use borrow.Author.Rules.{rules}
 use native.Mathlib.Omega.{arith}
 use Rattle.highboyrobin.proofs.classing.put_classes.Goals as goal
 

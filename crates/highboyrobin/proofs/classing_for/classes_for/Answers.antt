@@ -6,7 +6,6 @@ use Rattle.order_file.specs.File.{order_in}
 use lib.ListN.{length}
 use mathlib.Core.List.{[], append-nil}
 use mathlib.Core.Path.{sym}
-use borrow.Author.Rules.{rules}
 use Rattle.highboyrobin.proofs.classing_for.classes_for.Goals as goal
 
 pub returns-then-answer-lt1 : goal.returns-then-answer-lt1

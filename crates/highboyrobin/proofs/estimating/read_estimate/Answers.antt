@@ -3,7 +3,6 @@ use mathlib.Core.Path.{refl}
 use Rattle.highboyrobin.specs.declared.ReadStatus.TheVariants.{Read}
 use Rattle.order_file.specs.TrailerLaws.{lists-placed}
 use Rattle.highboyrobin.proofs.BetweenRead.{no_room, bad-file, other-jobs, counts-carry, counts-refuse, counts-accept}
-use borrow.Author.Rules.{rules}
 use Rattle.highboyrobin.proofs.estimating.read_estimate.Goals as goal
 
 pub returns-then-lent-asked : goal.returns-then-lent-asked

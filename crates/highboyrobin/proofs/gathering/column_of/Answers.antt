@@ -1,7 +1,4 @@
-use Prim.Native.Nat.{◌+◌, ◌*◌, ◌-◌, ◌≤◌}
 use mathlib.Core.Path.{◌≡◌, refl}
-use lib.ListN.{get_or}
-use Rattle.order_file.specs.Inside.{padded_to}
 use Rattle.order_file.specs.PaddedLaws.{padded-none, padded-more}
 use borrow.Author.Rules.{rules}
 use native.Mathlib.Omega.{arith}

@@ -1,10 +1,6 @@
-use Prim.Native.Nat.{◌+◌, ◌*◌, ◌-◌, ◌≤◌}
 use mathlib.Core.Path.{◌≡◌, ◌∙◌}
 use lib.IntN.{pos}
-use lib.ListN.{get_or}
 use Rattle.order.specs.Machine.{machine-back}
-use Rattle.order_file.specs.Bytes.{signed}
-use Rattle.order_file.specs.Inside.{padded_to}
 use Rattle.order_file.specs.PaddedLaws.{padded-none, padded-more}
 use borrow.Author.Rules.{rules}
 use native.Mathlib.Omega.{arith}

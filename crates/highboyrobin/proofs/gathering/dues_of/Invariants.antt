@@ -1,13 +1,9 @@
 use Prim.Native.Nat.{◌+◌, ◌*◌, ◌-◌, ◌≤◌}
-use mathlib.Core.Path.{◌≡◌, ◌∙◌}
+use mathlib.Core.Path.{◌≡◌}
 use lib.IntN.{pos}
 use lib.ListN.{get_or}
-use Rattle.order.specs.Machine.{machine-back}
 use Rattle.order_file.specs.Bytes.{signed}
 use Rattle.order_file.specs.Inside.{padded_to}
-use Rattle.order_file.specs.PaddedLaws.{padded-none, padded-more}
-use borrow.Author.Rules.{rules}
-use native.Mathlib.Omega.{arith}
 use Rattle.highboyrobin.proofs.gathering.dues_of.Given as goal
 
 abbrev pub invariant-loop-j : goal.invariant-loop-j

@@ -1,6 +1,5 @@
 use mathlib.Core.Path.{refl}
 use Rattle.highboyrobin.proofs.Gathered.{gathered}
-use borrow.Author.Rules.{rules}
 use native.Mathlib.Omega.{arith}
 use Rattle.highboyrobin.proofs.gathering.order_from.Goals as goal
 

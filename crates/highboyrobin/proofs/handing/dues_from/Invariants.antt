@@ -1,12 +1,8 @@
 use Prim.Native.Nat.{ℕ, ◌+◌, ◌-◌, ◌≤◌}
-use mathlib.Core.Path.{◌≡◌, refl, ap, ◌∙◌}
+use mathlib.Core.Path.{◌≡◌}
 use lib.IntN.{pos}
 use lib.ListN.{get_or}
-use Rattle.order.specs.Machine.{machine-back}
 use Rattle.order_file.specs.Inside.{padded_to}
-use Rattle.order_file.specs.PaddedLaws.{padded-none, padded-more}
-use borrow.Author.Rules.{rules}
-use native.Mathlib.Omega.{arith}
 use Rattle.highboyrobin.proofs.handing.dues_from.Given as goal
 
 abbrev pub invariant-loop-i : goal.invariant-loop-i

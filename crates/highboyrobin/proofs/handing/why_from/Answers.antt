@@ -2,7 +2,6 @@ use lib.IntN.{pos}
 use lib.ListN.{get_or}
 use Rattle.order.specs.Machine.{machine-back}
 use Rattle.highboyrobin.proofs.Handed.{why-is}
-use borrow.Author.Rules.{rules}
 use Rattle.highboyrobin.proofs.handing.why_from.Goals as goal
 
 pub returns : goal.returns

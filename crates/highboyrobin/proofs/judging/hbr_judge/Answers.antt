@@ -9,7 +9,6 @@ use Rattle.highboyrobin.proofs.Answering.{ended-refused, ended-told, ended-done}
 use Rattle.highboyrobin.proofs.Carried.{carried-few, read-carries}
 use Rattle.order_file.specs.ReaderLaws.{reader-refused, order_is, order-accepted}
 use Rattle.highboyrobin.proofs.Calling.{call-short, call-refused, call-read}
-use borrow.Author.Rules.{rules}
 use Rattle.highboyrobin.proofs.judging.hbr_judge.Goals as goal
 
 pub returns-then-answer-lt3 : goal.returns-then-answer-lt3

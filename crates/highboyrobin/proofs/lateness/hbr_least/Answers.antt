@@ -12,7 +12,6 @@ use Rattle.order_file.specs.ReaderLaws.{reader-refused, order_is, order-accepted
 use Rattle.highboyrobin.proofs.Calling.{call-short, call-refused, call-read}
 use Rattle.planner.specs.RowLaws.{written-few}
 use Rattle.planner.specs.AnswerLaws.{least-begins, least-moved, least-refused, least_at}
-use borrow.Author.Rules.{rules}
 use native.Mathlib.Omega.{arith}
 use Rattle.highboyrobin.proofs.lateness.hbr_least.Goals as goal
 

@@ -1,12 +1,8 @@
 -- `by_job`: the invariant is that the places before j hold the lent numbers, the others 0.
 use Prim.Native.Nat.{ℕ, ◌-◌, ◌≤◌}
-use mathlib.Core.Path.{◌≡◌, ◌∙◌}
+use mathlib.Core.Path.{◌≡◌}
 use lib.ListN.{get_or}
 use Rattle.order_file.specs.Inside.{padded_to}
-use Rattle.order_file.specs.PaddedLaws.{padded-none, padded-more}
-use Rattle.highboyrobin.proofs.TimesTold.{all-padded}
-use borrow.Author.Rules.{rules}
-use native.Mathlib.Omega.{arith}
 use Rattle.highboyrobin.proofs.lists.by_job.Given as goal
 
 abbrev pub invariant-loop-j : goal.invariant-loop-j

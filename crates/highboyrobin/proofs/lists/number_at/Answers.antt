@@ -1,5 +1,4 @@
 use Rattle.highboyrobin.proofs.TimesTold.{none-beyond}
-use borrow.Author.Rules.{rules}
 use Rattle.highboyrobin.proofs.lists.number_at.Goals as goal
 
 pub returns : goal.returns

@@ -1,8 +1,5 @@
-use Prim.Native.Nat.{ℕ, ◌≤◌}
-use mathlib.Core.Path.{◌≡◌, refl, ap}
-use Rattle.order.specs.Refusals.{answer, refusal}
+use mathlib.Core.Path.{refl, ap}
 use Rattle.needs.specs.Told.{filled_told}
-use Rattle.highboyrobin.specs.NeedCalls.{most_lengths}
 use Rattle.highboyrobin.proofs.NeedsTold.{
   short-answer,
   long-list,
@@ -11,7 +8,6 @@ use Rattle.highboyrobin.proofs.NeedsTold.{
   filling-refused,
   filling-done,
 }
-use borrow.Author.Rules.{rules}
 use native.Mathlib.Omega.{arith}
 use Rattle.highboyrobin.proofs.needing.hbr_needs.Goals as goal
 

@@ -17,7 +17,6 @@ use Rattle.highboyrobin.proofs.Answering.{ended-refused, ended-told, ended-done}
 use Rattle.highboyrobin.proofs.ReasonTold.{numbers-are, read_small}
 use Rattle.highboyrobin.proofs.SentenceTold.{back-moved, back-refused, back_read, back-begins}
 use Rattle.highboyrobin.specs.CallLaws.{numbers-count}
-use borrow.Author.Rules.{rules}
 use Rattle.highboyrobin.proofs.parsing.hbr_parse.Goals as goal
 
 pub returns-then-answer-lt19 : goal.returns-then-answer-lt19

@@ -10,7 +10,6 @@ use Rattle.order_file.specs.ReaderLaws.{reader-refused, order_is, order-accepted
 use Rattle.highboyrobin.proofs.Calling.{call-short, call-refused, call-read}
 use Rattle.planner.specs.RowLaws.{written-few}
 use Rattle.planner.specs.AnswerLaws.{plan-begins, plan-moved, planned-refused, planned-tight, planned-rows}
-use borrow.Author.Rules.{rules}
 use native.Mathlib.Omega.{arith}
 use Rattle.highboyrobin.proofs.planning.hbr_plan.Goals as goal
 

@@ -19,7 +19,6 @@ use Rattle.order_file.specs.ReaderLaws.{reader-refused, order_is, order-accepted
 use Rattle.highboyrobin.proofs.Calling.{call-short, call-refused, call-read}
 use Rattle.highboyrobin.proofs.ReasonTold.{numbers-are, bound-refused, bound-accepted, reason-small, why-moved}
 use Rattle.highboyrobin.specs.CallLaws.{numbers-count}
-use borrow.Author.Rules.{rules}
 use native.Mathlib.Omega.{arith}
 use Rattle.highboyrobin.proofs.reasoning.hbr_reason.Goals as goal
 

@@ -9,7 +9,6 @@ use Rattle.plan.specs.Check.{is_right}
 use lib.ListN.{length}
 use mir.Syntax.{w32}
 use mir.ValLaws.{to_z-of_z}
-use borrow.Author.Rules.{rules}
 use Rattle.highboyrobin.proofs.screen_check.hbr_screen_check.Goals as goal
 
 pub returns-then-answer-lt1 : goal.returns-then-answer-lt1

@@ -9,7 +9,6 @@ use lib.IntN.{pos}
 use lib.ListN.{length}
 use mathlib.Core.List.{append-nil}
 use mathlib.Core.Path.{refl, sym}
-use borrow.Author.Rules.{rules}
 use Rattle.highboyrobin.proofs.screen_judge.hbr_screen_judge.Goals as goal
 
 pub returns-then-answer-lt3 : goal.returns-then-answer-lt3

@@ -8,7 +8,6 @@ use Rattle.profile.specs.Least.{least_lateness}
 use lib.ListN.{length}
 use mathlib.Core.List.{[], ◌∷◌}
 use mathlib.Core.Path.{refl}
-use borrow.Author.Rules.{rules}
 use Rattle.highboyrobin.proofs.screen_least.hbr_screen_least.Goals as goal
 
 pub returns-then-answer-lt2 : goal.returns-then-answer-lt2

@@ -9,7 +9,6 @@ use mathlib.Core.List.{[]}
 use mathlib.Core.Path.{refl}
 use mir.Syntax.{w32}
 use mir.ValLaws.{to_z-of_z}
-use borrow.Author.Rules.{rules}
 use Rattle.highboyrobin.proofs.screen_plan.hbr_screen_plan.Goals as goal
 
 pub returns-then-answer-lt1 : goal.returns-then-answer-lt1

@@ -9,7 +9,6 @@ use lib.ListN.{length}
 use mathlib.Core.Path.{refl}
 use mir.Syntax.{w32}
 use mir.ValLaws.{to_z-of_z}
-use borrow.Author.Rules.{rules}
 use Rattle.highboyrobin.proofs.screen_reason.hbr_screen_reason.Goals as goal
 
 pub returns-then-answer-lt19 : goal.returns-then-answer-lt19

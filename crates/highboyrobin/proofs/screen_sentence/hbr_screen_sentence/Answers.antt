@@ -8,7 +8,6 @@ use lib.ListN.{length}
 use mathlib.Core.Path.{refl}
 use mir.Syntax.{w32}
 use mir.ValLaws.{to_z-of_z}
-use borrow.Author.Rules.{rules}
 use Rattle.highboyrobin.proofs.screen_sentence.hbr_screen_sentence.Goals as goal
 
 pub returns-then-answer-lt1 : goal.returns-then-answer-lt1

@@ -17,7 +17,6 @@ use Rattle.highboyrobin.proofs.SentenceTold.{
   compose-refused,
   compose-wrote,
 }
-use borrow.Author.Rules.{rules}
 use native.Mathlib.Omega.{arith}
 use Rattle.highboyrobin.proofs.sentencing.hbr_sentence.Goals as goal
 

@@ -20,7 +20,6 @@ use Rattle.highboyrobin.proofs.TimedTold.{
   timed-check-yes,
   timed-check-no,
 }
-use borrow.Author.Rules.{rules}
 use native.Mathlib.Omega.{arith}
 use Rattle.highboyrobin.proofs.timed_check.hbr_timed_check.Goals as goal
 

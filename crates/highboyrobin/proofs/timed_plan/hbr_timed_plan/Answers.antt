@@ -25,7 +25,6 @@ use Rattle.highboyrobin.proofs.TimedTold.{
   timed-plan-rows,
   timed-few,
 }
-use borrow.Author.Rules.{rules}
 use native.Mathlib.Omega.{arith}
 use Rattle.highboyrobin.proofs.timed_plan.hbr_timed_plan.Goals as goal
 

@@ -20,7 +20,6 @@ use Rattle.highboyrobin.proofs.TimedCalling.{
   timed-room,
 }
 use Rattle.highboyrobin.proofs.TimedTold.{asked-begins, told_moved, AskedTold, asked-refused, asked-rows, asked-most}
-use borrow.Author.Rules.{rules}
 use native.Mathlib.Omega.{arith}
 use Rattle.highboyrobin.proofs.timed_rows.hbr_timed_rows.Goals as goal
 

@@ -1,11 +1,9 @@
 -- `side_from`: the invariant is that the places before i hold the numbers of the first i pairs, the others 0.
-use Prim.Native.Nat.{ℕ, ◌+◌, ◌*◌, ◌-◌, ◌≤◌}
+use Prim.Native.Nat.{ℕ, ◌+◌, ◌*◌}
 use mathlib.Core.Path.{◌≡◌, ◌∙◌}
 use lib.ListN.{get_or}
-use Rattle.order_file.specs.Inside.{padded_to}
 use Rattle.order_file.specs.PaddedLaws.{padded-none, padded-more}
 use Rattle.highboyrobin.proofs.TimesTold.{all-padded}
-use borrow.Author.Rules.{rules}
 use native.Mathlib.Omega.{arith}
 use Rattle.highboyrobin.proofs.timing.side_from.Goals as goal
 

@@ -1,5 +1,4 @@
 use Rattle.highboyrobin.proofs.TimesTold.{times-are}
-use borrow.Author.Rules.{rules}
 use Rattle.highboyrobin.proofs.timing.times_from.Goals as goal
 
 pub returns : goal.returns

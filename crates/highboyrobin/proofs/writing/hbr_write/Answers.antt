@@ -23,7 +23,6 @@ use Rattle.highboyrobin.proofs.FilesTold.{
   writer-wrote,
   file-few,
 }
-use borrow.Author.Rules.{rules}
 use native.Mathlib.Omega.{arith}
 use Rattle.highboyrobin.proofs.writing.hbr_write.Goals as goal
 

@@ -1,8 +1,7 @@
-use Prim.Native.Nat.{◌-◌, ◌≤◌}
 use mathlib.Core.Path.{◌≡◌}
 use lib.ListN.{length}
 use borrow.Author.Rules.{rules}
-use Rattle.layout.proofs.Opening.{Opening, opening-start, opening-more, opening-other, opening-end}
+use Rattle.layout.proofs.Opening.{opening-start, opening-more, opening-other, opening-end}
 use native.Mathlib.Omega.{arith}
 use Rattle.layout.proofs.opened.open_processors.Goals as goal
 

@@ -1,7 +1,6 @@
 -- The tests in the order of the definition.
 use mathlib.Core.Path.{refl}
 use native.Mathlib.Omega.{arith}
-use borrow.Author.Rules.{rules}
 use borrow.Author.Tests.{eq-eqb, ne_eqb}
 use Rattle.layout.proofs.rows.ends_with.Goals as goal
 

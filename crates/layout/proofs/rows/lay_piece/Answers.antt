@@ -1,7 +1,6 @@
 -- One row more, and the place behind it.
 use mathlib.Core.Path.{refl}
 use mathlib.Core.List.{[]}
-use borrow.Author.Rules.{rules}
 use borrow.Author.Tests.{lt-ltb, le-ltb}
 use Rattle.layout.proofs.Writing.{laid-row}
 use Rattle.layout.proofs.rows.lay_piece.Goals as goal

@@ -1,21 +1,10 @@
 -- The loop's invariant: what is left of the share goes on from the place that the loop has come to.
-use Prim.Native.Nat.{◌+◌, ◌-◌}
 use mathlib.Core.Path.{◌≡◌, refl, sym, ◌∙◌}
 use mathlib.Core.List.{[]}
 use native.Mathlib.Omega.{arith}
 use borrow.Author.Rules.{rules}
 use lib.ListN.{length}
-use Rattle.layout.specs.Sheet.{sheet}
-use Rattle.layout.proofs.Sharing.{
-  Going,
-  going_start,
-  going-good,
-  going-number,
-  going-room,
-  going_more,
-  going_done,
-  going_end,
-}
+use Rattle.layout.proofs.Sharing.{going_start, going-good, going-number, going-room, going_more, going_done, going_end}
 use Rattle.layout.proofs.rows.lay_share.Goals as goal
 
 pub loop-next-init : goal.loop-next-init

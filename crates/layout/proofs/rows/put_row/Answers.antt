@@ -1,7 +1,6 @@
 -- Four stores one after the other.
 use Prim.Native.Nat.{◌*◌}
 use native.Mathlib.Omega.{arith}
-use borrow.Author.Rules.{rules}
 use lib.ListN.{length-set}
 use Rattle.layout.proofs.Writing.{four-stores}
 use Rattle.layout.proofs.rows.put_row.Goals as goal

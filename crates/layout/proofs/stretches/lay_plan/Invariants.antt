@@ -1,24 +1,10 @@
 -- The loop's invariant: the rows of the first s stretches are written, joined, and the next one begins at mark s.
 use Prim.Native.Nat.{◌-◌}
-use mathlib.Core.Path.{refl}
-use native.Mathlib.Omega.{arith}
-use borrow.Author.Rules.{rules}
 use lib.ListN.{replicate, take}
 use Rattle.wrap.specs.Flows.{amount_in}
 use Rattle.layout.specs.Sheet.{sheet}
-use Rattle.layout.specs.Planned.{lent_frame, rows_in, laid_out}
-use Rattle.layout.proofs.Framing.{
-  Given,
-  given,
-  Framing,
-  framing-start,
-  framing-end,
-  good_none,
-  frame-forward,
-  frame-numbers,
-  frame-room,
-  framing-more,
-}
+use Rattle.layout.specs.Planned.{lent_frame, rows_in}
+use Rattle.layout.proofs.Framing.{Given, Framing}
 use Rattle.layout.proofs.stretches.lay_plan.Given as goal
 
 abbrev pub invariant-loop-s : goal.invariant-loop-s

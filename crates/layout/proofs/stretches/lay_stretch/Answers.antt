@@ -1,21 +1,11 @@
 -- The loop's invariant: the shares of the jobs from place k on go on from the place that the loop has come to.
-use Prim.Native.Nat.{ℕ, ◌-◌, ◌≤◌}
+use Prim.Native.Nat.{ℕ, ◌≤◌}
 use mathlib.Core.Path.{◌≡◌, refl, sym, ◌∙◌}
 use native.Mathlib.Omega.{arith}
 use borrow.Author.Rules.{rules}
 use lib.ListN.{length}
-use Rattle.layout.specs.Sheet.{sheet}
 use Rattle.layout.proofs.Sharing.{share-none}
-use Rattle.layout.proofs.Stretching.{
-  Stretching,
-  amount-inside,
-  amount-small,
-  stretching-start,
-  share-room,
-  stretching-more,
-  stretching-end,
-  stretching-told,
-}
+use Rattle.layout.proofs.Stretching.{amount-inside, amount-small, stretching-start, share-room, stretching-more, stretching-end, stretching-told}
 use Rattle.layout.proofs.stretches.lay_stretch.Goals as goal
 
 none : {m : ℕ} → m ≤ 0 → m ≡ 0

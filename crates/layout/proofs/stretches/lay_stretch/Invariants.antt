@@ -1,21 +1,7 @@
 -- The loop's invariant: the shares of the jobs from place k on go on from the place that the loop has come to.
-use Prim.Native.Nat.{ℕ, ◌-◌, ◌≤◌}
-use mathlib.Core.Path.{◌≡◌, refl, sym, ◌∙◌}
-use native.Mathlib.Omega.{arith}
-use borrow.Author.Rules.{rules}
-use lib.ListN.{length}
+use Prim.Native.Nat.{◌-◌}
 use Rattle.layout.specs.Sheet.{sheet}
-use Rattle.layout.proofs.Sharing.{share-none}
-use Rattle.layout.proofs.Stretching.{
-  Stretching,
-  amount-inside,
-  amount-small,
-  stretching-start,
-  share-room,
-  stretching-more,
-  stretching-end,
-  stretching-told,
-}
+use Rattle.layout.proofs.Stretching.{Stretching}
 use Rattle.layout.proofs.stretches.lay_stretch.Given as goal
 
 abbrev pub invariant-loop-k : goal.invariant-loop-k

@@ -1,12 +1,8 @@
-use Prim.Native.Nat.{◌+◌, ◌-◌, ◌*◌, ◌≤◌}
 use mathlib.Core.Path.{ap, sym}
 use native.Mathlib.Omega.{arith}
-use borrow.Author.Rules.{rules}
-use lib.ListN.{take}
 use Rattle.order.specs.Machine.{machine-back}
-use Rattle.text.specs.Text.{signed_number, Put}
+use Rattle.text.specs.Text.{signed_number}
 use Rattle.lines.specs.LineLaws.{numbers-taken, numbers-none, numbers_more}
-use Rattle.lines.specs.Lines.{signed_numbers}
 use Rattle.text.specs.TextLaws.{put-none, put_as, put_both}
 use Rattle.lines.proofs.answers.put_dues.Goals as goal
 

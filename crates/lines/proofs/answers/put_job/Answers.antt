@@ -1,5 +1,4 @@
 use native.Mathlib.Omega.{arith}
-use borrow.Author.Rules.{rules}
 use Rattle.lines.specs.Lines.{tight_line}
 use Rattle.text.specs.TextLaws.{put_both}
 use Rattle.lines.proofs.answers.put_job.Goals as goal

@@ -1,6 +1,5 @@
 use mathlib.Core.Path.{sym, ap}
 use native.Mathlib.Omega.{arith}
-use borrow.Author.Rules.{rules}
 use Rattle.planner.specs.declared.Planned.{Planned}
 use Rattle.lines.specs.Lines.{meets_line}
 use Rattle.lines.specs.Inside.{planned_line}

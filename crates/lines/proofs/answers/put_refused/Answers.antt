@@ -1,6 +1,5 @@
 use mathlib.Core.Path.{ap}
 use native.Mathlib.Omega.{arith}
-use borrow.Author.Rules.{rules}
 use Rattle.text.specs.Text.{number}
 use Rattle.lines.specs.Lines.{refused_line}
 use Rattle.text.specs.TextLaws.{put_both, put_as}

@@ -1,6 +1,5 @@
 use mathlib.Core.Path.{sym, ap}
 use native.Mathlib.Omega.{arith}
-use borrow.Author.Rules.{rules}
 use Rattle.reason.specs.Told.{reason_told}
 use Rattle.reason.specs.declared.Reason.{Reason}
 use Rattle.lines.specs.Lines.{tight_line}

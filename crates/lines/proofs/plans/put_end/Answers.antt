@@ -1,5 +1,4 @@
 use native.Mathlib.Omega.{arith}
-use borrow.Author.Rules.{rules}
 use Rattle.lines.specs.Lines.{end_line}
 use Rattle.text.specs.TextLaws.{put_both}
 use Rattle.lines.proofs.plans.put_end.Goals as goal

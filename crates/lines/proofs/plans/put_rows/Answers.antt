@@ -1,11 +1,6 @@
-use Prim.Native.Nat.{◌+◌, ◌-◌, ◌*◌, ◌≤◌}
 use mathlib.Core.Path.{◌≡◌, sym}
 use native.Mathlib.Omega.{arith}
-use borrow.Author.Rules.{rules}
-use Rattle.sums.specs.Lists.{tabulate}
 use Rattle.plan.specs.Check.{row_at}
-use Rattle.text.specs.Text.{Put}
-use Rattle.lines.specs.Lines.{piece_lines}
 use Rattle.lines.specs.LineLaws.{pieces_none, pieces_more}
 use Rattle.text.specs.TextLaws.{put-none, put_as, put_both}
 use Rattle.lines.proofs.plans.put_rows.Goals as goal

@@ -1,5 +1,4 @@
 use native.Mathlib.Omega.{arith}
-use borrow.Author.Rules.{rules}
 use Rattle.profile.specs.Least.{least_lateness}
 use Rattle.profile.proofs.LeastRange.{least-in-range}
 use Rattle.profile.specs.LeastRead.{read-least}

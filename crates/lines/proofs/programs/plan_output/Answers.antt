@@ -1,6 +1,5 @@
 use mathlib.Core.Path.{sym, subst}
 use native.Mathlib.Omega.{arith}
-use borrow.Author.Rules.{rules}
 use Rattle.order.specs.Refusals.{Accepted}
 use Rattle.order_file.specs.File.{order_in}
 use Rattle.order_file.specs.ReaderLaws.{order_is, order-accepted, file-refused, file-read}

@@ -1,5 +1,4 @@
 use native.Mathlib.Omega.{arith}
-use borrow.Author.Rules.{rules}
 use lib.ListN.{drop}
 use Rattle.order.specs.declared.Refusal.TheVariants.{BadFile}
 use Rattle.order_file.specs.File.{order_in}

@@ -1,7 +1,5 @@
-use mathlib.Core.Path.{◌≡◌, sym, ◌∙◌}
+use mathlib.Core.Path.{sym, ◌∙◌}
 use lib.ListN.{length}
-use Rattle.needs.specs.NeedTable.{counted}
-use Rattle.needs.specs.Inside.{first_lines}
 use Rattle.needs.proofs.Ended.{
   gap-refused,
   twice-refused,
@@ -11,7 +9,6 @@ use Rattle.needs.proofs.Ended.{
   refused-ends,
   filled-ends,
 }
-use borrow.Author.Rules.{rules}
 use Rattle.needs.proofs.filling.fill_needs.Goals as goal
 
 pub returns-then-gap-le-LONGEST : goal.returns-then-gap-le-LONGEST

@@ -1,13 +1,8 @@
 use Prim.Native.Nat.{ℕ, ◌-◌, ◌≤◌, ◌<◌}
 use mathlib.Core.Bool.{false, not}
 use mathlib.Core.Path.{◌≡◌}
-use borrow.Author.Count.{below_none, below_more}
 use lib.ListN.{get_or}
-use Rattle.order.proofs.FindingLaws.{time-low, time-high, time-good}
 use Rattle.order.specs.Refusals.{time_in_range}
-use Rattle.needs.proofs.Ended.{place_found, no-place-found}
-use borrow.Author.Rules.{rules}
-use native.Mathlib.Omega.{arith}
 use Rattle.needs.proofs.filling.first_out.Given as goal
 
 abbrev pub invariant-loop-k : goal.invariant-loop-k

@@ -1,9 +1,5 @@
-use Prim.Native.Nat.{◌-◌, ◌≤◌}
-use mathlib.Core.Path.{◌≡◌, refl}
-use Rattle.needs.specs.NeedTable.{need_for}
-use Rattle.needs.specs.Inside.{first_lines}
-use Rattle.needs.proofs.Ended.{filled_to, filled-length, next-filled, all-put}
-use borrow.Author.Rules.{rules}
+use mathlib.Core.Path.{refl}
+use Rattle.needs.proofs.Ended.{filled-length, next-filled, all-put}
 use native.Mathlib.Omega.{arith}
 use Rattle.needs.proofs.filling.put_needs.Goals as goal
 

@@ -1,10 +1,8 @@
 use Prim.Native.Nat.{◌-◌, ◌≤◌}
-use mathlib.Core.Path.{◌≡◌, refl}
+use mathlib.Core.Path.{◌≡◌}
 use Rattle.needs.specs.NeedTable.{need_for}
 use Rattle.needs.specs.Inside.{first_lines}
-use Rattle.needs.proofs.Ended.{filled_to, filled-length, next-filled, all-put}
-use borrow.Author.Rules.{rules}
-use native.Mathlib.Omega.{arith}
+use Rattle.needs.proofs.Ended.{filled_to}
 use Rattle.needs.proofs.filling.put_needs.Given as goal
 
 abbrev pub invariant-loop-k : goal.invariant-loop-k

@@ -1,6 +1,4 @@
-use Prim.Native.Nat.{◌-◌}
-use Rattle.needs.specs.SmallestLaws.{Climbed, start, facts, at_gap, climb, at_top}
-use borrow.Author.Rules.{rules}
+use Rattle.needs.specs.SmallestLaws.{start, facts, at_gap, climb, at_top}
 use native.Mathlib.Omega.{arith}
 use Rattle.needs.proofs.gaps.first_unmet.Goals as goal
 

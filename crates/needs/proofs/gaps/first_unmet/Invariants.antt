@@ -1,7 +1,5 @@
 use Prim.Native.Nat.{◌-◌}
-use Rattle.needs.specs.SmallestLaws.{Climbed, start, facts, at_gap, climb, at_top}
-use borrow.Author.Rules.{rules}
-use native.Mathlib.Omega.{arith}
+use Rattle.needs.specs.SmallestLaws.{Climbed}
 use Rattle.needs.proofs.gaps.first_unmet.Given as goal
 
 abbrev pub invariant-loop-x : goal.invariant-loop-x

@@ -1,11 +1,6 @@
 use Prim.Native.Nat.{ℕ, ◌-◌, ◌*◌, ◌≤◌, ◌<◌}
-use mathlib.Core.Path.{◌≡◌, refl, ◌∙◌}
-use borrow.Author.Count.{below_none}
-use lib.ListN.{length, get_or, length-set}
-use Rattle.sums.specs.Arrays.{fill-at}
-use Rattle.needs.specs.MeetLaws.{same_lines}
-use borrow.Author.Rules.{rules}
-use native.Mathlib.Omega.{arith}
+use mathlib.Core.Path.{◌≡◌}
+use lib.ListN.{length, get_or}
 use Rattle.needs.proofs.meeting.lines_of.Given as goal
 
 abbrev pub invariant-loop-i : goal.invariant-loop-i

@@ -1,7 +1,6 @@
 use mathlib.Core.Path.{sym}
 use Rattle.needs.specs.NeedTable.{line_at}
 use Rattle.needs.specs.MeetLaws.{not-meets, end-decides}
-use borrow.Author.Rules.{rules}
 use native.Mathlib.Omega.{arith}
 use Rattle.needs.proofs.meeting.meets_at.Goals as goal
 

@@ -1,5 +1,4 @@
 use Rattle.needs.specs.MeetLaws.{need-of, no-need}
-use borrow.Author.Rules.{rules}
 use native.Mathlib.Omega.{arith}
 use Rattle.needs.proofs.meeting.need_for.Goals as goal
 

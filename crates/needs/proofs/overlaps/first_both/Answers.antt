@@ -1,7 +1,6 @@
 use mathlib.Core.Path.{sym, ◌∙◌}
 use borrow.Author.Tests.{not-true, not-false}
 use Rattle.needs.specs.SmallestLaws.{both-begun, first-apart, second-apart}
-use borrow.Author.Rules.{rules}
 use Rattle.needs.proofs.overlaps.first_both.Goals as goal
 
 pub returns-then-not-meets_at : goal.returns-then-not-meets_at

@@ -1,9 +1,8 @@
-use Prim.Native.Nat.{ℕ, ◌-◌, ◌≤◌}
+use Prim.Native.Nat.{ℕ}
 use mathlib.Core.Path.{◌≡◌, subst}
 use Rattle.needs.specs.NeedTable.{met_twice}
 use Rattle.needs.specs.Inside.{first_lines, Smallest}
 use Rattle.needs.specs.SmallestLaws.{none-twice}
-use borrow.Author.Rules.{rules}
 use native.Mathlib.Omega.{arith}
 use Rattle.needs.proofs.overlaps.first_twice.Goals as goal
 

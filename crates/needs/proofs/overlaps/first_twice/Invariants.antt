@@ -1,10 +1,6 @@
-use Prim.Native.Nat.{ℕ, ◌-◌, ◌≤◌}
-use mathlib.Core.Path.{◌≡◌, subst}
+use Prim.Native.Nat.{◌-◌, ◌≤◌}
 use Rattle.needs.specs.NeedTable.{met_twice}
 use Rattle.needs.specs.Inside.{first_lines, Smallest}
-use Rattle.needs.specs.SmallestLaws.{none-twice}
-use borrow.Author.Rules.{rules}
-use native.Mathlib.Omega.{arith}
 use Rattle.needs.proofs.overlaps.first_twice.Given as goal
 
 abbrev pub invariant-loop-i : goal.invariant-loop-i

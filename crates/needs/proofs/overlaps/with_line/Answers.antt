@@ -1,8 +1,7 @@
-use Prim.Native.Nat.{ℕ, ◌-◌, ◌≤◌}
+use Prim.Native.Nat.{ℕ}
 use mathlib.Core.Path.{◌≡◌, subst}
 use Rattle.needs.specs.Inside.{Smallest}
 use Rattle.needs.specs.SmallestLaws.{twice_with, with_none, with-more, with_all, smallest-same, smallest-either}
-use borrow.Author.Rules.{rules}
 use native.Mathlib.Omega.{arith}
 use Rattle.needs.proofs.overlaps.with_line.Goals as goal
 

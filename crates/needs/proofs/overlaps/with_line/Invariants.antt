@@ -1,9 +1,6 @@
-use Prim.Native.Nat.{ℕ, ◌-◌, ◌≤◌}
-use mathlib.Core.Path.{◌≡◌, subst}
+use Prim.Native.Nat.{◌-◌, ◌≤◌}
 use Rattle.needs.specs.Inside.{Smallest}
-use Rattle.needs.specs.SmallestLaws.{twice_with, with_none, with-more, with_all, smallest-same, smallest-either}
-use borrow.Author.Rules.{rules}
-use native.Mathlib.Omega.{arith}
+use Rattle.needs.specs.SmallestLaws.{twice_with}
 use Rattle.needs.proofs.overlaps.with_line.Given as goal
 
 abbrev pub invariant-loop-k : goal.invariant-loop-k

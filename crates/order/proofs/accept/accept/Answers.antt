@@ -10,7 +10,6 @@ use Rattle.order.proofs.Judging.{
   need-refused,
   all-accepted,
 }
-use borrow.Author.Rules.{rules}
 use Rattle.order.proofs.accept.accept.Goals as goal
 
 pub returns-in_default : goal.returns-in_default

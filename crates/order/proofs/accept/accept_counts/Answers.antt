@@ -1,4 +1,3 @@
-use borrow.Author.Rules.{rules}
 use Rattle.order.proofs.accept.accept_counts.Goals as goal
 
 pub returns : goal.returns

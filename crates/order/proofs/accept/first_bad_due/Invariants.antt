@@ -1,17 +1,8 @@
-use lib.ListN.{get_or}
-use lib.IntN.{pos}
-use Rattle.order.specs.Machine.{machine-back}
-use borrow.Author.Count.{below_none, below_more}
-use mathlib.Core.Path.{ap, ◌∙◌}
-use Rattle.order.proofs.FindingLaws.{not-of, not_of_false}
-use Rattle.order.proofs.Ranges.{job-found, no-job-found}
 use Prim.Native.Nat.{ℕ, ◌≤◌, ◌<◌, ◌-◌}
 use mathlib.Core.Path.{◌≡◌}
 use mathlib.Core.Bool.{false, not}
 use Rattle.order.specs.Refusals.{due_in_range}
 use Rattle.order.specs.Table.{job_at}
-use borrow.Author.Rules.{rules}
-use native.Mathlib.Omega.{arith}
 use Rattle.order.proofs.accept.first_bad_due.Given as goal
 
 abbrev pub invariant-loop-j : goal.invariant-loop-j

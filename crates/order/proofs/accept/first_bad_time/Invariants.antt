@@ -1,13 +1,8 @@
-use borrow.Author.Count.{below_none, below_more}
-use Rattle.order.proofs.FindingLaws.{time-low, time-high, time-good}
-use Rattle.order.proofs.Ranges.{job-found, no-job-found}
 use Prim.Native.Nat.{ℕ, ◌≤◌, ◌<◌, ◌-◌}
 use mathlib.Core.Path.{◌≡◌}
 use mathlib.Core.Bool.{false, not}
 use Rattle.order.specs.Refusals.{time_in_range}
 use Rattle.order.specs.Table.{job_at}
-use borrow.Author.Rules.{rules}
-use native.Mathlib.Omega.{arith}
 use Rattle.order.proofs.accept.first_bad_time.Given as goal
 
 abbrev pub invariant-loop-j : goal.invariant-loop-j

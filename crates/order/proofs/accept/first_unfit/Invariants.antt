@@ -1,13 +1,8 @@
 use Prim.Native.Nat.{ℕ, ◌≤◌, ◌<◌, ◌-◌}
 use mathlib.Core.Path.{◌≡◌}
 use mathlib.Core.Bool.{false, not}
-use borrow.Author.Count.{below_none, below_more}
 use Rattle.order.specs.Refusals.{fits_some}
 use Rattle.order.specs.Table.{job_at, order_of}
-use Rattle.order.proofs.FindingLaws.{not-of, not_of_false}
-use Rattle.order.proofs.Ranges.{job-found, no-job-found}
-use borrow.Author.Rules.{rules}
-use native.Mathlib.Omega.{arith}
 use Rattle.order.proofs.accept.first_unfit.Given as goal
 
 abbrev pub invariant-loop-j : goal.invariant-loop-j

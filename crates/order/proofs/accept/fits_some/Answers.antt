@@ -1,11 +1,6 @@
 use borrow.Author.Count.{below_none, below_more}
 use borrow.Author.Tests.{lt-leb}
 use Rattle.order.proofs.Ranges.{processor-found, no-processor-found}
-use Prim.Native.Nat.{ℕ, ◌≤◌, ◌<◌, ◌-◌}
-use mathlib.Core.Path.{◌≡◌}
-use mathlib.Core.Bool.{false}
-use lib.ListN.{get_or}
-use lib.Dec.{leb}
 use borrow.Author.Rules.{rules}
 use native.Mathlib.Omega.{arith}
 use Rattle.order.proofs.accept.fits_some.Goals as goal

@@ -1,7 +1,6 @@
 -- `put2`: two stores one after the other leave the number's two bytes, and the rest of the buffer as it was.
 use lib.ListN.{length-set}
 use Rattle.order_file.proofs.Stores.{two-stored}
-use borrow.Author.Rules.{rules}
 use native.Mathlib.Omega.{arith}
 use Rattle.order_file.proofs.bytes.put2.Goals as goal
 

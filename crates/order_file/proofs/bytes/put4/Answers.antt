@@ -1,7 +1,6 @@
 -- `put4`: four stores one after the other leave the number's four bytes, and the rest of the buffer as it was.
 use lib.ListN.{length-set}
 use Rattle.order_file.proofs.Stores.{four-stored}
-use borrow.Author.Rules.{rules}
 use native.Mathlib.Omega.{arith}
 use Rattle.order_file.proofs.bytes.put4.Goals as goal
 

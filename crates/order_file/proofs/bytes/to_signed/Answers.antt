@@ -1,7 +1,6 @@
 -- `to_signed`: below 2^31 a pattern stands for itself, from there on for itself less 2^32.
 use mathlib.Core.Path.{refl}
 use Rattle.order_file.proofs.Signed.{low_signed, sum_fits, high-signed}
-use borrow.Author.Rules.{rules}
 use Rattle.order_file.proofs.bytes.to_signed.Goals as goal
 
 pub overflow_add-result : goal.overflow_add-result

@@ -4,9 +4,6 @@ use mathlib.Core.Path.{◌≡◌}
 use Rattle.order_file.specs.File.{job_width}
 use Rattle.order_file.specs.Bytes.{number4}
 use Rattle.order_file.specs.Inside.{padded_to}
-use Rattle.order_file.specs.PaddedLaws.{padded-none, padded-more}
-use borrow.Author.Rules.{rules}
-use native.Mathlib.Omega.{arith}
 use Rattle.order_file.proofs.read.column.Given as goal
 
 abbrev pub invariant-loop-j : goal.invariant-loop-j

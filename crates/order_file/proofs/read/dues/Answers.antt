@@ -1,11 +1,8 @@
 -- `dues`: the invariant is that the places before j hold the due times, the others 0.
-use Rattle.order_file.specs.File.{job_width}
 use Rattle.order.specs.Machine.{machine-back}
-use Prim.Native.Nat.{◌+◌, ◌*◌, ◌-◌, ◌≤◌}
 use mathlib.Core.Path.{◌≡◌, ap, ◌∙◌}
 use lib.IntN.{pos}
-use Rattle.order_file.specs.Bytes.{number4, signed}
-use Rattle.order_file.specs.Inside.{padded_to}
+use Rattle.order_file.specs.Bytes.{signed}
 use Rattle.order_file.specs.PaddedLaws.{padded-none, padded-more}
 use borrow.Author.Rules.{rules}
 use native.Mathlib.Omega.{arith}

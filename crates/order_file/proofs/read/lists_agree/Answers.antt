@@ -1,13 +1,5 @@
 -- `lists_agree`: each return answers the test of the two placements; the second is tried where the first fails by either place.
-use mathlib.Core.Logic.{⊎_elim}
-use Rattle.order_file.proofs.Trailing.{
-  first-placement,
-  other-processors,
-  other-jobs,
-  second-placement,
-  no-placement,
-}
-use borrow.Author.Rules.{rules}
+use Rattle.order_file.proofs.Trailing.{first-placement}
 use Rattle.order_file.proofs.read.lists_agree.Goals as goal
 
 pub returns-then-jobs_at-processors : goal.returns-then-jobs_at-processors

@@ -1,8 +1,5 @@
 -- `memories`: the invariant is that the places before i hold the memories, the others 0.
-use Prim.Native.Nat.{◌*◌, ◌-◌, ◌≤◌}
 use mathlib.Core.Path.{◌≡◌}
-use Rattle.order_file.specs.Bytes.{number4}
-use Rattle.order_file.specs.Inside.{padded_to}
 use Rattle.order_file.specs.PaddedLaws.{padded-none, padded-more}
 use borrow.Author.Rules.{rules}
 use native.Mathlib.Omega.{arith}

@@ -3,9 +3,6 @@ use Prim.Native.Nat.{◌*◌, ◌-◌, ◌≤◌}
 use mathlib.Core.Path.{◌≡◌}
 use Rattle.order_file.specs.Bytes.{number4}
 use Rattle.order_file.specs.Inside.{padded_to}
-use Rattle.order_file.specs.PaddedLaws.{padded-none, padded-more}
-use borrow.Author.Rules.{rules}
-use native.Mathlib.Omega.{arith}
 use Rattle.order_file.proofs.read.memories.Given as goal
 
 abbrev pub invariant-loop-i : goal.invariant-loop-i

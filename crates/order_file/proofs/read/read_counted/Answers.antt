@@ -1,6 +1,5 @@
 -- `read_counted`: the counts decide; where they are good, the lists are the file's order.
 use Rattle.order_file.proofs.Reading.{few-counted, not-counted, counted}
-use borrow.Author.Rules.{rules}
 use Rattle.order_file.proofs.read.read_counted.Goals as goal
 
 pub returns-in_default : goal.returns-in_default

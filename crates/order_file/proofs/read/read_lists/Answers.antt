@@ -1,6 +1,5 @@
 -- `read_lists`: the columns of the two parts of the file are those of the file's order.
 use Rattle.order_file.proofs.Columns.{columns-read}
-use borrow.Author.Rules.{rules}
 use Rattle.order_file.proofs.read.read_lists.Goals as goal
 
 pub returns : goal.returns

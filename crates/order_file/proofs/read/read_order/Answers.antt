@@ -1,7 +1,6 @@
 -- `read_order`: the file, the counts and the whole order are judged one after the other, as the refusal table has them.
 use Rattle.order_file.specs.TrailerLaws.{lists-placed}
 use Rattle.order_file.proofs.Reading.{bad-file, counts-refused, order-refused, order-accepted}
-use borrow.Author.Rules.{rules}
 use Rattle.order_file.proofs.read.read_order.Goals as goal
 
 pub returns-in_default : goal.returns-in_default

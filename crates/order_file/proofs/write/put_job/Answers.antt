@@ -3,7 +3,6 @@ use Rattle.order_file.proofs.Growing.{one-job}
 use Rattle.order.specs.Machine.{machine-back}
 use mathlib.Core.Path.{ap, ◌∙◌}
 use Rattle.order_file.specs.Bytes.{pattern}
-use borrow.Author.Rules.{rules}
 use Rattle.order_file.proofs.write.put_job.Goals as goal
 
 pub returns : goal.returns

@@ -3,13 +3,9 @@ use mathlib.Core.Path.{◌≡◌}
 use lib.IntN.{pos}
 use Rattle.order.specs.Machine.{machine-back}
 use Rattle.order_file.proofs.Growing.{no-job, one-job-more, all-jobs}
-use Prim.Native.Nat.{◌+◌, ◌*◌, ◌-◌, ◌≤◌}
-use mathlib.Core.List.{◌++◌}
-use lib.ListN.{take, get_or}
-use Rattle.sums.specs.Lists.{tabulate}
+use lib.ListN.{get_or}
 use Rattle.order.specs.Table.{job_at}
-use Rattle.order_file.specs.File.{job_bytes, job_width}
-use Rattle.order_file.proofs.Stores.{Front, front_length}
+use Rattle.order_file.proofs.Stores.{front_length}
 use borrow.Author.Rules.{rules}
 use native.Mathlib.Omega.{arith}
 use Rattle.order_file.proofs.write.put_jobs.Goals as goal

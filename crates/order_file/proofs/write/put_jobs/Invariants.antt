@@ -1,17 +1,11 @@
 -- `put_jobs`: the invariant is that from `at` on the buffer holds the first j jobs and goes on as it was.
-use mathlib.Core.Path.{◌≡◌}
-use lib.IntN.{pos}
-use Rattle.order.specs.Machine.{machine-back}
-use Rattle.order_file.proofs.Growing.{no-job, one-job-more, all-jobs}
 use Prim.Native.Nat.{◌+◌, ◌*◌, ◌-◌, ◌≤◌}
 use mathlib.Core.List.{◌++◌}
-use lib.ListN.{take, get_or}
+use lib.ListN.{take}
 use Rattle.sums.specs.Lists.{tabulate}
 use Rattle.order.specs.Table.{job_at}
 use Rattle.order_file.specs.File.{job_bytes, job_width}
-use Rattle.order_file.proofs.Stores.{Front, front_length}
-use borrow.Author.Rules.{rules}
-use native.Mathlib.Omega.{arith}
+use Rattle.order_file.proofs.Stores.{Front}
 use Rattle.order_file.proofs.write.put_jobs.Given as goal
 
 abbrev pub invariant-loop-j : goal.invariant-loop-j

@@ -1,11 +1,8 @@
 -- `put_processors`: the invariant is that the buffer begins with the first i processors and goes on as it was.
 use mathlib.Core.Path.{◌≡◌}
 use Rattle.order_file.proofs.Growing.{no-processor, one-processor-more}
-use Prim.Native.Nat.{◌*◌, ◌-◌, ◌≤◌}
 use lib.ListN.{get_or}
-use Rattle.sums.specs.Lists.{tabulate}
-use Rattle.order_file.specs.File.{processor_bytes}
-use Rattle.order_file.proofs.Stores.{Front, front_length}
+use Rattle.order_file.proofs.Stores.{front_length}
 use borrow.Author.Rules.{rules}
 use native.Mathlib.Omega.{arith}
 use Rattle.order_file.proofs.write.put_processors.Goals as goal

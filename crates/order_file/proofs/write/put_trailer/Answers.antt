@@ -3,7 +3,6 @@ use Prim.Native.Nat.{◌+◌, ◌*◌}
 use mathlib.Core.Path.{refl}
 use Rattle.order_file.specs.Bytes.{bytes4, bytes2}
 use Rattle.order_file.proofs.Stores.{four-put}
-use borrow.Author.Rules.{rules}
 use native.Mathlib.Omega.{arith}
 use Rattle.order_file.proofs.write.put_trailer.Goals as goal
 

@@ -1,6 +1,5 @@
 -- The refusals in the order of the table, then what the rules say.
 use mathlib.Core.Path.{sym, ap, ◌∙◌}
-use borrow.Author.Rules.{rules}
 use borrow.Author.Tests.{not-true, not-false}
 use native.Mathlib.Omega.{arith}
 use lib.IntN.{ℤ}

@@ -2,7 +2,6 @@
 use mathlib.Core.Path.{◌∙◌}
 use native.Mathlib.Omega.{arith}
 use borrow.Author.Tests.{not-true, not-false}
-use borrow.Author.Rules.{rules}
 use Rattle.plan.proofs.Apart.{spans-by, jobs-overlap, processors-decide}
 use Rattle.plan.proofs.rows.apart_among.Goals as goal
 

@@ -1,7 +1,6 @@
 -- The deadline is the end cut off, of the due time and the bound as the machine reads them back.
 use mathlib.Core.Path.{ap, ◌∙◌}
 use Prim.Native.Nat.{ℕ}
-use borrow.Author.Rules.{rules}
 use lib.Dec.{leb}
 use Rattle.plan.proofs.Orders.{read-both}
 use Rattle.plan.proofs.rows.by_end.Goals as goal

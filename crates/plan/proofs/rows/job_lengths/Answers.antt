@@ -1,10 +1,10 @@
 -- The totals are those of the rows passed so far, and each row adds less than 2^32.
-use Prim.Native.Nat.{◌-◌, ◌≤◌, ◌/◌}
+use Prim.Native.Nat.{◌-◌, ◌/◌}
 use mathlib.Core.Path.{◌≡◌, refl, ◌∙◌}
 use native.Mathlib.Omega.{arith}
 use borrow.Author.Rules.{rules}
 use lib.ListN.{length, length-set}
-use Rattle.plan.proofs.Lengths.{Totals, totals-none, totals-more, totals-all, piece-range}
+use Rattle.plan.proofs.Lengths.{totals-none, totals-more, totals-all, piece-range}
 use Rattle.plan.proofs.rows.job_lengths.Goals as goal
 
 pub loop-i-init : goal.loop-i-init

@@ -1,5 +1,4 @@
 -- A row that is not whole is malformed; a whole one is read by whether it is well formed.
-use borrow.Author.Rules.{rules}
 use borrow.Author.Tests.{lt-leb}
 use native.Mathlib.Omega.{arith}
 use Rattle.order.specs.Table.{order_of}

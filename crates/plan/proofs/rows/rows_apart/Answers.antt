@@ -1,7 +1,6 @@
 -- As many numbers are lent as there are rows.
 use mathlib.Core.Path.{refl, sym}
 use native.Mathlib.Omega.{arith}
-use borrow.Author.Rules.{rules}
 use Rattle.plan.proofs.Apart.{part-long}
 use Rattle.plan.proofs.rows.rows_apart.Goals as goal
 

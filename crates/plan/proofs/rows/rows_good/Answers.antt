@@ -1,7 +1,6 @@
 -- The rows passed so far are whole and good. A row that is read as malformed, or ends late, decides.
-use Prim.Native.Nat.{ℕ, ◌-◌, ◌≤◌, ◌<◌}
-use mathlib.Core.Path.{◌≡◌, refl, ap, ◌∙◌}
-use mathlib.Core.Bool.{true}
+use Prim.Native.Nat.{◌-◌}
+use mathlib.Core.Path.{refl, ap, ◌∙◌}
 use borrow.Author.Count.{below_none, below_more}
 use borrow.Author.Rules.{rules}
 use borrow.Author.Tests.{not-true, not-false}
@@ -16,7 +15,7 @@ use Rattle.order.specs.Refusals.{due_in_range, bound_in_range}
 use Rattle.order.specs.Table.{order_of}
 use Rattle.order.proofs.StructLaws.{few-jobs, few-processors, due-in-range-at}
 use Rattle.plan.proofs.RowRanges.{good-back}
-use Rattle.plan.proofs.GoodRows.{passes, malformed, well-formed, by-its-end, rows_pass, row-fails}
+use Rattle.plan.proofs.GoodRows.{malformed, well-formed, by-its-end, rows_pass, row-fails}
 use Rattle.plan.specs.Inside.{row_of}
 use Rattle.plan.proofs.RowTests.{its-job, ends_read}
 use Rattle.plan.proofs.rows.rows_good.Goals as goal

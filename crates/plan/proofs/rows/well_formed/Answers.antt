@@ -1,5 +1,4 @@
 -- Each test that fails is a rule of a well-formed row; past them all, `from < to` decides.
-use borrow.Author.Rules.{rules}
 use native.Mathlib.Omega.{arith}
 use Rattle.plan.specs.Inside.{row_of}
 use Rattle.plan.proofs.RowTests.{job-zero, job-high, processor-zero, processor-high, unfit, fit}

@@ -10,7 +10,6 @@ use Rattle.planner.proofs.Answers.{
   written_at,
   judged-at,
 }
-use borrow.Author.Rules.{rules}
 use Rattle.planner.proofs.bound.plan_at.Goals as goal
 
 pub make_plan-requires : goal.make_plan-requires

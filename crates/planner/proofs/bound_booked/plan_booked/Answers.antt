@@ -6,7 +6,6 @@ use Rattle.order.specs.Table.{order_of}
 use Rattle.book.specs.ToldLaws.{booking-full, booking-counts}
 use Rattle.planner.proofs.Answers.{made, written_at, judged-at}
 use Rattle.planner.proofs.Booked.{refused-booked, tight-booked, full-booked, rows-booked}
-use borrow.Author.Rules.{rules}
 use Rattle.planner.proofs.bound_booked.plan_booked.Goals as goal
 
 pub book_order-booking-requires : goal.book_order-booking-requires

@@ -23,7 +23,6 @@ use Rattle.planner.proofs.Answers.{
   within-range,
   reason-told,
 }
-use borrow.Author.Rules.{rules}
 use Rattle.planner.proofs.judging.judge_bound.Goals as goal
 
 pub returns-in-Refused : goal.returns-in-Refused

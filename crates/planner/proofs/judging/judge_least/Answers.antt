@@ -1,6 +1,5 @@
 use mathlib.Core.Path.{sym, ◌∙◌}
 use borrow.Author.Tests.{ltb-true, ltb-false}
-use borrow.Author.Rules.{rules}
 use Rattle.order.specs.Table.{order_of}
 use Rattle.order.specs.declared.Refusal.TheVariants.{BufferTooShort}
 use Rattle.planner.proofs.SetupLaws.{counts-small, short-is}

@@ -1,4 +1,3 @@
-use borrow.Author.Rules.{rules}
 use lib.ListN.{length}
 use Rattle.order.proofs.RefusalLaws.{accepted-iff}
 use Rattle.order.specs.Table.{order_of}

@@ -10,7 +10,6 @@ use Rattle.feasible.specs.Least.{is-least}
 use Rattle.profile.specs.LeastRead.{read-least}
 use Rattle.planner.proofs.Answers.{least-order-good, least-told, least-made, written_at}
 use Rattle.planner.proofs.Booked.{least-refused-booked, least-full-booked, least-booked}
-use borrow.Author.Rules.{rules}
 use Rattle.planner.proofs.lateness_booked.least_booked.Goals as goal
 
 pub returns-in-Refused : goal.returns-in-Refused

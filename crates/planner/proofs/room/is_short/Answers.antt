@@ -1,6 +1,5 @@
 use Prim.Native.Nat.{◌/◌}
 use mathlib.Core.Path.{ap}
-use borrow.Author.Rules.{rules}
 use lib.Dec.{ltb}
 use Rattle.planner.proofs.room.is_short.Goals as goal
 

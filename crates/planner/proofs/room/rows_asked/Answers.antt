@@ -1,7 +1,6 @@
 use Prim.Native.Nat.{ℕ, ◌+◌, ◌-◌, ◌*◌}
 use mathlib.Core.Path.{◌≡◌, refl, ◌∙◌}
 use native.Mathlib.Omega.{arith}
-use borrow.Author.Rules.{rules}
 use Rattle.order.specs.Lead.{last_due}
 use Rattle.order.proofs.RefusalLaws.{accepted-iff}
 use Rattle.order.proofs.StructLaws.{job-count, processor-count, few-jobs, few-processors}

@@ -1,7 +1,6 @@
 use Prim.Native.Nat.{◌*◌}
 use mathlib.Core.Path.{ap, ◌∙◌}
 use native.Mathlib.Omega.{arith}
-use borrow.Author.Rules.{rules}
 use Rattle.stairs.specs.Tables.{cell, room_of, stop_at}
 use Rattle.stairs.specs.CompletionLaws.{overfull-cong}
 use Rattle.reason.specs.Asked.{weight, procs_to, first_of}

@@ -1,11 +1,11 @@
-use Prim.Native.Nat.{ℕ, suc, ◌+◌, ◌-◌, ◌*◌, ◌≤◌}
+use Prim.Native.Nat.{ℕ, suc, ◌+◌, ◌*◌, ◌≤◌}
 use mathlib.Core.Path.{◌≡◌, refl, sym, ap}
 use native.Mathlib.Omega.{arith}
 use native.Mathlib.Nat.{mul-le-mul}
 use native.Mathlib.Numerals.{add-one}
 use borrow.Author.Rules.{rules}
-use lib.ListN.{length, get_or}
-use Rattle.sums.specs.Arrays.{RowOf, fill-at}
+use lib.ListN.{get_or}
+use Rattle.sums.specs.Arrays.{fill-at}
 use Rattle.order.specs.Lead.{most_reach}
 use Rattle.reason.specs.Asked.{procs_to}
 use Rattle.reason.specs.WeightLaws.{procs-none, procs-suc, procs-le}

@@ -1,14 +1,8 @@
-use Prim.Native.Nat.{ℕ, suc, ◌+◌, ◌-◌, ◌*◌, ◌≤◌}
-use mathlib.Core.Path.{◌≡◌, refl, sym, ap}
-use native.Mathlib.Omega.{arith}
-use native.Mathlib.Nat.{mul-le-mul}
-use native.Mathlib.Numerals.{add-one}
-use borrow.Author.Rules.{rules}
-use lib.ListN.{length, get_or}
-use Rattle.sums.specs.Arrays.{RowOf, fill-at}
-use Rattle.order.specs.Lead.{most_reach}
+use Prim.Native.Nat.{suc, ◌-◌, ◌*◌, ◌≤◌}
+use mathlib.Core.Path.{◌≡◌}
+use lib.ListN.{length}
+use Rattle.sums.specs.Arrays.{RowOf}
 use Rattle.reason.specs.Asked.{procs_to}
-use Rattle.reason.specs.WeightLaws.{procs-none, procs-suc, procs-le}
 use Rattle.reason.proofs.overfull.rooms_at.Given as goal
 
 -- the processors of the first k classes, and the rooms up to k

@@ -1,12 +1,10 @@
-use Prim.Native.Nat.{ℕ, ◌-◌, ◌<◌, ◌≤◌}
+use Prim.Native.Nat.{◌≤◌}
 use mathlib.Core.Path.{◌≡◌, refl, ◌∙◌}
 use native.Mathlib.Omega.{arith}
 use borrow.Author.Rules.{rules}
-use lib.IntN.{pos}
-use lib.ListN.{length, get_or}
+use lib.ListN.{get_or}
 use Rattle.order.specs.Machine.{machine-back}
 use Rattle.order.proofs.LeadLaws.{due-small}
-use Rattle.reason.specs.Asked.{due_or}
 use Rattle.reason.proofs.Dues.{dues-none, dues-more}
 use Rattle.reason.proofs.tell.dues_of.Goals as goal
 

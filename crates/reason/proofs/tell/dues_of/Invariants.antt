@@ -1,13 +1,8 @@
 use Prim.Native.Nat.{ℕ, ◌-◌, ◌<◌, ◌≤◌}
-use mathlib.Core.Path.{◌≡◌, refl, ◌∙◌}
-use native.Mathlib.Omega.{arith}
-use borrow.Author.Rules.{rules}
+use mathlib.Core.Path.{◌≡◌}
 use lib.IntN.{pos}
 use lib.ListN.{length, get_or}
-use Rattle.order.specs.Machine.{machine-back}
-use Rattle.order.proofs.LeadLaws.{due-small}
 use Rattle.reason.specs.Asked.{due_or}
-use Rattle.reason.proofs.Dues.{dues-none, dues-more}
 use Rattle.reason.proofs.tell.dues_of.Given as goal
 
 -- the due times of the first i places stand in the array

@@ -1,7 +1,7 @@
 use borrow.Author.Rules.{rules}
 use native.Mathlib.Omega.{arith}
 use native.Mathlib.Numerals.{add-one}
-use Prim.Native.Nat.{ℕ, ◌-◌, ◌≤◌}
+use Prim.Native.Nat.{ℕ}
 use mathlib.Core.Path.{◌≡◌, subst}
 use borrow.Author.Tests.{lt-ltb}
 use Rattle.reason.proofs.LateFirst.{late-not, LeastLate, late-none, late-found, late-passed, late-place, late-first}

@@ -1,5 +1,4 @@
 use mathlib.Core.Path.{ap, ◌∙◌}
-use borrow.Author.Rules.{rules}
 use Rattle.order.specs.Machine.{machine-back}
 use Rattle.order.specs.Lead.{bound_at, last_due}
 use Rattle.order.proofs.LeadLaws.{bound-small}

@@ -1,6 +1,5 @@
 use Prim.Native.Nat.{◌≤◌}
 use native.Mathlib.Omega.{arith}
-use borrow.Author.Rules.{rules}
 use Rattle.reason.proofs.Tells.{hit-of, tell-late, tell-stairs, tell-nothing}
 use Rattle.reason.proofs.tell.tell.Goals as goal
 

@@ -1,9 +1,6 @@
 use borrow.Author.Rules.{rules}
 use native.Mathlib.Omega.{arith}
-use Prim.Native.Nat.{◌-◌, ◌≤◌}
-use mathlib.Core.Path.{◌≡◌}
 use mathlib.Core.Logic.{inl, inr}
-use lib.ListN.{length}
 use Rattle.reason.proofs.ClassByClass.{Filling, Begun, filling-none, filling-small, filling-begun, filling-more, filling-all}
 use Rattle.reason.proofs.weight.owed_table.Goals as goal
 use Rattle.reason.proofs.weight.owed_table.Goals.{then-class-next, else-class-next}

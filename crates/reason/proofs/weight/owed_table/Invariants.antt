@@ -1,10 +1,7 @@
-use borrow.Author.Rules.{rules}
-use native.Mathlib.Omega.{arith}
 use Prim.Native.Nat.{◌-◌, ◌≤◌}
 use mathlib.Core.Path.{◌≡◌}
-use mathlib.Core.Logic.{inl, inr}
 use lib.ListN.{length}
-use Rattle.reason.proofs.ClassByClass.{Filling, Begun, filling-none, filling-small, filling-begun, filling-more, filling-all}
+use Rattle.reason.proofs.ClassByClass.{Filling}
 use Rattle.reason.proofs.weight.owed_table.Given as goal
 
 abbrev pub invariant-loop-k : goal.invariant-loop-k

@@ -1,9 +1,7 @@
-use Prim.Native.Nat.{ℕ, suc, ◌-◌, ◌<◌, ◌≤◌}
-use mathlib.Core.Path.{◌≡◌}
+use Prim.Native.Nat.{ℕ, suc}
 use mathlib.Core.List.{List, []}
 use native.Mathlib.Omega.{arith}
 use borrow.Author.Rules.{rules}
-use lib.ListN.{length, get_or}
 use Rattle.sums.specs.Arrays.{RowOf, fill-at}
 use Rattle.reason.specs.Asked.{weight}
 use Rattle.reason.specs.WeightLaws.{minutes-le, weight_is}

@@ -1,12 +1,9 @@
-use Prim.Native.Nat.{ℕ, suc, ◌-◌, ◌<◌, ◌≤◌}
+use Prim.Native.Nat.{ℕ, ◌-◌, ◌<◌, ◌≤◌}
 use mathlib.Core.Path.{◌≡◌}
-use mathlib.Core.List.{List, []}
-use native.Mathlib.Omega.{arith}
-use borrow.Author.Rules.{rules}
+use mathlib.Core.List.{[]}
 use lib.ListN.{length, get_or}
-use Rattle.sums.specs.Arrays.{RowOf, fill-at}
+use Rattle.sums.specs.Arrays.{RowOf}
 use Rattle.reason.specs.Asked.{weight}
-use Rattle.reason.specs.WeightLaws.{minutes-le, weight_is}
 use Rattle.reason.proofs.weight.table.Given as goal
 
 -- the rows of the first i classes stand in the table

@@ -1,8 +1,8 @@
 use Rattle.registers.proofs.Zeros.{zeros-more}
-use lib.ListN.{length, replicate, drop}
+use lib.ListN.{replicate, drop}
 use mathlib.Core.List.{◌++◌}
 use mathlib.Core.Path.{◌≡◌, refl, ap, ◌∙◌}
-use Prim.Native.Nat.{ℕ, ◌+◌, ◌-◌, ◌≤◌}
+use Prim.Native.Nat.{ℕ}
 use borrow.Author.Rules.{rules}
 use native.Mathlib.Omega.{arith}
 use Rattle.registers.proofs.clearing.clear_rows.Goals as goal

@@ -1,10 +1,7 @@
-use Rattle.registers.proofs.Zeros.{zeros-more}
 use lib.ListN.{length, replicate, drop}
 use mathlib.Core.List.{◌++◌}
-use mathlib.Core.Path.{◌≡◌, refl, ap, ◌∙◌}
-use Prim.Native.Nat.{ℕ, ◌+◌, ◌-◌, ◌≤◌}
-use borrow.Author.Rules.{rules}
-use native.Mathlib.Omega.{arith}
+use mathlib.Core.Path.{◌≡◌}
+use Prim.Native.Nat.{◌-◌, ◌≤◌}
 use Rattle.registers.proofs.clearing.clear_rows.Given as goal
 
 abbrev pub invariant-loop-i : goal.invariant-loop-i

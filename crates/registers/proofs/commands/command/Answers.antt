@@ -1,6 +1,5 @@
 use Rattle.registers.specs.CommandLaws.{cleared-in, unknown-in, bound-in, least-in}
 use mathlib.Core.Path.{refl}
-use borrow.Author.Rules.{rules}
 use Rattle.registers.proofs.commands.command.Goals as goal
 
 pub returns-in-3 : goal.returns-in-3

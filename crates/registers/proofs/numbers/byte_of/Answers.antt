@@ -1,7 +1,6 @@
 use mathlib.Core.Path.{refl, sym}
 use Rattle.registers.specs.HeldLaws.{past-four}
 use Rattle.registers.specs.PlaceLaws.{from-four}
-use borrow.Author.Rules.{rules}
 use Rattle.registers.proofs.numbers.byte_of.Goals as goal
 
 pub returns-in-0 : goal.returns-in-0

@@ -1,7 +1,6 @@
 use Prim.Native.Nat.{◌<◌, ◌/◌, ◌%◌}
 use lib.ListN.{length, set}
 use lib.Seq.{lt-length-set}
-use borrow.Author.Rules.{rules}
 use native.Mathlib.Omega.{arith}
 use Rattle.registers.proofs.numbers.put_lateness.Goals as goal
 

@@ -1,10 +1,9 @@
 use lib.Seq.{lt-length-set}
-use lib.ListN.{length, set, length-set}
+use lib.ListN.{length}
 use Prim.Native.Nat.{◌<◌}
-use mathlib.Core.Path.{refl, ap, ◌∙◌}
+use mathlib.Core.Path.{refl, ap}
 use Rattle.registers.specs.declared.Flags.{Flags}
 use Rattle.registers.specs.MemoryLaws.{begin-moved}
-use borrow.Author.Rules.{rules}
 use native.Mathlib.Omega.{arith}
 use Rattle.registers.proofs.outcomes.begin.Goals as goal
 

@@ -3,12 +3,11 @@ use mir.ValLaws.{to_z-of_z}
 use Rattle.order_file.specs.Bytes.{pattern}
 use Rattle.registers.specs.Memory.{lateness_put}
 use Rattle.registers.specs.Registers.{is_set}
-use lib.ListN.{get_or, set, length-set}
+use lib.ListN.{get_or, set}
 use mathlib.Core.Bool.{◌||◌}
 use mathlib.Core.Path.{refl, ap, ◌∙◌}
 use Rattle.registers.specs.declared.Flags.{Flags}
 use Rattle.registers.specs.MemoryLaws.{finish-moved}
-use borrow.Author.Rules.{rules}
 use Rattle.registers.proofs.outcomes.finish.Goals as goal
 
 pub returns : goal.returns

@@ -6,7 +6,6 @@ use mathlib.Core.Bool.{◌||◌}
 use mathlib.Core.Path.{refl, ap, ◌∙◌}
 use Rattle.registers.specs.declared.Flags.{Flags}
 use Rattle.registers.specs.MemoryLaws.{refuse-moved}
-use borrow.Author.Rules.{rules}
 use native.Mathlib.Omega.{arith}
 use Rattle.registers.proofs.outcomes.refuse.Goals as goal
 

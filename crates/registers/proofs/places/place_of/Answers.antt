@@ -1,5 +1,4 @@
-use mathlib.Core.Path.{refl, sym}
-use Rattle.registers.specs.PlaceLaws.{from-four, request-at, lateness-at, row-at, file-at, nothing-at}
+use mathlib.Core.Path.{refl}
 use Rattle.registers.proofs.places.place_of.Goals as goal
 
 pub returns-in-0 : goal.returns-in-0

@@ -3,7 +3,6 @@ use mir.Syntax.{w32}
 use mir.ValLaws.{to_z-of_z}
 use mathlib.Core.Path.{ap, ◌∙◌}
 use Rattle.registers.proofs.Planned.{bound-ends, bound-refuses, bound-tight, bound-done}
-use borrow.Author.Rules.{rules}
 use Rattle.registers.proofs.planning.plan_at_bound.Goals as goal
 
 pub returns-in-Refused : goal.returns-in-Refused

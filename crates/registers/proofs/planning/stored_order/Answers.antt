@@ -2,7 +2,6 @@ use lib.ListN.{take, drop}
 use mathlib.Core.Path.{refl, ap}
 use Prim.Native.Nat.{ℕ, ◌+◌, ◌-◌}
 use Rattle.registers.proofs.Planned.{read-long, read_short}
-use borrow.Author.Rules.{rules}
 use Rattle.registers.proofs.planning.stored_order.Goals as goal
 
 pub returns-then-length-gt-MOST_BYTES : goal.returns-then-length-gt-MOST_BYTES

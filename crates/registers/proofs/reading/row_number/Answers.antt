@@ -1,6 +1,5 @@
 use Rattle.registers.specs.HeldLaws.{number-none, number_past, number_at}
 use mathlib.Core.Path.{sym}
-use borrow.Author.Rules.{rules}
 use native.Mathlib.Omega.{arith}
 use Rattle.registers.proofs.reading.row_number.Goals as goal
 

@@ -4,7 +4,6 @@ use mathlib.Core.Path.{ap, ◌∙◌}
 use Rattle.registers.specs.declared.Flags.{Flags}
 use Rattle.registers.specs.Memory.{flags_in}
 use Rattle.registers.specs.MemoryLaws.{acknowledge-moved}
-use borrow.Author.Rules.{rules}
 use Rattle.registers.proofs.writing.acknowledge.Goals as goal
 
 pub returns : goal.returns

@@ -1,5 +1,4 @@
 use Rattle.registers.specs.MemoryLaws.{allow-moved}
-use borrow.Author.Rules.{rules}
 use Rattle.registers.proofs.writing.allow.Goals as goal
 
 pub returns : goal.returns

@@ -1,5 +1,4 @@
 use Rattle.registers.specs.MemoryLaws.{store-moved}
-use borrow.Author.Rules.{rules}
 use native.Mathlib.Omega.{arith}
 use Rattle.registers.proofs.writing.store.Goals as goal
 

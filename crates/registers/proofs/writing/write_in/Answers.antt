@@ -1,7 +1,6 @@
 use Rattle.registers.specs.CommandLaws.{command-in, place_in}
 use Rattle.registers.specs.Memory.{rows_held}
 use mathlib.Core.Path.{refl, sym, ◌∙◌}
-use borrow.Author.Rules.{rules}
 use native.Mathlib.Omega.{arith}
 use Rattle.registers.proofs.writing.write_in.Goals as goal
 

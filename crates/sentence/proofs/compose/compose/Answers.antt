@@ -10,7 +10,6 @@ use Rattle.text.specs.TextLaws.{put_first, put_as}
 use Rattle.sentence.specs.Handed.{handed}
 use Rattle.sentence.specs.Line.{composed}
 use Rattle.sentence.proofs.Answers.{compose-order, compose-bound, compose-short, compose-done}
-use borrow.Author.Rules.{rules}
 use native.Mathlib.Omega.{arith}
 use Rattle.sentence.proofs.compose.compose.Goals as goal
 

@@ -4,11 +4,8 @@ use lib.ListN.{length, get_or, drop_of_length-le}
 use mir.Syntax.{w32}
 use mir.Val.{of_z}
 use Rattle.sentence.proofs.Dues.{same-machine, zero-none, zero_more, zero-not}
-use Prim.Native.Nat.{◌-◌, ◌≤◌}
-use mathlib.Core.Path.{◌≡◌}
-use lib.ListN.{drop}
+use Prim.Native.Nat.{◌≤◌}
 use Rattle.sentence.specs.Handed.{all_zero}
-use borrow.Author.Rules.{rules}
 use native.Mathlib.Omega.{arith}
 use Rattle.sentence.proofs.line.all_zero.Goals as goal
 

@@ -10,7 +10,6 @@ use lib.ListN.{take}
 use Rattle.profile.specs.Reason.{stairs}
 use Rattle.profile.specs.Search.{found}
 use Rattle.sentence.proofs.Handings.{stairs-beyond, stairs-beside, stairs-handed}
-use borrow.Author.Rules.{rules}
 use native.Mathlib.Omega.{arith}
 use Rattle.sentence.proofs.line.counted_line.Goals as goal
 

@@ -1,5 +1,5 @@
 use mathlib.Core.Path.{sym, ap, ◌∙◌}
-use Prim.Native.Nat.{◌-◌, ◌≤◌}
+use Prim.Native.Nat.{◌≤◌}
 use Rattle.order.proofs.StructLaws.{few-jobs}
 use Rattle.order.specs.Order.{Job}
 use Rattle.order.specs.Table.{order_of}
@@ -21,7 +21,6 @@ use Rattle.sentence.proofs.Jobs.{
   in-time,
   over-end,
 }
-use borrow.Author.Rules.{rules}
 use native.Mathlib.Omega.{arith}
 use Rattle.sentence.proofs.line.job_line.Goals as goal
 

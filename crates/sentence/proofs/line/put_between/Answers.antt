@@ -2,7 +2,6 @@ use mathlib.Core.Path.{ap, sym}
 use Rattle.sentence.specs.Line.{between}
 use Rattle.text.specs.TextLaws.{put-none, put_as}
 use Rattle.sentence.proofs.Jobs.{between-some}
-use borrow.Author.Rules.{rules}
 use native.Mathlib.Omega.{arith}
 use Rattle.sentence.proofs.line.put_between.Goals as goal
 

@@ -3,7 +3,6 @@ use mir.Syntax.{w32}
 use mir.ValLaws.{to_z-of_z}
 use Rattle.text.specs.Text.{signed_number}
 use Rattle.text.specs.TextLaws.{put_both, put_as}
-use borrow.Author.Rules.{rules}
 use native.Mathlib.Omega.{arith}
 use Rattle.sentence.proofs.line.put_class.Goals as goal
 

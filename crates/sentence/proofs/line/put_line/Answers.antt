@@ -11,7 +11,6 @@ use Rattle.reason.specs.declared.Tightness.TheVariants.{Tight}
 use Rattle.sentence.specs.Handed.{handed_by}
 use Rattle.sentence.specs.Inside.{job_composed}
 use Rattle.sentence.proofs.Handings.{met-none, job-beside, job-handed, stairs-told}
-use borrow.Author.Rules.{rules}
 use native.Mathlib.Omega.{arith}
 use Rattle.sentence.proofs.line.put_line.Goals as goal
 

@@ -14,7 +14,6 @@ use Rattle.sentence.specs.Line.{sums_text}
 use Rattle.sentence.specs.LineLaws.{composed-none}
 use Rattle.sentence.specs.declared.Weighed.TheVariants.{Stands as Overfull}
 use Rattle.sentence.proofs.Standings.{told-at-bound, weighed-stands, weighed-falls, stairs-line}
-use borrow.Author.Rules.{rules}
 use native.Mathlib.Omega.{arith}
 use Rattle.sentence.proofs.line.stairs_line.Goals as goal
 

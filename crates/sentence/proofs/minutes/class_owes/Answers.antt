@@ -3,15 +3,11 @@ use Rattle.sums.specs.Sum.{sum-none}
 use Rattle.sentence.proofs.Adding.{sum_step, sum_to}
 use Rattle.sums.specs.Totals.{only-le}
 use Rattle.reason.specs.Asked.{owes_by}
-use Prim.Native.Nat.{◌-◌, ◌*◌, ◌≤◌}
 use mathlib.Core.Path.{◌≡◌}
 use lib.Dec.{eqb}
 use lib.ListN.{get_or}
-use Rattle.sums.specs.Sum.{sum}
 use Rattle.sums.specs.Lists.{only}
-use Rattle.table.specs.Tabled.{Fine}
 use Rattle.reason.specs.Asked.{owed_by}
-use borrow.Author.Rules.{rules}
 use native.Mathlib.Omega.{arith}
 use Rattle.sentence.proofs.minutes.class_owes.Goals as goal
 

@@ -1,8 +1,3 @@
-use mathlib.Core.Path.{sym, ap, ◌∙◌}
-use Rattle.sums.specs.Sum.{sum-none}
-use Rattle.sentence.proofs.Adding.{sum_step, sum_to}
-use Rattle.sums.specs.Totals.{only-le}
-use Rattle.reason.specs.Asked.{owes_by}
 use Prim.Native.Nat.{◌-◌, ◌*◌, ◌≤◌}
 use mathlib.Core.Path.{◌≡◌}
 use lib.Dec.{eqb}
@@ -11,8 +6,6 @@ use Rattle.sums.specs.Sum.{sum}
 use Rattle.sums.specs.Lists.{only}
 use Rattle.table.specs.Tabled.{Fine}
 use Rattle.reason.specs.Asked.{owed_by}
-use borrow.Author.Rules.{rules}
-use native.Mathlib.Omega.{arith}
 use Rattle.sentence.proofs.minutes.class_owes.Given as goal
 
 abbrev pub invariant-loop-j : goal.invariant-loop-j

@@ -3,11 +3,9 @@ use mathlib.Core.Path.{ap, ◌∙◌}
 use Rattle.order.specs.Machine.{machine-back}
 use Rattle.order.specs.Refusals.{due_in_range}
 use Rattle.sums.specs.Arrays.{fill-at}
-use Prim.Native.Nat.{◌-◌, ◌≤◌}
 use mathlib.Core.Path.{◌≡◌}
 use lib.IntN.{pos}
-use lib.ListN.{length, get_or}
-use Rattle.sums.specs.Arrays.{RowOf}
+use lib.ListN.{get_or}
 use Rattle.order.specs.Lead.{lead, last_due}
 use borrow.Author.Rules.{rules}
 use native.Mathlib.Omega.{arith}

@@ -1,16 +1,9 @@
-use Prim.Native.Nat.{ℕ}
-use mathlib.Core.Path.{ap, ◌∙◌}
-use Rattle.order.specs.Machine.{machine-back}
-use Rattle.order.specs.Refusals.{due_in_range}
-use Rattle.sums.specs.Arrays.{fill-at}
 use Prim.Native.Nat.{◌-◌, ◌≤◌}
 use mathlib.Core.Path.{◌≡◌}
 use lib.IntN.{pos}
 use lib.ListN.{length, get_or}
 use Rattle.sums.specs.Arrays.{RowOf}
 use Rattle.order.specs.Lead.{lead, last_due}
-use borrow.Author.Rules.{rules}
-use native.Mathlib.Omega.{arith}
 use Rattle.sentence.proofs.minutes.leads_of.Given as goal
 
 abbrev pub invariant-loop-i : goal.invariant-loop-i

@@ -1,12 +1,9 @@
-use Prim.Native.Nat.{ℕ, suc, ◌+◌, ◌-◌, ◌*◌, ◌≤◌}
-use mathlib.Core.Path.{◌≡◌, refl, sym, ap, ◌∙◌}
+use Prim.Native.Nat.{suc, ◌-◌, ◌*◌, ◌≤◌}
+use mathlib.Core.Path.{◌≡◌}
 use lib.ListN.{get_or}
-use Rattle.sums.specs.Sum.{sum, sum-none}
+use Rattle.sums.specs.Sum.{sum}
 use Rattle.order.specs.Lead.{most_reach}
 use Rattle.reason.specs.Asked.{owes_by}
-use Rattle.sentence.proofs.Adding.{sum_step, sum_to, hand-small}
-use borrow.Author.Rules.{rules}
-use native.Mathlib.Omega.{arith}
 use Rattle.sentence.proofs.minutes.sums_of.Given as goal
 
 abbrev pub invariant-loop-i : goal.invariant-loop-i

@@ -1,5 +1,4 @@
 use mathlib.Core.Path.{sym, ◌∙◌}
-use borrow.Author.Rules.{rules}
 use Rattle.sentence.proofs.Recovers.{candidate-job, candidate-stairs}
 use Rattle.sentence.proofs.recover.candidate_of.Goals as goal
 

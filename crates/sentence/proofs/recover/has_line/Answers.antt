@@ -9,7 +9,6 @@ use Rattle.text.specs.TextLaws.{put_first}
 use Rattle.sentence.specs.Handed.{handed}
 use Rattle.sentence.specs.Line.{composed}
 use Rattle.sentence.proofs.Readings.{empty-line, compared}
-use borrow.Author.Rules.{rules}
 use native.Mathlib.Omega.{arith}
 use Rattle.sentence.proofs.recover.has_line.Goals as goal
 

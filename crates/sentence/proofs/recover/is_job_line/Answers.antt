@@ -1,5 +1,4 @@
 use mathlib.Core.Path.{sym}
-use borrow.Author.Rules.{rules}
 use Rattle.sentence.proofs.Recovers.{first-none}
 use Rattle.sentence.proofs.recover.is_job_line.Goals as goal
 

@@ -8,7 +8,6 @@ use Rattle.order.specs.Table.{order_of, acceptance_told}
 use Rattle.reason.specs.Told.{why_of}
 use Rattle.sentence.specs.Line.{read_back}
 use Rattle.sentence.proofs.Answers.{read-order, read-bound, read_done}
-use borrow.Author.Rules.{rules}
 use Rattle.sentence.proofs.recover.read_back.Goals as goal
 
 pub returns-in-Refused : goal.returns-in-Refused

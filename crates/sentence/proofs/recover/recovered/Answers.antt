@@ -5,7 +5,6 @@ use mir.ValLaws.{to_z-of_z}
 use Rattle.order.specs.Refusals.{bound_in_range}
 use Rattle.order.specs.Table.{order_of}
 use Rattle.sentence.proofs.Readings.{read_is, read-not, has-at}
-use borrow.Author.Rules.{rules}
 use Rattle.sentence.proofs.recover.recovered.Goals as goal
 
 pub has_line-requires : goal.has_line-requires

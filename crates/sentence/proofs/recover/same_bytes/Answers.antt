@@ -1,10 +1,5 @@
-use Prim.Native.Nat.{◌-◌, ◌≤◌}
-use mathlib.Core.Path.{◌≡◌, sym, ◌∙◌}
+use mathlib.Core.Path.{sym, ◌∙◌}
 use native.Mathlib.Omega.{arith}
-use borrow.Author.Rules.{rules}
-use lib.Dec.{eqb}
-use lib.ListN.{length, drop}
-use Rattle.sums.specs.Same.{same_list}
 use Rattle.sentence.proofs.Recovers.{same-lengths, same_none, same-differ, same_step}
 use Rattle.sentence.proofs.recover.same_bytes.Goals as goal
 

@@ -1,11 +1,8 @@
 use Prim.Native.Nat.{◌-◌, ◌≤◌}
-use mathlib.Core.Path.{◌≡◌, sym, ◌∙◌}
-use native.Mathlib.Omega.{arith}
-use borrow.Author.Rules.{rules}
+use mathlib.Core.Path.{◌≡◌}
 use lib.Dec.{eqb}
 use lib.ListN.{length, drop}
 use Rattle.sums.specs.Same.{same_list}
-use Rattle.sentence.proofs.Recovers.{same-lengths, same_none, same-differ, same_step}
 use Rattle.sentence.proofs.recover.same_bytes.Given as goal
 
 abbrev pub invariant-loop-i : goal.invariant-loop-i

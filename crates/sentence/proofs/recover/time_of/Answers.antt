@@ -1,6 +1,5 @@
 use mathlib.Core.Path.{sym}
 use native.Mathlib.Omega.{arith}
-use borrow.Author.Rules.{rules}
 use Rattle.order.proofs.StructLaws.{few-jobs}
 use Rattle.sentence.proofs.Recovers.{time-at, time-beyond}
 use Rattle.sentence.proofs.recover.time_of.Goals as goal

@@ -1,4 +1,3 @@
-use borrow.Author.Rules.{rules}
 use borrow.Author.Tests.{not-true}
 use Rattle.sentence.proofs.Scans.{other-inside}
 use Rattle.sentence.proofs.scan.other_byte.Goals as goal

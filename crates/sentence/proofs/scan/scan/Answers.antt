@@ -1,9 +1,5 @@
-use Prim.Native.Nat.{◌-◌, ◌≤◌, ◌<◌}
-use mathlib.Core.Path.{◌≡◌, refl, sym, ◌∙◌}
+use mathlib.Core.Path.{refl, sym, ◌∙◌}
 use native.Mathlib.Omega.{arith}
-use borrow.Author.Rules.{rules}
-use lib.ListN.{length, drop}
-use Rattle.sentence.specs.Scanning.{scan_from, scanned}
 use Rattle.sentence.proofs.Scans.{scan-none, scan_step}
 use Rattle.sentence.proofs.scan.scan.Goals as goal
 

@@ -1,4 +1,3 @@
-use borrow.Author.Rules.{rules}
 use Rattle.sentence.proofs.Scans.{step-below, step-above, other-told, digit-told}
 use Rattle.sentence.proofs.scan.step.Goals as goal
 

@@ -1,5 +1,4 @@
 use native.Mathlib.Omega.{arith}
-use borrow.Author.Rules.{rules}
 use Rattle.order.specs.Machine.{machine-low}
 use Rattle.sentence.proofs.Scans.{minus-fits, minus-back}
 use Rattle.sentence.proofs.scan.with_sign.Goals as goal

@@ -8,13 +8,11 @@ use Rattle.order.specs.Sorted.{due_times}
 use Rattle.order.proofs.StructLaws.{few-jobs}
 use Rattle.order.specs.Table.{order_of}
 use Rattle.sentence.proofs.Dues.{same-machine, due-listed, listed-due}
-use Prim.Native.Nat.{ℕ, ◌-◌, ◌<◌, ◌≤◌}
+use Prim.Native.Nat.{ℕ}
 use mathlib.Core.Path.{◌≡◌}
 use lib.IntN.{pos}
 use mir.Syntax.{w32}
-use mir.Val.{to_z}
 use lib.ListN.{get_or}
-use borrow.Author.Rules.{rules}
 use native.Mathlib.Omega.{arith}
 use Rattle.sentence.proofs.standing.is_due.Goals as goal
 

@@ -4,7 +4,6 @@ use Prim.Native.Nat.{◌-◌}
 use Rattle.order.specs.Machine.{machine-back}
 use Rattle.order.specs.Table.{order_of}
 use Rattle.sentence.proofs.Dues.{no_due, first-due, later-due}
-use borrow.Author.Rules.{rules}
 use Rattle.sentence.proofs.standing.step_fits.Goals as goal
 
 pub returns-then-not-is_due : goal.returns-then-not-is_due

@@ -1,11 +1,6 @@
-use borrow.Author.Tests.{not-true, not-false}
-use mathlib.Core.Path.{◌≡◌, refl, sym, ◌∙◌}
-use native.Mathlib.Decide.{ℕ_discrete}
 use Prim.Native.Nat.{ℕ, ◌-◌, ◌<◌, ◌≤◌}
 use Rattle.order.specs.Table.{order_of}
 use Rattle.sentence.specs.Inside.{StepFits}
-use borrow.Author.Rules.{rules}
-use native.Mathlib.Omega.{arith}
 use Rattle.sentence.proofs.standing.steps_fit.Given as goal
 
 abbrev pub invariant-loop-i : goal.invariant-loop-i

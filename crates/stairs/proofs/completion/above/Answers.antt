@@ -1,11 +1,11 @@
-use Prim.Native.Nat.{ℕ, suc, ◌+◌, ◌-◌, ◌≤◌}
+use Prim.Native.Nat.{ℕ, suc, ◌+◌}
 use mathlib.Core.Path.{◌≡◌, refl, sym}
 use native.Mathlib.Omega.{arith}
 use native.Mathlib.Numerals.{add-one}
 use borrow.Author.Rules.{rules}
-use lib.ListN.{length, get_or}
+use lib.ListN.{get_or}
 use Rattle.sums.specs.Most.{most, most-none, most-suc}
-use Rattle.sums.specs.Arrays.{RowOf, fill-at}
+use Rattle.sums.specs.Arrays.{fill-at}
 use Rattle.stairs.proofs.completion.above.Goals as goal
 
 pub loop-d-init : goal.loop-d-init

@@ -1,11 +1,8 @@
-use Prim.Native.Nat.{ℕ, suc, ◌+◌, ◌-◌, ◌≤◌}
-use mathlib.Core.Path.{◌≡◌, refl, sym}
-use native.Mathlib.Omega.{arith}
-use native.Mathlib.Numerals.{add-one}
-use borrow.Author.Rules.{rules}
+use Prim.Native.Nat.{suc, ◌+◌, ◌-◌, ◌≤◌}
+use mathlib.Core.Path.{◌≡◌}
 use lib.ListN.{length, get_or}
-use Rattle.sums.specs.Most.{most, most-none, most-suc}
-use Rattle.sums.specs.Arrays.{RowOf, fill-at}
+use Rattle.sums.specs.Most.{most}
+use Rattle.sums.specs.Arrays.{RowOf}
 use Rattle.stairs.proofs.completion.above.Given as goal
 
 -- the best so far, and the row up to d

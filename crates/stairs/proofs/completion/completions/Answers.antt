@@ -1,9 +1,7 @@
-use Prim.Native.Nat.{suc, ◌-◌, ◌≤◌}
+use Prim.Native.Nat.{suc, ◌-◌}
 use mathlib.Core.Path.{◌≡◌, refl}
 use native.Mathlib.Omega.{arith}
 use borrow.Author.Rules.{rules}
-use lib.ListN.{length}
-use Rattle.stairs.specs.Tables.{Completed}
 use Rattle.sums.specs.Arrays.{zeros-at}
 use Rattle.stairs.proofs.Rows.{completed-none, completed-more, completed-le}
 use Rattle.stairs.proofs.completion.completions.Goals as goal

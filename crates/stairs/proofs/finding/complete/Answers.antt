@@ -1,8 +1,7 @@
-use Prim.Native.Nat.{suc, ◌+◌, ◌-◌, ◌*◌, ◌<◌, ◌≤◌}
+use Prim.Native.Nat.{suc, ◌-◌}
 use native.Mathlib.Omega.{arith}
 use borrow.Author.Rules.{rules}
-use Rattle.stairs.specs.Tables.{first_from, put, cell}
-use Rattle.stairs.proofs.Greedy.{Greedy, greedy-start, greedy-least, greedy-done}
+use Rattle.stairs.proofs.Greedy.{greedy-start, greedy-least, greedy-done}
 use Rattle.stairs.proofs.Rows.{completed-le}
 use Rattle.stairs.proofs.finding.complete.Goals as goal
 

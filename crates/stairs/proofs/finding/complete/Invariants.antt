@@ -1,9 +1,6 @@
 use Prim.Native.Nat.{suc, ◌+◌, ◌-◌, ◌*◌, ◌<◌, ◌≤◌}
-use native.Mathlib.Omega.{arith}
-use borrow.Author.Rules.{rules}
 use Rattle.stairs.specs.Tables.{first_from, put, cell}
-use Rattle.stairs.proofs.Greedy.{Greedy, greedy-start, greedy-least, greedy-done}
-use Rattle.stairs.proofs.Rows.{completed-le}
+use Rattle.stairs.proofs.Greedy.{Greedy}
 use Rattle.stairs.proofs.finding.complete.Given as goal
 
 -- the classes below i are settled greedily

@@ -1,14 +1,9 @@
 use Prim.Native.Nat.{suc, ◌-◌, ◌<◌, ◌≤◌}
 use mathlib.Core.Path.{◌≡◌}
-use native.Mathlib.Omega.{arith}
-use borrow.Author.Rules.{rules}
 use lib.ListN.{get_or}
 use Rattle.profile.specs.Search.{nothing}
 use Rattle.stairs.specs.Places.{first_overfull_at}
 use Rattle.stairs.specs.Tables.{first_from, cell, room_of}
-use Rattle.stairs.specs.CompletionLaws.{first-zero, overfull-zero, overfull-none}
-use Rattle.stairs.proofs.Ranking.{find-more, find-can, find-hit, find_none}
-use Rattle.stairs.proofs.Rows.{completed-le}
 use Rattle.stairs.proofs.finding.find.Given as goal
 
 -- no profile of k + 1 classes that begins below d is overfull

@@ -1,8 +1,6 @@
-use Prim.Native.Nat.{ℕ, ◌+◌, ◌-◌, ◌<◌, ◌≤◌}
 use native.Mathlib.Omega.{arith}
 use borrow.Author.Count.{below_more}
 use borrow.Author.Rules.{rules}
-use lib.ListN.{get_or}
 use Rattle.stairs.proofs.finding.least.Goals as goal
 
 pub overflow_add-acc : goal.overflow_add-acc

@@ -1,10 +1,5 @@
 use Prim.Native.Nat.{ℕ, ◌-◌, ◌<◌, ◌≤◌}
-use mathlib.Core.Path.{sym}
-use native.Mathlib.Omega.{arith}
-use borrow.Author.Count.{below_more}
-use borrow.Author.Rules.{rules}
 use lib.ListN.{get_or}
-use Rattle.table.specs.ClassRows.{last-stops, last-all}
 use Rattle.table.proofs.class.class_for.Given as goal
 
 -- the memories passed suffice

@@ -1,18 +1,12 @@
-use borrow.Author.Rules.{rules}
-use native.Mathlib.Omega.{arith}
 use Prim.Native.Nat.{ℕ, ◌-◌, ◌<◌, ◌≤◌}
-use mathlib.Core.Path.{◌≡◌, ap, ◌∙◌}
+use mathlib.Core.Path.{◌≡◌}
 use lib.ListN.{length, get_or}
-use Rattle.sums.specs.Arrays.{RowOf, fill-at}
-use Rattle.sums.specs.Lists.{tabulate}
-use Rattle.order.specs.Order.{Numbers, job_of}
-use Rattle.order.specs.Class.{last_that_suffices, class_of}
-use Rattle.order.proofs.RefusalLaws.{accepted-iff}
-use Rattle.order.proofs.StructLaws.{few-jobs}
+use Rattle.sums.specs.Arrays.{RowOf}
+use Rattle.order.specs.Order.{job_of}
+use Rattle.order.specs.Class.{class_of}
 use Rattle.order.specs.Table.{order_of}
-use Rattle.table.specs.ClassRows.{few-listed, class-of-is}
 use Rattle.table.specs.Held.{number_at}
-use Rattle.table.proofs.NeedsFall.{need_at, job-number, job-need, class-listed, class-fits}
+use Rattle.table.proofs.NeedsFall.{need_at}
 use Rattle.table.proofs.class.classes_of_jobs.Given as goal
 
 abbrev pub invariant-loop-k : goal.invariant-loop-k

@@ -1,11 +1,11 @@
-use Prim.Native.Nat.{ℕ, ◌-◌, ◌≤◌}
+use Prim.Native.Nat.{ℕ}
 use mathlib.Core.Path.{◌≡◌, ◌∙◌}
 use native.Mathlib.Omega.{arith}
 use borrow.Author.Rules.{rules}
-use lib.ListN.{length, get_or}
+use lib.ListN.{get_or}
 use Rattle.order.specs.Class.{class_for}
 use Rattle.order.specs.Table.{order_of}
-use Rattle.sums.specs.Arrays.{RowOf, fill-at}
+use Rattle.sums.specs.Arrays.{fill-at}
 use Rattle.order.proofs.RefusalLaws.{accepted-iff}
 use Rattle.order.proofs.StructLaws.{few-processors}
 use Rattle.table.specs.ClassRows.{few-listed, class-is}

@@ -1,14 +1,9 @@
-use Prim.Native.Nat.{ℕ, ◌-◌, ◌≤◌}
-use mathlib.Core.Path.{◌≡◌, ◌∙◌}
-use native.Mathlib.Omega.{arith}
-use borrow.Author.Rules.{rules}
+use Prim.Native.Nat.{◌-◌, ◌≤◌}
+use mathlib.Core.Path.{◌≡◌}
 use lib.ListN.{length, get_or}
 use Rattle.order.specs.Class.{class_for}
 use Rattle.order.specs.Table.{order_of}
-use Rattle.sums.specs.Arrays.{RowOf, fill-at}
-use Rattle.order.proofs.RefusalLaws.{accepted-iff}
-use Rattle.order.proofs.StructLaws.{few-processors}
-use Rattle.table.specs.ClassRows.{few-listed, class-is}
+use Rattle.sums.specs.Arrays.{RowOf}
 use Rattle.table.proofs.class.classes_of_processors.Given as goal
 
 -- the classes of the first i processors stand in the array

@@ -1,5 +1,4 @@
 use native.Mathlib.Omega.{arith}
-use borrow.Author.Rules.{rules}
 use Rattle.table.proofs.Dues.{sum_fits, bound-read}
 use Rattle.table.proofs.lead.bound_of.Goals as goal
 

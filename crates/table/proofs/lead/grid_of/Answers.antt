@@ -1,8 +1,4 @@
-use Prim.Native.Nat.{◌≤◌}
-use native.Mathlib.Omega.{arith}
-use borrow.Author.Rules.{rules}
 use Rattle.table.specs.GridLaws.{grid-of-leads}
-use Rattle.order.proofs.StructLaws.{few-jobs}
 use Rattle.table.proofs.lead.grid_of.Goals as goal
 
 pub returns : goal.returns

@@ -1,13 +1,13 @@
-use Prim.Native.Nat.{ℕ, ◌-◌, ◌≤◌}
+use Prim.Native.Nat.{ℕ}
 use mathlib.Core.Path.{◌≡◌, ap, ◌∙◌}
 use native.Mathlib.Omega.{arith}
 use borrow.Author.Rules.{rules}
 use lib.IntN.{pos}
-use lib.ListN.{length, get_or}
+use lib.ListN.{get_or}
 use Rattle.order.specs.Machine.{machine-back}
 use Rattle.order.specs.Refusals.{due_in_range}
 use Rattle.order.specs.Lead.{lead, last_due}
-use Rattle.sums.specs.Arrays.{RowOf, fill-at}
+use Rattle.sums.specs.Arrays.{fill-at}
 use Rattle.order.proofs.StructLaws.{few-jobs, due-in-range-at}
 use Rattle.table.proofs.lead.leads_of.Goals as goal
 

@@ -1,14 +1,9 @@
-use Prim.Native.Nat.{ℕ, ◌-◌, ◌≤◌}
-use mathlib.Core.Path.{◌≡◌, ap, ◌∙◌}
-use native.Mathlib.Omega.{arith}
-use borrow.Author.Rules.{rules}
+use Prim.Native.Nat.{◌-◌, ◌≤◌}
+use mathlib.Core.Path.{◌≡◌}
 use lib.IntN.{pos}
 use lib.ListN.{length, get_or}
-use Rattle.order.specs.Machine.{machine-back}
-use Rattle.order.specs.Refusals.{due_in_range}
 use Rattle.order.specs.Lead.{lead, last_due}
-use Rattle.sums.specs.Arrays.{RowOf, fill-at}
-use Rattle.order.proofs.StructLaws.{few-jobs, due-in-range-at}
+use Rattle.sums.specs.Arrays.{RowOf}
 use Rattle.table.proofs.lead.leads_of.Given as goal
 
 -- the leads of the first j jobs stand in the array

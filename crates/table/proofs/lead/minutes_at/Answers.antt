@@ -1,9 +1,9 @@
 use borrow.Author.Rules.{rules}
 use native.Mathlib.Omega.{arith}
-use Prim.Native.Nat.{ℕ, ◌-◌, ◌≤◌}
+use Prim.Native.Nat.{ℕ, ◌-◌}
 use mathlib.Core.Path.{◌≡◌}
-use lib.ListN.{length, get_or}
-use Rattle.sums.specs.Arrays.{RowOf, fill-at}
+use lib.ListN.{get_or}
+use Rattle.sums.specs.Arrays.{fill-at}
 use Rattle.table.proofs.lead.minutes_at.Goals as goal
 
 pub loop-i-init : goal.loop-i-init

@@ -1,9 +1,7 @@
 use Prim.Native.Nat.{◌≤◌}
 use native.Mathlib.Omega.{arith}
-use borrow.Author.Rules.{rules}
 use Rattle.order.proofs.StructLaws.{few-jobs, few-processors}
 use Rattle.table.specs.GridLaws.{grid-of-leads}
-use Rattle.table.specs.Held.{EachOnce, beside}
 use Rattle.table.specs.Making.{tabled-made}
 use Rattle.table.proofs.NeedsFall.{numbers-once}
 use Rattle.table.proofs.making.table_of.Goals as goal

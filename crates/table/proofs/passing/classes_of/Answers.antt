@@ -1,11 +1,10 @@
-use Prim.Native.Nat.{ℕ, ◌-◌, ◌≤◌}
+use Prim.Native.Nat.{ℕ}
 use mathlib.Core.Path.{◌≡◌, sym, ap, ◌∙◌}
 use mathlib.Core.List.{List, [], ◌∷◌, ◌++◌}
-use borrow.Author.Rules.{rules}
 use lib.ListN.{get_or}
 use Rattle.sums.specs.Lists.{tabulate}
 use Rattle.sums.specs.Places.{length-tabulate, tabulate-more}
-use Rattle.order.specs.Order.{Numbers, memory_of, processor_count}
+use Rattle.order.specs.Order.{memory_of, processor_count}
 use Rattle.order.specs.Sorted.{processor_order}
 use Rattle.order.proofs.StructLaws.{processor-count}
 use Rattle.order.specs.Table.{order_of}

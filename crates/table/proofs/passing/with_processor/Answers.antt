@@ -1,4 +1,3 @@
-use borrow.Author.Rules.{rules}
 use Rattle.table.specs.OneMoreLaws.{one_more, class-more}
 use native.Mathlib.Omega.{arith}
 use Rattle.table.proofs.passing.with_processor.Goals as goal

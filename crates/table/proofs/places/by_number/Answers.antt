@@ -1,10 +1,6 @@
 use borrow.Author.Rules.{rules}
 use native.Mathlib.Omega.{arith}
-use Prim.Native.Nat.{ℕ, ◌-◌, ◌<◌, ◌≤◌}
-use mathlib.Core.Path.{◌≡◌}
-use lib.ListN.{length, get_or, length-set}
-use Rattle.order.specs.Order.{Numbers}
-use Rattle.table.specs.Held.{beside}
+use lib.ListN.{length-set}
 use Rattle.table.proofs.Scattered.{scatter-more, scatter-all}
 use Rattle.table.proofs.places.by_number.Goals as goal
 

@@ -1,11 +1,7 @@
-use borrow.Author.Rules.{rules}
-use native.Mathlib.Omega.{arith}
 use Prim.Native.Nat.{ℕ, ◌-◌, ◌<◌, ◌≤◌}
 use mathlib.Core.Path.{◌≡◌}
-use lib.ListN.{length, get_or, length-set}
-use Rattle.order.specs.Order.{Numbers}
+use lib.ListN.{length, get_or}
 use Rattle.table.specs.Held.{beside}
-use Rattle.table.proofs.Scattered.{scatter-more, scatter-all}
 use Rattle.table.proofs.places.by_number.Given as goal
 
 abbrev pub invariant-loop-k : goal.invariant-loop-k

@@ -1,13 +1,9 @@
-use borrow.Author.Rules.{rules}
-use native.Mathlib.Omega.{arith}
 use Prim.Native.Nat.{ℕ, ◌-◌, ◌≤◌}
 use mathlib.Core.Path.{◌≡◌}
 use lib.ListN.{length}
-use Rattle.sums.specs.Arrays.{RowOf, fill-at}
+use Rattle.sums.specs.Arrays.{RowOf}
 use Rattle.sums.specs.Lists.{nth}
-use Rattle.order.specs.Order.{Numbers}
 use Rattle.table.specs.Held.{beside}
-use Rattle.table.proofs.Scattered.{named}
 use Rattle.table.proofs.places.by_place.Given as goal
 
 abbrev pub invariant-loop-k : goal.invariant-loop-k

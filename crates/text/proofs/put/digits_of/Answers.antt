@@ -1,9 +1,6 @@
-use Prim.Native.Nat.{◌+◌}
-use mathlib.Core.Path.{◌≡◌, ap}
+use mathlib.Core.Path.{ap}
 use native.Mathlib.Omega.{arith}
-use borrow.Author.Rules.{rules}
 use lib.ListN.{length}
-use Rattle.text.specs.Text.{decimal}
 use Rattle.text.specs.TextLaws.{decimal_digit, decimal-longer, decimal-short}
 use Rattle.text.proofs.put.digits_of.Goals as goal
 

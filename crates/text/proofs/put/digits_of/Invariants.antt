@@ -1,10 +1,7 @@
 use Prim.Native.Nat.{◌+◌}
-use mathlib.Core.Path.{◌≡◌, ap}
-use native.Mathlib.Omega.{arith}
-use borrow.Author.Rules.{rules}
+use mathlib.Core.Path.{◌≡◌}
 use lib.ListN.{length}
 use Rattle.text.specs.Text.{decimal}
-use Rattle.text.specs.TextLaws.{decimal_digit, decimal-longer, decimal-short}
 use Rattle.text.proofs.put.digits_of.Given as goal
 
 abbrev pub invariant-loop-rest : goal.invariant-loop-rest

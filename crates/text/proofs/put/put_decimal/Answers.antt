@@ -1,9 +1,8 @@
 use mathlib.Core.Path.{ap}
 use native.Mathlib.Omega.{arith}
-use borrow.Author.Rules.{rules}
 use lib.ListN.{length}
 use Rattle.text.specs.TextLaws.{decimal_digit, decimal-longer}
-use Rattle.text.proofs.Digits.{Tail, tail_none, tail_more, tail-last}
+use Rattle.text.proofs.Digits.{tail_none, tail_more, tail-last}
 use Rattle.text.proofs.put.put_decimal.Goals as goal
 
 pub loop-rest-init : goal.loop-rest-init

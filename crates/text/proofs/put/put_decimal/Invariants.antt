@@ -1,9 +1,4 @@
-use mathlib.Core.Path.{ap}
-use native.Mathlib.Omega.{arith}
-use borrow.Author.Rules.{rules}
-use lib.ListN.{length}
-use Rattle.text.specs.TextLaws.{decimal_digit, decimal-longer}
-use Rattle.text.proofs.Digits.{Tail, tail_none, tail_more, tail-last}
+use Rattle.text.proofs.Digits.{Tail}
 use Rattle.text.proofs.put.put_decimal.Given as goal
 
 abbrev pub invariant-loop-rest : goal.invariant-loop-rest

@@ -1,5 +1,4 @@
 use native.Mathlib.Omega.{arith}
-use borrow.Author.Rules.{rules}
 use Rattle.text.specs.TextLaws.{decimal-short, put_both}
 use Rattle.text.proofs.put.put_number.Goals as goal
 

@@ -1,7 +1,6 @@
 -- The refusals in the order of the table, then what the rules say.
 use mathlib.Core.Path.{sym, ap, ◌∙◌}
 use native.Mathlib.Omega.{arith}
-use borrow.Author.Rules.{rules}
 use lib.IntN.{ℤ}
 use mir.ValLaws.{to_z-of_z}
 use mir.Syntax.{w32}

@@ -1,5 +1,4 @@
 -- The tests one after the other; the first that fails decides.
-use borrow.Author.Rules.{rules}
 use Rattle.plan.specs.Inside.{row_of}
 use Rattle.timed.proofs.InTimes.{before-ready, before-opening, by-closing}
 use Rattle.timed.proofs.checking.in_times.Goals as goal

@@ -1,7 +1,6 @@
 -- As many numbers are lent as there are rows.
 use mathlib.Core.Path.{refl, sym}
 use native.Mathlib.Omega.{arith}
-use borrow.Author.Rules.{rules}
 use Rattle.timed.proofs.Walks.{part-long}
 use Rattle.timed.proofs.checking.many_apart.Goals as goal
 

@@ -1,12 +1,8 @@
 -- The rows passed so far keep the times; one that does not decides.
-use Prim.Native.Nat.{ℕ, ◌≤◌, ◌<◌, ◌-◌}
-use mathlib.Core.Bool.{true}
-use mathlib.Core.Path.{◌≡◌}
 use native.Mathlib.Omega.{arith}
 use borrow.Author.Tests.{not-true, not-false}
 use borrow.Author.Count.{below_none, below_more}
 use borrow.Author.Rules.{rules}
-use Rattle.plan.specs.Check.{row_at}
 use Rattle.timed.specs.Check.{in_times}
 use Rattle.timed.specs.Times.{times_of}
 use Rattle.timed.proofs.Walks.{row_named, row-tested, each-passes, one-fails}

@@ -1,7 +1,6 @@
 -- The order refuses, then a ready minute, then a window, then the bound.
 use mathlib.Core.Path.{sym, ap, ◌∙◌}
 use borrow.Author.Tests.{not-true, not-false}
-use borrow.Author.Rules.{rules}
 use mir.ValLaws.{to_z-of_z}
 use mir.Syntax.{w32}
 use Rattle.order.proofs.StructLaws.{job-count, processor-count, few-jobs, few-processors}

@@ -1,7 +1,5 @@
 -- The ready minutes passed so far are in range; one that is not decides.
-use Prim.Native.Nat.{ℕ, suc, ◌≤◌, ◌<◌, ◌-◌}
-use mathlib.Core.Bool.{false, not}
-use mathlib.Core.Path.{◌≡◌}
+use mathlib.Core.Bool.{not}
 use native.Mathlib.Omega.{arith}
 use borrow.Author.Count.{below_none, below_more}
 use borrow.Author.Rules.{rules}

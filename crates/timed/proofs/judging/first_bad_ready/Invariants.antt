@@ -2,12 +2,8 @@
 use Prim.Native.Nat.{ℕ, suc, ◌≤◌, ◌<◌, ◌-◌}
 use mathlib.Core.Bool.{false, not}
 use mathlib.Core.Path.{◌≡◌}
-use native.Mathlib.Omega.{arith}
-use borrow.Author.Count.{below_none, below_more}
-use borrow.Author.Rules.{rules}
 use Rattle.sums.specs.Lists.{nth}
 use Rattle.timed.specs.Times.{minute_in_range}
-use Rattle.timed.proofs.Findings.{one_found, none_found, minute-high, minute-good}
 use Rattle.timed.proofs.judging.first_bad_ready.Given as goal
 
 abbrev pub invariant-loop-j : goal.invariant-loop-j

@@ -2,13 +2,8 @@
 use Prim.Native.Nat.{ℕ, suc, ◌≤◌, ◌<◌, ◌-◌}
 use mathlib.Core.Bool.{false, not}
 use mathlib.Core.Path.{◌≡◌}
-use native.Mathlib.Omega.{arith}
-use borrow.Author.Count.{below_none, below_more}
-use borrow.Author.Rules.{rules}
 use Rattle.sums.specs.Lists.{nth}
 use Rattle.timed.specs.Times.{window_good}
-use Rattle.order.proofs.FindingLaws.{not-of, not_of_false}
-use Rattle.timed.proofs.Findings.{one_found, none_found}
 use Rattle.timed.proofs.judging.first_bad_window.Given as goal
 
 abbrev pub invariant-loop-i : goal.invariant-loop-i

@@ -1,10 +1,9 @@
 use borrow.Author.Rules.{rules}
 use native.Mathlib.Omega.{arith}
-use Prim.Native.Nat.{◌≤◌, ◌+◌, ◌-◌}
+use Prim.Native.Nat.{◌+◌}
 use mathlib.Core.Path.{◌≡◌, refl}
-use lib.ListN.{length, get_or, length-set}
+use lib.ListN.{get_or, length-set}
 use Rattle.allot.specs.PutLaws.{put-none, put-more}
-use Rattle.allot.specs.Tables.{Put}
 use Rattle.timed.proofs.moments.put_ends.Goals as goal
 
 pub loop-i-init : goal.loop-i-init

@@ -1,4 +1,3 @@
-use borrow.Author.Rules.{rules}
 use native.Mathlib.Omega.{arith}
 use Rattle.timed.proofs.Windows.{windows-put}
 use Rattle.timed.proofs.moments.put_windows.Goals as goal
