@@ -9,7 +9,7 @@ const ARCHIVE: &str = "libhighboyrobin.a";
 /// Names the folder of the archive.
 const NAMED: &str = "HIGHBOYROBIN_LIB_DIR";
 
-/// Where the archive may lie: in the folder that is named; where none is, beside Cargo.toml or where `rt staticlib` leaves it.
+/// Where the archive may lie: in the folder that is named; where none is, beside Cargo.toml or where `tests/archive` leaves it.
 fn folders() -> Vec<PathBuf> {
     if let Some(named) = var_os(NAMED).filter(|named| !named.is_empty()) {
         return vec![named.into()];
@@ -25,7 +25,7 @@ fn main() {
         for folder in &folders {
             eprintln!("there is no {ARCHIVE} in {}", folder.display());
         }
-        eprintln!("make it with `rt staticlib highboyrobin`; then put it beside this package's Cargo.toml,");
+        eprintln!("make it with `tests/archive` in the repository; then put it beside this package's Cargo.toml,");
         eprintln!("or set {NAMED} to the absolute path of its folder");
         exit(1);
     };

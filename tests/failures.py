@@ -77,15 +77,15 @@ def wrong_slow(ran, output):
     return wrong_failure(Ran("", ran.said, ran.told))
 
 
-def told(programs, answers):
+def told(path, answers):
     """Each answer with its digit, and with none where none is asked for: what is tried, and what is wrong with it.
-    answers has program, input, output and digit."""
+    answers has name, input, output and digit; path gives the file of a name, here and below."""
     for name, data, output, digit in answers:
-        yield f"{name} with status", wrong_answer(shell(programs / name, "status", "", data), output, digit)
-        yield f"{name} without status", wrong_answer(shell(programs / name, "", "", data), output, "")
+        yield f"{name} with status", wrong_answer(shell(path(name), "status", "", data), output, digit)
+        yield f"{name} without status", wrong_answer(shell(path(name), "", "", data), output, "")
 
 
-def failed(programs, inputs):
+def failed(path, inputs):
     """Each way to fail, for each program with a good input."""
     with tempfile.TemporaryDirectory() as folder:
         for name, data in inputs:
@@ -93,11 +93,11 @@ def failed(programs, inputs):
                                      ("a standard output that is read only", "1</dev/null"),
                                      ("a folder on standard input", f"<{folder}"), ("a closed standard input", "<&-"),
                                      ("a standard input that is write only", "0>/dev/null")):
-                yield f"{name} with {what}", wrong_failure(shell(programs / name, "status", redirected, data))
+                yield f"{name} with {what}", wrong_failure(shell(path(name), "status", redirected, data))
 
 
-def slow(programs, data, output):
+def slow(path, data, output):
     """A long plan through a small pipe."""
-    program = programs / "plan_order"
+    program = path("plan_order")
     yield "plan_order with a slow reader", wrong_answer(slow_reader(program, data, True), output, "0")
     yield "plan_order with a slow reader and a pipe that does not wait", wrong_slow(slow_reader(program, data, False), output)

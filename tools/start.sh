@@ -1,4 +1,4 @@
-# shellcheck shell=sh disable=SC2154
+# shellcheck shell=sh disable=SC2086,SC2154
 # What plan-order and try-bound share. They read this file after they have set:
 #     here       the repository
 #     name       what the person started
@@ -6,7 +6,8 @@
 #     usage      what a person may write
 # A line on standard error begins with the name. Status 2 is a failure or wrong usage.
 
-built=$here/target/bin/$program
+out=$here/crates/$program/out
+built=$out/$program
 
 say() { printf '%s: %s\n' "$name" "$*" >&2; }
 
@@ -20,66 +21,79 @@ wrong_usage() {
   exit 2
 }
 
-# Is the program missing, or a source newer than it?
+# Is the program missing, or a source newer than it? What rt makes in the crates' folders out/ is no source, nor is a crate's own
+# folder, which is newer once rt has made its out/.
 stale() {
   [ -f "$built" ] && [ -x "$built" ] || return 0
-  [ -n "$(find "$here/crates" "$here/crates.txt" -newer "$built" -print 2>/dev/null | head -n 1)" ]
+  [ -n "$(find "$here"/crates/*/* "$here/crates.txt" -name out -prune -o -newer "$built" -print 2>/dev/null | head -n 1)" ]
 }
 
-# How many crates have to be proved: the program's and all that it stands on.
+# The crates that have to be proved, in rt's order: all that the program's stands on, each after those below it, then its own.
 crates_needed() {
   awk -v program="$program" '
+    function list(crate, more, n, i) {
+      if (crate in listed || !(crate in under)) return
+      listed[crate] = 1
+      n = split(under[crate], more)
+      for (i = 1; i <= n; i++) list(more[i])
+      print crate
+    }
     { sub(/#.*/, ""); at = index($0, ":") }
-    at { crate = substr($0, 1, at - 1); gsub(/[ \t]/, "", crate); under[crate] = substr($0, at + 1) }
-    END {
-      asked[last = 1] = program
-      for (i = 1; i <= last; i++) {
-        crate = asked[i]
-        if (crate in under && !(crate in seen)) {
-          seen[crate] = ++count
-          n = split(under[crate], more)
-          for (j = 1; j <= n; j++) asked[++last] = more[j]
-        }
-      }
-      print count + 0
-    }' "$here/crates.txt"
+    at { crate = $1; sub(/:.*/, "", crate); under[crate] = substr($0, at + 1) }
+    END { list(program) }' "$here/crates.txt"
 }
 
-# Writes what rt says to the log, tells of each crate that it proves, and ends with rt's status.
+# Writes what rt says to the log, tells of each crate that it proves and of each wait, and ends with rt's status. rt says nothing
+# of a crate that has not changed, which is counted with the next one that is proved.
 follow() {
-  done=0 ended=2 last=
+  ended=2 shown=
   while IFS= read -r line; do
     printf '%s\n' "$line" >>"$log"
     case $line in
     "ended "*) ended=${line#ended } ;;
-    "rt: "*" proved (unchanged "*) done=$((done + 1)) ;;
-    "rt: "*" proved ("*)
-      done=$((done + 1)) crate=${line#rt: }
-      last="$name: ${crate%% *} proved, $done of $total crates"
-      if [ -t 2 ]; then printf '\r\033[K%s' "$last" >&2; else printf '%s\n' "$last" >&2; fi
-      ;;
+    "rt: chose --jobs "*) crate=${line##* } ;;
+    "rt: "*"waiting for "*) tell "${line#rt: }" ;;
+    "logic=proved "*) tell "$crate proved, $(place "$crate" $crates) of $total crates" ;;
     esac
   done
-  if [ -t 2 ] && [ -n "$last" ]; then printf '\n' >&2; fi
+  if [ -t 2 ] && [ -n "$shown" ]; then printf '\n' >&2; fi
   return "$ended"
+}
+
+# Says how far the build is, at a terminal in one line that each next takes the place of.
+tell() {
+  shown=yes
+  if [ -t 2 ]; then printf '\r\033[K%s: %s' "$name" "$1" >&2; else say "$1"; fi
+}
+
+# Which of the words behind it the first word is.
+place() {
+  wanted=$1 at=0
+  shift
+  for word; do
+    at=$((at + 1))
+    if [ "$word" = "$wanted" ]; then break; fi
+  done
+  echo "$at"
 }
 
 # Builds the program, or ends in one line that says where the log is.
 build() {
   if [ -e "$built" ]; then why="older than its sources"; else why="not built yet"; fi
   command -v rt >/dev/null 2>&1 || fail "the program is $why, and rt (the Rattle kit) is not on the PATH"
-  log=$here/target/$name.log began=$here/target/$name.began cause="could not be built"
-  if ! (mkdir -p "$here/target" && : >"$log" && : >"$began") 2>/dev/null; then
-    cause="is $why, and target/ can't be written to"
+  log=$out/$name.log began=$out/$name.began cause="could not be built"
+  if ! (mkdir -p "$out" && : >"$log" && : >"$began") 2>/dev/null; then
+    cause="is $why, and crates/$program/out can't be written to"
     log=$(mktemp "${TMPDIR:-/tmp}/$name.XXXXXX" 2>/dev/null) || fail "the program $cause, nor ${TMPDIR:-/tmp}"
   fi
-  # rt trusts its stamp, and makes no program anew that somebody removed
-  [ -e "$built" ] || rm -f "$here/target/stamp/$program"
-  total=$(crates_needed)
+  crates=$(crates_needed)
+  set -- $crates
+  total=$#
   say "the program is $why: up to $total crates to prove, about 4 minutes for all"
-  { (cd "$here" && rt check "$program") </dev/null 2>&1; printf '\nended %s\n' "$?"; } | follow ||
+  # rt also starts what it built, which ends at once where it has nothing to read
+  { (cd "$here/crates/$program" && rt run) </dev/null 2>&1; printf '\nended %s\n' "$?"; } | follow ||
     fail "the program $cause: see $log"
-  # the program is as old as the sources that it was built from
+  # the program is as old as the sources that it was built from, also where rt found it unchanged
   touch -c -r "$began" "$built" 2>/dev/null && rm -f "$began"
   if stale; then fail "the program is still $why after the build: see $log"; fi
 }
