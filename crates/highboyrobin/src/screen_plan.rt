@@ -11,6 +11,8 @@ use super::results::{SHORT_ANSWER, result_of};
 use callers::files::accept_file_for;
 use order::{Acceptance, Caller};
 
+// Not inlined into its export, which would keep numbers below the stack pointer: link/highboyrobin.h says that no call does.
+#[inline(never)]
 pub fn hbr_screen_plan(file: &[u8], bound: i32, rows: &mut [u32], answer: &mut [i32]) -> u32
     ensures value { result ≡ result_of (judge (screened file.now
         (plan_call file.now bound (length rows.old) (length answer.old)))) }
