@@ -89,7 +89,7 @@ build() {
   crates=$(crates_needed)
   set -- $crates
   total=$#
-  say "the program is $why: up to $total crates to prove, about 4 minutes for all"
+  say "the program is $why: up to $total crates to prove"
   # rt also starts what it built, which ends at once where it has nothing to read
   { (cd "$here/crates/$program" && rt run) </dev/null 2>&1; printf '\nended %s\n' "$?"; } | follow ||
     fail "the program $cause: see $log"
