@@ -131,7 +131,8 @@ pub fn tell_answer(rt: &(impl Env + Files), refused: bool) {
 }
 
 // A failure, in one line on standard error: what was tried, and why it failed. Its status is 2.
-pub fn tell_failure(rt: &(impl Eprint + Env + Files), what: &str, error: &io::Error) {
-    let _ = eprintln!(rt; "{what}: {error}");
+pub fn tell_failure(rt: &(impl Eprint + Env + Files), what: &[u8], error: &io::Error) {
+    let tried = what.escape_ascii();
+    let _ = eprintln!(rt; "{tried}: {error}");
     tell(rt, b"2");
 }

@@ -12,7 +12,7 @@ fn answer(rt: &(impl Print + Eprint + Env + Files), file: &[u8]) {
     let length = output.length;
     match write_output(rt, &out[..length]) {
         Ok(()) => tell_answer(rt, output.refused),
-        Err(error) => tell_failure(rt, "plan-order: writing standard output", &error),
+        Err(error) => tell_failure(rt, b"plan-order: writing standard output", &error),
     }
 }
 
@@ -21,6 +21,6 @@ fn main(rt: HostRuntime) {
     let mut file = [0u8; 845];
     match read_input(&rt, &mut file) {
         Input::Bytes(n) => answer(&rt, &file[..n]),
-        Input::Failed(error) => tell_failure(&rt, "plan-order: reading standard input", &error),
+        Input::Failed(error) => tell_failure(&rt, b"plan-order: reading standard input", &error),
     }
 }

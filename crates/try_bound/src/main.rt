@@ -13,7 +13,7 @@ fn answer(rt: &(impl Print + Eprint + Env + Files), given: &[u8]) {
     let length = output.length;
     match write_output(rt, &out[..length]) {
         Ok(()) => tell_answer(rt, output.refused),
-        Err(error) => tell_failure(rt, "try-bound: writing standard output", &error),
+        Err(error) => tell_failure(rt, b"try-bound: writing standard output", &error),
     }
 }
 
@@ -22,6 +22,6 @@ fn main(rt: HostRuntime) {
     let mut given = [0u8; 849];
     match read_input(&rt, &mut given) {
         Input::Bytes(n) => answer(&rt, &given[..n]),
-        Input::Failed(error) => tell_failure(&rt, "try-bound: reading standard input", &error),
+        Input::Failed(error) => tell_failure(&rt, b"try-bound: reading standard input", &error),
     }
 }
