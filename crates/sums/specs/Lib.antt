@@ -12,3 +12,4 @@ pub mod Most
 pub mod Arrays
 pub mod Downwards
 pub mod Same
+pub mod FromFn

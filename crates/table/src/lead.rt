@@ -57,13 +57,7 @@ pub fn less(a: u32, b: u32) -> u32
 pub fn minutes_at(leads: [u32; 48], reach: u32) -> [u32; 48]
     ensures { RowOf (λ (i : ℕ). reach - get_or leads i 0) 48 result }
 {
-    let mut r = [0u32; 48];
-    let mut i: usize = 0;
-    while i < 48 {
-        r[i] = less(reach, leads[i]);
-        i += 1;
-    }
-    r
+    std::array::from_fn(|i| reach.saturating_sub(leads[i]))
 }
 
 // The lead of each job.
