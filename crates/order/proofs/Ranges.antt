@@ -1,32 +1,25 @@
--- What the walks of acceptance find: the job that is counted from 1, and a processor that suffices.
-use Prim.Native.Nat.{ℕ, ◌+◌, ◌≤◌, ◌<◌}
-use mathlib.Core.Path.{◌≡◌, sym}
-use mathlib.Core.Bool.{Bool, true, false}
-use native.Mathlib.Omega.{arith}
-use lib.Dec.{leb}
-use mathlib.Core.List.{List}
-use lib.ListN.{get_or}
+-- What the searches of acceptance find, said of the order: the first job, and a memory that suffices.
+use Rattle.std.specs.Prelude.{ℕ, ◌≡◌, refl, Bool, true, false, List, [], ◌∷◌, leb}
+use Rattle.std.specs.List.{list_any}
 use Rattle.sums.specs.Lists.{tabulate}
 use Rattle.order.specs.Order.{Job}
 use Rattle.order.specs.Refusals.{first, fits_some}
-use Rattle.order.specs.Table.{finding_of, job_at, order_of}
-use Rattle.order.proofs.FindingLaws.{walk-found, walk_none}
-use Rattle.order.proofs.RefusalLaws.{fits_some-tabulate, fits_none-tabulate}
+use Rattle.order.specs.Table.{job_at, order_of}
+use Rattle.order.proofs.FindingLaws.{first-agree}
 use Rattle.order.specs.declared.Order.{Order as OrderTable}
 
--- the first job for which a test holds, found in a walk over a struct's jobs; or none is found
-module _ (test : Job → Bool) (t : OrderTable) (j : ℕ) (before : (e : ℕ) → e < j → test (job_at t e) ≡ false) where
-  pub job-found : j < t.jobs → test (job_at t j) ≡ true → finding_of (j + 1) ≡ first test (order_of t).jobs
-  job-found = walk-found test t.jobs (job_at t) j before
+-- the first place whose job a test finds is that of the first such job
+pub first-job : (test : Job → Bool) (t : OrderTable) →
+    first (λ (j : ℕ). test (job_at t j)) (tabulate t.jobs (λ j. j)) ≡ first test (order_of t).jobs
+first-job test t = first-agree (λ (j : ℕ). test (job_at t j)) test t.jobs (λ j. j) (job_at t) (λ j. refl)
 
-  pub no-job-found : t.jobs ≤ j → finding_of 0 ≡ first test (order_of t).jobs
-  no-job-found = walk_none test t.jobs (job_at t) j before
-
--- some one of the first memories suffices; or none does
-module _ (need processors : ℕ) (memories : List ℕ) (i : ℕ) where
-  pub processor-found : i < processors → need ≤ get_or memories i 0 → true ≡ fits_some need (tabulate processors (λ k. get_or memories k 0))
-  processor-found l h = sym (fits_some-tabulate need processors (λ k. get_or memories k 0) i l h)
-
-  pub no-processor-found : processors ≤ i → ((e : ℕ) → e < i → leb need (get_or memories e 0) ≡ false) →
-      false ≡ fits_some need (tabulate processors (λ k. get_or memories k 0))
-  no-processor-found l before = sym (fits_none-tabulate need processors (λ k. get_or memories k 0) (λ e b. before e (omega arith)))
+-- some memory suffices
+pub fits_some-any : (need : ℕ) (memories : List ℕ) → list_any (λ m. leb need m) memories ≡ fits_some need memories
+unfolding fits_some
+fits_some-any need [] = refl
+fits_some-any need (m ∷ ms) = go (leb need m) refl (fits_some-any need ms)
+  where
+    go : (b : Bool) → leb need m ≡ b → list_any (λ x. leb need x) ms ≡ fits_some need ms →
+        list_any (λ x. leb need x) (m ∷ ms) ≡ fits_some need (m ∷ ms)
+    go true e r = rw e refl
+    go false e r = rw e r

@@ -1,5 +1,5 @@
 -- What the code's values stand for: the order of its struct, the number of each refusal and what it carries.
-use Rattle.std.specs.Prelude.{ℕ, zero, suc, List, pos, get_or}
+use Rattle.std.specs.Prelude.{ℕ, zero, suc, List, pos, get_or, Option, None, Some, Result, Ok, Err}
 use Rattle.sums.specs.Lists.{tabulate}
 use Rattle.order.specs.Order.{Job, Order, no_job, processor_count, job_count}
 use Rattle.order.specs.Refusals.{limits, Finding, clear, holds, Verdict, accepted, refused}
@@ -24,8 +24,6 @@ use Rattle.order.specs.declared.Refusal.TheVariants.{
   BadWindow,
   LowAboveHigh,
 }
-use Rattle.order.specs.declared.Acceptance.{Acceptance}
-use Rattle.order.specs.declared.Acceptance.TheVariants.{Accepted, Refused}
 
 -- job number j + 1 of a struct
 abbrev pub job_at : OrderTable → ℕ → Job
@@ -87,10 +85,18 @@ abbrev pub carried_by : Verdict → ℕ
 carried_by accepted = 0
 carried_by (refused number carried) = carried
 
+-- what a search for a job finds: none, or the first with its number
+abbrev pub finding : Option ℕ → Finding
+finding None = clear
+finding (Some job) = holds job
+
 -- the answer of acceptance
+abbrev pub Acceptance : Type 0
+Acceptance = Result (Unit {0}) Refusal
+
 abbrev pub acceptance_told : Acceptance → Verdict
-acceptance_told Accepted = accepted
-acceptance_told (Refused refusal) = refusal_told refusal
+acceptance_told (Ok tt) = accepted
+acceptance_told (Err refusal) = refusal_told refusal
 
 -- a number that stands for a finding: 0 where there is none, else the job
 abbrev pub finding_of : ℕ → Finding

@@ -56,9 +56,3 @@ pub enum Refusal {
     BadWindow(u32),
     LowAboveHigh(u32),
 }
-
-#[derive(Clone, Copy)]
-pub enum Acceptance {
-    Accepted,
-    Refused(Refusal),
-}

@@ -91,3 +91,9 @@ take-tabulate (x ∷ xs) (suc k) d h = ap (λ (l : List _). x ∷ l) (take-tabul
 pub map-tabulate : {A B : Type 0} (g : A → B) (n : ℕ) (f : ℕ → A) → map g (tabulate n f) ≡ tabulate n (λ i. g (f i))
 map-tabulate g zero f = refl
 map-tabulate g (suc n) f = ap (λ (l : List _). g (f 0) ∷ l) (map-tabulate g n (λ i. f (suc i)))
+
+-- the front of a list by its places
+pub front-tabulate : {A : Type 0} (xs : List A) (n : ℕ) (d : A) → n ≤ length xs → take n xs ≡ tabulate n (λ i. get_or xs i d)
+front-tabulate xs zero d h = refl
+front-tabulate [] (suc n) d h = absurd (omega arith)
+front-tabulate (x ∷ xs) (suc n) d h = ap (λ (l : List _). x ∷ l) (front-tabulate xs n d (le_of_suc-le-suc h))

@@ -1,37 +1,11 @@
-use lib.ListN.{get_or}
-use lib.IntN.{pos}
-use Rattle.order.specs.Machine.{machine-back}
-use borrow.Author.Count.{below_none, below_more}
-use mathlib.Core.Path.{ap, ◌∙◌}
-use Rattle.order.proofs.FindingLaws.{not-of, not_of_false}
-use Rattle.order.proofs.Ranges.{job-found, no-job-found}
+use Rattle.std.proofs.Common.{rules, not, ◌∙◌}
 use Rattle.order.specs.Refusals.{due_in_range}
-use borrow.Author.Rules.{rules}
-use native.Mathlib.Omega.{arith}
+use Rattle.order.specs.Table.{job_at}
+use Rattle.order.proofs.Ranges.{first-job}
 use Rattle.order.proofs.accept.first_bad_due.Goals as goal
-
-pub loop-j-init : goal.loop-j-init
-loop-j-init c = (search rules, below_none _)
-
-pub returns-then-not-good : goal.returns-then-not-good
-returns-then-not-good c =
-    let l = c.loop-j in
-    let o = c.args.order in
-    job-found _ o l.j l.invariant.1 (omega arith)
-    (not_of_false _ _ (c.due_in_range-good.ensures ∙ ap due_in_range
-    (machine-back (get_or o.dues l.j (pos 0)) c.due_in_range-arg-1.given)) c.if-not-good.true-raw)
-
-pub loop-j-preserved : goal.loop-j-preserved
-loop-j-preserved c =
-    let l = c.loop-j in
-    let o = c.args.order in (
-      search rules,
-      below_more _ _ l.invariant.1
-          (not-of _ _ (c.due_in_range-good.ensures ∙ ap due_in_range
-          (machine-back (get_or o.dues l.j (pos 0)) c.due_in_range-arg-1.given)) c.if-not-good.false-raw),
-    )
 
 pub returns : goal.returns
 returns c =
-    let l = c.loop-j in
-    no-job-found _ c.args.order l.j l.invariant.1 (omega arith)
+    let o = c.args.order in
+    c.first_number.ensures (λ j. not (due_in_range (job_at o j).due)) (λ j b l p. search rules)
+    ∙ first-job (λ job. not (due_in_range job.due)) o

@@ -1,25 +1,16 @@
-use borrow.Author.Count.{below_none, below_more}
-use Rattle.order.proofs.FindingLaws.{not-of, not_of_false}
-use Rattle.order.proofs.Ranges.{job-found, no-job-found}
-use borrow.Author.Rules.{rules}
-use native.Mathlib.Omega.{arith}
+use Rattle.std.proofs.Common.{rules, ◌≡◌, not, leb, take, ap, arith, ◌∙◌}
+use Rattle.std.specs.List.{list_any}
+use Rattle.sums.specs.Places.{front-tabulate}
+use Rattle.order.specs.Refusals.{fits_some}
+use Rattle.order.specs.Table.{job_at, order_of}
+use Rattle.order.proofs.Ranges.{first-job, fits_some-any}
 use Rattle.order.proofs.accept.first_unfit.Goals as goal
-
-pub loop-j-init : goal.loop-j-init
-loop-j-init c = (search rules, below_none _)
-
-pub returns-then-not-fits : goal.returns-then-not-fits
-returns-then-not-fits c =
-    let l = c.loop-j in
-    let o = c.args.order in
-    job-found _ o l.j l.invariant.1 (omega arith) (not_of_false _ _ c.fits_some-fits.ensures c.if-not-fits.true-raw)
-
-pub loop-j-preserved : goal.loop-j-preserved
-loop-j-preserved c =
-    let l = c.loop-j in
-    (search rules, below_more _ _ l.invariant.1 (not-of _ _ c.fits_some-fits.ensures c.if-not-fits.false-raw))
 
 pub returns : goal.returns
 returns c =
-    let l = c.loop-j in
-    no-job-found _ c.args.order l.j l.invariant.1 (omega arith)
+    let o = c.args.order in
+    let memories : take o.processors o.memories ≡ (order_of o).memories = front-tabulate o.memories o.processors 0 (omega arith) in
+    c.first_number.ensures (λ j. not (fits_some (job_at o j).need (order_of o).memories))
+    (λ j b l p. let k : b ≡ not (list_any (λ m. leb (job_at o j).need m) (take o.processors o.memories)) = search rules in
+    k ∙ ap not (fits_some-any (job_at o j).need (take o.processors o.memories) ∙ ap (fits_some (job_at o j).need) memories))
+    ∙ first-job (λ job. not (fits_some job.need (order_of o).memories)) o
