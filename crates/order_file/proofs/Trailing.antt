@@ -13,7 +13,7 @@ use Rattle.order_file.specs.File.{processor_place, job_place, processors_of, job
 use Rattle.order_file.proofs.RoundTrip.{Agrees, lists_agree-iff, good_file-iff}
 use Rattle.order_file.specs.Inside.{trailer_of, trailer_by, Placed}
 use Rattle.order_file.specs.declared.Lists.{Lists}
-use Rattle.order_file.specs.declared.Trailer.TheVariants.{Good, Bad}
+use Rattle.std.specs.Prelude.{Option, Some, None}
 
 -- the first placement fails by the one place or by the other
 module _ (p pa ja : ℕ) where
@@ -42,24 +42,24 @@ module _ (f : List ℕ) where
   abbrev lists : Lists
   lists = record { processors_at = processor_place f; jobs_at = job_place f; processors = processors_of f; jobs = jobs_of f }
 
-  pub bad : (Agrees f → ⊥) → Bad ≡ trailer_of f
+  pub bad : (Agrees f → ⊥) → None ≡ trailer_of f
   unfolding trailer_of
   bad h = go (good_file f) refl
     where
-      go : (t : Bool) → good_file f ≡ t → Bad ≡ trailer_by t lists
+      go : (t : Bool) → good_file f ≡ t → None ≡ trailer_by t lists
       go true e = absurd (h ((good_file-iff f).0 e))
       go false e = refl
 
   -- the numbers that were read are those of the trailer
   module _ (pa ja p j : ℕ)
       (epa : pa ≡ processor_place f) (eja : ja ≡ job_place f) (ep : p ≡ processors_of f) (ej : j ≡ jobs_of f) where
-    pub other_length : (4 * p + job_width * j + trailer_width ≡ length f → ⊥) → Bad ≡ trailer_of f
+    pub other_length : (4 * p + job_width * j + trailer_width ≡ length f → ⊥) → None ≡ trailer_of f
     other_length h = bad (λ a. h (omega (arith, a.exact-length)))
 
     agree-read : lists_agree p j pa ja ≡ lists_agree (processors_of f) (jobs_of f) (processor_place f) (job_place f)
     agree-read = rw (epa, eja, ep, ej)
 
-    pub other-places : lists_agree p j pa ja ≡ false → Bad ≡ trailer_of f
+    pub other-places : lists_agree p j pa ja ≡ false → None ≡ trailer_of f
     other-places h =
         bad (λ a.
         let e = (lists_agree-iff (processors_of f) (jobs_of f) (processor_place f) (job_place f)).1 a.placed in
@@ -91,6 +91,6 @@ module _ (f : List ℕ) where
           }
 
       pub good :
-          (Good (record { processors_at = pa; jobs_at = ja; processors = p; jobs = j }) ≡ trailer_of f) × Placed f pa ja p j
+          (Some (record { processors_at = pa; jobs_at = ja; processors = p; jobs = j }) ≡ trailer_of f) × Placed f pa ja p j
       unfolding trailer_of
       good = (rw ((good_file-iff f).1 agrees) (rw (epa, eja, ep, ej)), placed)

@@ -27,12 +27,11 @@ use Rattle.order.specs.Refusals.{
 }
 use Rattle.order.proofs.RefusalLaws.{judge-refused-append, judge-accepted-append}
 use Rattle.order.proofs.StructLaws.{job-count, processor-count, few-jobs, few-processors}
-use Rattle.order.specs.Table.{order_of, refusal_told, acceptance_told}
+use Rattle.order.specs.Table.{Acceptance, order_of, refusal_told, acceptance_told}
 use Rattle.order.proofs.TableLaws.{refused-told}
 use Rattle.order.specs.declared.Order.{Order as OrderTable}
 use Rattle.order.specs.declared.Refusal.{Refusal}
-use Rattle.order.specs.declared.Acceptance.{Acceptance}
-use Rattle.order.specs.declared.Acceptance.TheVariants.{Accepted, Refused}
+use Rattle.std.specs.Prelude.{Ok, Err}
 use Rattle.order_file.specs.File.{
   processor_bytes,
   job_bytes,
@@ -60,10 +59,10 @@ array-small [] h = tt
 array-small (x ∷ xs) h = (h.0.fits, array-small xs h.1)
 
 module _ (t : OrderTable) (a : Acceptance) (e : acceptance_told a ≡ judge (order_rows limits (order_of t))) where
-  good : a ≡ Accepted → judge (order_rows limits (order_of t)) ≡ accepted
+  good : a ≡ Ok tt → judge (order_rows limits (order_of t)) ≡ accepted
   good is = sym e ∙ ap acceptance_told is
 
-  pub counts-few : a ≡ Accepted → (t.processors ≤ 16) × (t.jobs ≤ 48)
+  pub counts-few : a ≡ Ok tt → (t.processors ≤ 16) × (t.jobs ≤ 48)
   counts-few is = (few-processors t (good is), few-jobs t (good is))
 
   module _ (buffer : List ℕ) where
@@ -73,7 +72,7 @@ module _ (t : OrderTable) (a : Acceptance) (e : acceptance_told a ≡ judge (ord
     abbrev verdict : Verdict
     verdict = judge (write_rows (order_of t) (length buffer))
 
-    pub refused-written : (r : Refusal) → a ≡ Refused r →
+    pub refused-written : (r : Refusal) → a ≡ Err r →
         WrittenBy verdict (order_of t) buffer (answer_by (refusal_told r) 0) buffer
     unfolding write_rows
     refused-written r is =
@@ -82,7 +81,7 @@ module _ (t : OrderTable) (a : Acceptance) (e : acceptance_told a ≡ judge (ord
         let w = judge-refused-append (order_rows limits (order_of t)) room told.0 told.1 v in
         rw (told.2, w) (refl, (refl, tt))
 
-    module _ (is : a ≡ Accepted) where
+    module _ (is : a ≡ Ok tt) where
       room-decides : judge (write_rows (order_of t) (length buffer)) ≡ judge room
       unfolding write_rows
       room-decides = judge-accepted-append (order_rows limits (order_of t)) room (good is)

@@ -1,17 +1,15 @@
 -- What the reader's inner functions answer: the trailer, where the lists lie, a column of an array.
-use Rattle.std.specs.Prelude.{ℕ, ◌+◌, ◌*◌, ◌≤◌, ◌≡◌, Bool, true, false, List, length, get_or}
+use Rattle.std.specs.Prelude.{ℕ, ◌+◌, ◌*◌, ◌≤◌, ◌≡◌, Bool, true, false, List, length, get_or, Option, Some, None}
 use Rattle.order.specs.Refusals.{longest_file}
 use Rattle.sums.specs.Lists.{tabulate}
 use Rattle.order_file.specs.File.{processor_place, job_place, processors_of, jobs_of, good_file, job_width}
 use Rattle.order_file.specs.declared.Lists.{Lists}
-use Rattle.order_file.specs.declared.Trailer.{Trailer}
-use Rattle.order_file.specs.declared.Trailer.TheVariants.{Good, Bad}
 
-abbrev pub trailer_by : Bool → Lists → Trailer
-trailer_by true lists = Good lists
-trailer_by false lists = Bad
+abbrev pub trailer_by : Bool → Lists → Option Lists
+trailer_by true lists = Some lists
+trailer_by false lists = None
 
-unfoldable pub trailer_of : List ℕ → Trailer
+unfoldable pub trailer_of : List ℕ → Option Lists
 trailer_of f =
     trailer_by (good_file f)
     (record {
@@ -31,9 +29,9 @@ pub record Placed (f : List ℕ) (processors_at jobs_at processors jobs : ℕ) :
   pub processors-are : processors ≡ processors_of f
   pub jobs-are : jobs ≡ jobs_of f
 
-abbrev pub Within : List ℕ → Trailer → Type 0
-Within f Bad = Unit {0}
-Within f (Good l) = Placed f l.processors_at l.jobs_at l.processors l.jobs
+abbrev pub Within : List ℕ → Option Lists → Type 0
+Within f None = Unit {0}
+Within f (Some l) = Placed f l.processors_at l.jobs_at l.processors l.jobs
 
 -- k places: f i at the first n, d at the others
 unfoldable pub padded_to {ℓ} : {A : Type ℓ} → ℕ → ℕ → A → (ℕ → A) → List A

@@ -7,28 +7,27 @@ use Rattle.order.specs.Order.{processor_count, job_count}
 use Rattle.order_file.specs.File.{processors_of, jobs_of, good_file, order_in}
 use Rattle.order_file.specs.Inside.{trailer_of, trailer_by, Within, Placed}
 use Rattle.order_file.specs.declared.Lists.{Lists}
-use Rattle.order_file.specs.declared.Trailer.{Trailer}
-use Rattle.order_file.specs.declared.Trailer.TheVariants.{Good, Bad}
+use Rattle.std.specs.Prelude.{Option, Some, None}
 
-good_of : (t : Bool) (l m : Lists) → trailer_by t l ≡ Good m → t ≡ true
+good_of : (t : Bool) (l m : Lists) → trailer_by t l ≡ Some m → t ≡ true
 good_of true l m e = refl
 good_of false l m e = cc
 
-bad-of : (t : Bool) (l : Lists) → trailer_by t l ≡ Bad → t ≡ false
+bad-of : (t : Bool) (l : Lists) → trailer_by t l ≡ None → t ≡ false
 bad-of true l e = cc
 bad-of false l e = refl
 
-module _ (f : List ℕ) (t : Trailer) (is : t ≡ trailer_of f) where
-  pub trailer-bad : t ≡ Bad → good_file f ≡ false
+module _ (f : List ℕ) (t : Option Lists) (is : t ≡ trailer_of f) where
+  pub trailer-bad : t ≡ None → good_file f ≡ false
   unfolding trailer_of
   trailer-bad bad = bad-of (good_file f) _ (sym is ∙ bad)
 
-  pub trailer-good : (l : Lists) → t ≡ Good l → good_file f ≡ true
+  pub trailer-good : (l : Lists) → t ≡ Some l → good_file f ≡ true
   unfolding trailer_of
   trailer-good l good = good_of (good_file f) _ l (sym is ∙ good)
 
 -- the lists that a trailer gives are the file's
-pub lists-placed : (f : List ℕ) (t : Trailer) (l : Lists) → Within f t → t ≡ Good l →
+pub lists-placed : (f : List ℕ) (t : Option Lists) (l : Lists) → Within f t → t ≡ Some l →
     Placed f l.processors_at l.jobs_at l.processors l.jobs
 lists-placed f t l w good = rw good at w
 

@@ -1,8 +1,6 @@
 // The order file (document 01, "Order and file"; the maker in it: document 02, §4): reader and writer.
 #![tactic(auto)]
 
-use order::{Acceptance, Order, Refusal};
-
 pub mod bytes; // numbers as bytes
 pub mod read; // read_order
 pub mod write; // write_order
@@ -21,24 +19,4 @@ pub struct Lists {
     pub jobs_at: usize,
     pub processors: usize,
     pub jobs: usize,
-}
-
-#[derive(Clone, Copy)]
-pub enum Trailer {
-    Good(Lists),
-    Bad,
-}
-
-// The order, and whether it is accepted; where it is refused, the order is empty.
-#[derive(Clone, Copy)]
-pub struct OrderRead {
-    pub status: Acceptance,
-    pub order: Order,
-}
-
-// The length of the file that was written, or why none was.
-#[derive(Clone, Copy)]
-pub enum OrderWritten {
-    Bytes(usize),
-    Refused(Refusal),
 }

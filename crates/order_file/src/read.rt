@@ -1,18 +1,17 @@
 // The reader: refusal 12, then 1 to 7 with 13 after 6. Only `read_order` is a public entry point; the others serve it, `read_trailer` and
 // `read_counted`, which has a `requires`, the crates above too.
-ghost use Rattle.std.specs.Prelude.{◌≡◌, ℕ, ◌+◌, ◌*◌, ◌<◌, ◌≤◌, length, pos};
-ghost use Rattle.order.specs.Order.{no_order};
+ghost use Rattle.std.specs.Prelude.{◌≡◌, ℕ, ◌+◌, ◌*◌, ◌<◌, ◌≤◌, length, pos, IfOk};
 ghost use Rattle.order.specs.Refusals.{limits, judge, answer_by, count_rows};
 ghost use Rattle.order.specs.Table.{table_of};
 ghost use Rattle.order_file.specs.Bytes.{number4, signed};
-ghost use Rattle.order_file.specs.File.{job_width, lists_agree, order_in, read_rows, order_by};
+ghost use Rattle.order_file.specs.File.{job_width, lists_agree, order_in, read_rows};
 ghost use Rattle.order_file.specs.Told.{read_told, ReadBy};
 ghost use Rattle.order_file.specs.Inside.{trailer_of, Within, padded_to, Placed};
 
 use super::bytes::{read2, read4, to_signed};
-use super::{JOB_WIDTH, LONGEST_FILE, Lists, OrderRead, TRAILER_WIDTH, Trailer};
-use order::none::no_order;
-use order::{Acceptance, Order, Refusal};
+use super::{JOB_WIDTH, LONGEST_FILE, Lists, TRAILER_WIDTH};
+use order::accept::{accept, accept_counts};
+use order::{Order, Refusal};
 
 // Whether the lists lie one after the other from byte 0.
 fn lists_agree(processors: usize, jobs: usize, processors_at: usize, jobs_at: usize) -> bool
@@ -31,16 +30,16 @@ fn lists_agree(processors: usize, jobs: usize, processors_at: usize, jobs_at: us
 }
 
 // The trailer of a file, where the lists and it agree.
-pub fn read_trailer(file: &[u8]) -> Trailer
+pub fn read_trailer(file: &[u8]) -> Option<Lists>
     ensures value { result ≡ trailer_of file.now }
     ensures within { Within file.now result }
 {
     let len = file.len();
     if len < TRAILER_WIDTH {
-        return Trailer::Bad;
+        return None;
     }
     if LONGEST_FILE < len {
-        return Trailer::Bad;
+        return None;
     }
     let at = len - TRAILER_WIDTH;
     let processors_at = read4(file, at) as usize;
@@ -48,12 +47,12 @@ pub fn read_trailer(file: &[u8]) -> Trailer
     let processors = read2(file, at + 8) as usize;
     let jobs = read2(file, at + 10) as usize;
     if 4 * processors + JOB_WIDTH * jobs + TRAILER_WIDTH != len {
-        return Trailer::Bad;
+        return None;
     }
     if !lists_agree(processors, jobs, processors_at, jobs_at) {
-        return Trailer::Bad;
+        return None;
     }
-    Trailer::Good(Lists {
+    Some(Lists {
         processors_at,
         jobs_at,
         processors,
@@ -104,76 +103,42 @@ fn dues(list: &[u8], n: usize) -> [i32; 48]
 }
 
 // The order of two lists, each a part of the file that begins where the trailer points.
-fn read_lists(
-    file: &[u8],
-    processors_at: usize,
-    jobs_at: usize,
-    processors: usize,
-    jobs: usize,
-) -> Order
-    requires processors_bound { (processors ≤ 16) × (jobs ≤ 48) }
-    requires placed { Placed file.now processors_at jobs_at processors jobs }
+fn read_lists(file: &[u8], lists: Lists) -> Order
+    requires processors_bound { (lists.processors ≤ 16) × (lists.jobs ≤ 48) }
+    requires placed { Placed file.now lists.processors_at lists.jobs_at lists.processors lists.jobs }
     ensures { result ≡ table_of (order_in file.now) }
 {
-    let processors_end = processors_at + 4 * processors;
-    let jobs_end = jobs_at + JOB_WIDTH * jobs;
-    let processor_list = &file[processors_at..processors_end];
-    let job_list = &file[jobs_at..jobs_end];
+    let processors_end = lists.processors_at + 4 * lists.processors;
+    let jobs_end = lists.jobs_at + JOB_WIDTH * lists.jobs;
+    let processor_list = &file[lists.processors_at..processors_end];
+    let job_list = &file[lists.jobs_at..jobs_end];
     Order {
-        processors: processors as u32,
-        memories: memories(processor_list, processors),
-        jobs: jobs as u32,
-        times: column(job_list, jobs, 0),
-        dues: dues(job_list, jobs),
-        needs: column(job_list, jobs, 8),
-        makers: column(job_list, jobs, 12),
+        processors: lists.processors as u32,
+        memories: memories(processor_list, lists.processors),
+        jobs: lists.jobs as u32,
+        times: column(job_list, lists.jobs, 0),
+        dues: dues(job_list, lists.jobs),
+        needs: column(job_list, lists.jobs, 8),
+        makers: column(job_list, lists.jobs, 12),
     }
 }
 
-// A refusal, with the empty order.
-fn refuse(status: Acceptance) -> OrderRead
-    ensures { (result.status ≡ status) × (result.order ≡ table_of no_order) }
-{
-    let order = no_order();
-    OrderRead { status, order }
-}
-
 // The order of a file's lists as it stands: of its table the rows of the counts alone are judged.
-pub fn read_counted(file: &[u8], lists: Lists) -> OrderRead
+pub fn read_counted(file: &[u8], lists: Lists) -> Result<Order, Refusal>
     requires { Placed file.now lists.processors_at lists.jobs_at lists.processors lists.jobs }
     ensures { ReadBy (judge (count_rows limits lists.processors lists.jobs)) (order_in file.now) result }
 {
-    let status = order::accept::accept_counts(lists.processors as u32, lists.jobs as u32);
-    let Acceptance::Accepted = status else {
-        return refuse(status);
-    };
-    let order = read_lists(
-        file,
-        lists.processors_at,
-        lists.jobs_at,
-        lists.processors,
-        lists.jobs,
-    );
-    OrderRead { status, order }
+    accept_counts(lists.processors as u32, lists.jobs as u32)?;
+    Ok(read_lists(file, lists))
 }
 
 // The order of a file: 12, then the rows of acceptance.
-pub fn read_order(file: &[u8]) -> OrderRead
+pub fn read_order(file: &[u8]) -> Result<Order, Refusal>
     ensures result_value { read_told result ≡ answer_by (judge (read_rows file.now)) (order_in file.now) }
-    ensures order_value { result.order ≡ table_of (order_by (judge (read_rows file.now)) (order_in file.now)) }
+    ensures order_value { IfOk result (λ t. t ≡ table_of (order_in file.now)) }
 {
-    let Trailer::Good(lists) = read_trailer(file) else {
-        return refuse(Acceptance::Refused(Refusal::BadFile));
-    };
-    let counted = read_counted(file, lists);
-    let counts = counted.status;
-    let Acceptance::Accepted = counts else {
-        return counted;
-    };
-    let order = counted.order;
-    let status = order::accept::accept(order);
-    let Acceptance::Accepted = status else {
-        return refuse(status);
-    };
-    OrderRead { status, order }
+    let lists = read_trailer(file).ok_or(Refusal::BadFile)?;
+    let order = read_counted(file, lists)?;
+    accept(order)?;
+    Ok(order)
 }

@@ -7,8 +7,9 @@ ghost use Rattle.order_file.specs.File.{file_length, write_rows, written_by, Rea
 ghost use Rattle.order_file.specs.Told.{written_told};
 
 use super::bytes::{put2, put4, to_pattern};
-use super::{JOB_WIDTH, OrderWritten, TRAILER_WIDTH};
-use order::{Acceptance, Order, Refusal};
+use super::{JOB_WIDTH, TRAILER_WIDTH};
+use order::accept::accept;
+use order::{Order, Refusal};
 
 // The processor list is stored from byte 0 on.
 fn put_processors(order: Order, out: &mut [u8])
@@ -70,24 +71,22 @@ fn put_trailer(out: &mut [u8], at: usize, processors: u32, jobs: u32)
 }
 
 // The file of an order, processors first, in a lent buffer: the rows of acceptance, then 9.
-pub fn write_order(order: Order, out: &mut [u8]) -> OrderWritten
+pub fn write_order(order: Order, out: &mut [u8]) -> Result<usize, Refusal>
     ensures result_value { written_told result
         ≡ answer_by (judge (write_rows (order_of order) (length out.old))) (file_length (order_of order)) }
     ensures out_after { out.new
         ≡ written_by (judge (write_rows (order_of order) (length out.old))) (order_of order) out.old }
     ensures read_back_by { ReadBackBy (judge (write_rows (order_of order) (length out.old))) (order_of order) out.new }
 {
-    if let Acceptance::Refused(refusal) = order::accept::accept(order) {
-        return OrderWritten::Refused(refusal);
-    }
+    accept(order)?;
     let jobs_at = 4 * order.processors as usize;
     let trailer_at = jobs_at + JOB_WIDTH * order.jobs as usize;
     let len = trailer_at + TRAILER_WIDTH;
     if out.len() < len {
-        return OrderWritten::Refused(Refusal::BufferTooShort);
+        return Err(Refusal::BufferTooShort);
     }
     put_processors(order, out);
     put_jobs(order, out, jobs_at);
     put_trailer(out, trailer_at, order.processors, order.jobs);
-    OrderWritten::Bytes(len)
+    Ok(len)
 }

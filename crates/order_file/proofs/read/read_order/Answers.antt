@@ -1,40 +1,46 @@
 -- `read_order`: the file, the counts and the whole order are judged one after the other, as the refusal table has them.
-use Rattle.order_file.specs.TrailerLaws.{lists-placed}
-use Rattle.order_file.proofs.Reading.{bad-file, counts-refused, order-refused, order-accepted}
+use Rattle.std.proofs.Common.{rules, ◌≡◌, None, Some, Ok, Err, refl, sym, ap, ◌∙◌}
+use Rattle.order.specs.Refusals.{judge}
+use Rattle.order.specs.Table.{acceptance_told}
+use Rattle.order.specs.declared.Refusal.TheVariants.{BadFile}
+use Rattle.order_file.specs.File.{order_in, read_rows}
+use Rattle.order_file.proofs.Reading.{refused-read, accepted-read, bad-file, counts-refused, stands-for, stands, verdict}
 use Rattle.order_file.proofs.read.read_order.Goals as goal
 
-pub returns-in_default : goal.returns-in_default
-returns-in_default c =
+pub returns-in_err-lists-clause-result_value : goal.returns-in_err-lists-clause-result_value
+returns-in_err-lists-clause-result_value c =
     let f = c.args.file.now in
-    let t = bad-file f _ _ c.read_trailer.ensures.value c.in_default.is
-    c.refuse.ensures.0 c.refuse.ensures.1 in
-    record { result_value = t.0; order_value = t.1 }
+    let none : c.read_trailer.result ≡ None = c.in_err-lists.ensures.ok_part in
+    let is : c.from_residual.result ≡ Err BadFile = search rules in
+    (refused-read _ (order_in f) _ BadFile is (bad-file f _ c.read_trailer.ensures.value none)).0
 
-pub read_counted-counted-requires : goal.read_counted-counted-requires
-read_counted-counted-requires c =
+pub returns-in_err-order-clause-result_value : goal.returns-in_err-order-clause-result_value
+returns-in_err-order-clause-result_value c =
     let f = c.args.file.now in
-    lists-placed f _ _ c.read_trailer.ensures.within c.in-Good.is
+    let why = c.in_err-order.field-0.0 in
+    let some : c.read_trailer.result ≡ Some c.in_ok-lists.lists = c.in_ok-lists.ensures.ok_part in
+    let is : c.from_residual-in_err-order.result ≡ Err why = search rules in
+    (refused-read _ (order_in f) _ why is (counts-refused f _ c.read_trailer.ensures.value c.in_ok-lists.lists
+    c.read_trailer.ensures.within some _ c.read_counted.ensures why c.in_err-order.was)).0
 
-pub returns-in_default-counts : goal.returns-in_default-counts
-returns-in_default-counts c =
+pub returns-in_err-accept-clause-result_value : goal.returns-in_err-accept-clause-result_value
+returns-in_err-accept-clause-result_value c =
     let f = c.args.file.now in
-    let t = counts-refused f _ _ c.read_trailer.ensures.value c.read_trailer.ensures.within c.in-Good.is
-    _ c.read_counted-counted.ensures _ c.in_default-counts.is in
-    record { result_value = t.0; order_value = t.1 }
+    let why = c.in_err-accept.field-0.0 in
+    let some : c.read_trailer.result ≡ Some c.in_ok-lists.lists = c.in_ok-lists.ensures.ok_part in
+    let is : c.from_residual-in_err-accept.result ≡ Err why = search rules in
+    let told = verdict f _ c.read_trailer.ensures.value c.in_ok-lists.lists c.read_trailer.ensures.within some _
+    c.read_counted.ensures c.in_ok-order.order c.in_ok-order.was _ c.accept.ensures in
+    (refused-read _ (order_in f) _ why is (told ∙ ap acceptance_told c.in_err-accept.was)).0
 
-pub returns-in_default-status : goal.returns-in_default-status
-returns-in_default-status c =
+pub returns-clause-result_value : goal.returns-clause-result_value
+returns-clause-result_value c =
     let f = c.args.file.now in
-    let t = order-refused f _ _ c.read_trailer.ensures.value c.read_trailer.ensures.within c.in-Good.is
-    _ c.read_counted-counted.ensures c.in-Accepted.is
-    _ c.accept-status.ensures
-    _ _ c.in_default-status.is c.refuse-in_default-status.ensures.0 c.refuse-in_default-status.ensures.1 in
-    record { result_value = t.0; order_value = t.1 }
-
-pub returns : goal.returns
-returns c =
-    let f = c.args.file.now in
-    let t = order-accepted f _ _ c.read_trailer.ensures.value c.read_trailer.ensures.within c.in-Good.is
-    _ c.read_counted-counted.ensures c.in-Accepted.is
-    _ c.accept-status.ensures c.in-Accepted-status.is in
-    record { result_value = t.0; order_value = t.1 }
+    let l = c.in_ok-lists.lists in
+    let o = c.in_ok-order.order in
+    let given = c.read_trailer.ensures in
+    let some : c.read_trailer.result ≡ Some l = c.in_ok-lists.ensures.ok_part in
+    let told = verdict f _ given.value l given.within some _ c.read_counted.ensures o c.in_ok-order.was _ c.accept.ensures in
+    (accepted-read _ (order_in f) (Ok o) o refl (told ∙ ap acceptance_told c.in_ok-accept.was)
+    (stands-for f _ given.value l given.within some _ c.read_counted.ensures o c.in_ok-order.was)
+    (stands f _ given.value l given.within some _ c.read_counted.ensures o c.in_ok-order.was)).0
