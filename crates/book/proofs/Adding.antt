@@ -1,7 +1,6 @@
--- Sixteen counts with their minutes, and what booking answers.
+-- Sixteen counts with their minutes.
 use Prim.Native.Nat.{ℕ, zero, suc, ◌+◌, ◌≤◌, ◌<◌}
-use mathlib.Core.Path.{◌≡◌, sym, ap, ◌∙◌}
-use mathlib.Core.Bool.{Bool, true, false}
+use mathlib.Core.Path.{◌≡◌, sym, ◌∙◌}
 use mathlib.Core.List.{List, [], ◌∷◌}
 use mathlib.Core.Logic.{◌≢◌}
 use native.Mathlib.Decide.{dec_lt}
@@ -10,12 +9,8 @@ use lib.ListN.{get_or, set}
 use Rattle.sums.specs.Gate.{gate, gate-in, gate-out}
 use Rattle.sums.specs.Lists.{All, tabulate}
 use Rattle.sums.specs.Places.{tabulate-cong, set-tabulate}
-use Rattle.order.specs.Order.{Order}
 use Rattle.order.specs.Refusals.{most_makers}
-use Rattle.book.specs.Book.{minutes_by, added, some_over, over_booked}
-use Rattle.book.specs.Told.{booking_of}
-use Rattle.book.specs.declared.Book.{Book}
-use Rattle.book.specs.declared.Booking.{Booking}
+use Rattle.book.specs.Book.{added}
 
 -- each of a list, and the 0 behind its end
 pub at-most-each : (xs : List ℕ) (most : ℕ) → All (λ n. n ≤ most) xs → (i : ℕ) → get_or xs i 0 ≤ most
@@ -54,20 +49,3 @@ module _ (counts minutes : List ℕ) where
   pub all-sums : (i : ℕ) (r : List ℕ) → Summed counts minutes i r → most_makers ≤ i → r ≡ added counts minutes
   unfolding added
   all-sums i r e l = e ∙ tabulate-cong most_makers _ (sum_at counts minutes) (λ k b. gate-in k i (sum_at counts minutes k) (omega arith))
-
--- what booking answers, from the minutes and the test
-module _ (o : Order) (book : Book) (minutes : List ℕ) (full : Bool) (e : minutes ≡ minutes_by o)
-    (is : full ≡ some_over (added book.counts minutes)) where
-  over : over_booked o book.counts ≡ full
-  over = sym (is ∙ ap (λ (ms : List ℕ). some_over (added book.counts ms)) e)
-
-  pub full-booking : full ≡ true → ◌≡◌ {A = Booking} (record { full = true; book = book }) (booking_of o book)
-  unfolding booking_of
-  full-booking h = rw (over ∙ h)
-
-  pub good-booking : full ≡ false → (counts : List ℕ) → counts ≡ added book.counts minutes →
-      ◌≡◌ {A = Booking} (record { full = false; book = record { counts = counts } }) (booking_of o book)
-  unfolding booking_of
-  good-booking h counts sums =
-      rw (over ∙ h)
-      (ap (λ (cs : List ℕ). record { full = false; book = record { counts = cs } }) (sums ∙ ap (added book.counts) e))

@@ -12,10 +12,3 @@ pub const MOST_BOOKED: u32 = 4000000000;
 pub struct Book {
     pub counts: [u32; 16],
 }
-
-// Whether some count, with an order's minutes, would be over the limit; and the book with these minutes, as it was where it is full.
-#[derive(Clone, Copy)]
-pub struct Booking {
-    pub full: bool,
-    pub book: Book,
-}

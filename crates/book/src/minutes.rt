@@ -6,8 +6,8 @@ ghost use Rattle.order.specs.Table.{order_of};
 ghost use Rattle.book.specs.Book.{minutes_by, added, some_over};
 ghost use Rattle.book.specs.Told.{booking_of};
 
-use super::{Book, Booking, MOST_BOOKED};
-use order::Order;
+use super::{Book, MOST_BOOKED};
+use order::{Order, Refusal};
 
 // Where a maker's count stands.
 fn place_of(maker: u32) -> usize
@@ -71,17 +71,16 @@ fn add(counts: [u32; 16], minutes: [u32; 16]) -> [u32; 16]
 }
 
 // An order's minutes are put into a book that has room for them.
-pub fn book_order(order: Order, book: Book) -> Booking
+#[tactic(auto, unfolding(crate::specs::Told::booking_of))]
+pub fn book_order(order: Order, book: Book) -> Result<Book, Refusal>
     requires { Accepted (order_of order) }
     ensures { result ≡ booking_of (order_of order) book }
 {
-    let counts = book.counts;
     let minutes = minutes_by(order);
-    if is_full(counts, minutes) {
-        return Booking { full: true, book };
+    if is_full(book.counts, minutes) {
+        return Err(Refusal::BookFull);
     }
-    let book = Book {
-        counts: add(counts, minutes),
-    };
-    Booking { full: false, book }
+    Ok(Book {
+        counts: add(book.counts, minutes),
+    })
 }

@@ -37,7 +37,7 @@ pub fn read_back_for(caller: Caller, order: Order, bound: i32, line: &[u8]) -> R
     let status = accept_counts_for(caller, order.processors, order.jobs);
     let Acceptance::Accepted = status else {
         let why = Why {
-            tightness: Tightness::Met,
+            reason: None,
             dues: [0i32; 16],
         };
         return Recovered { status, why };

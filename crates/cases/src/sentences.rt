@@ -54,11 +54,11 @@ pub fn parse_case(caller: Caller) {
 }
 
 fn print_why(why: Why) {
-    let tightness = why.tightness;
+    let reason = why.reason;
     let dues = why.dues;
     match tightness {
-        Tightness::Tight(reason) => print_reason(reason, dues),
-        Tightness::Met => print::text(b"none\n"),
+        Some(reason) => print_reason(reason, dues),
+        None => print::text(b"none\n"),
     }
 }
 

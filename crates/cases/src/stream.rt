@@ -129,11 +129,11 @@ fn due_times() -> [i32; 16] {
 }
 
 // A job or a staircase; none at any other kind.
-fn tightness(kind: u32, which: u32, time: u32) -> Tightness {
+fn tightness(kind: u32, which: u32, time: u32) -> Option<Reason> {
     match kind {
-        1 => Tightness::Tight(Reason::Job(which, time)),
-        2 => Tightness::Tight(Reason::Stairs(which)),
-        _ => Tightness::Met,
+        1 => Some(Reason::Job(which, time)),
+        2 => Some(Reason::Stairs(which)),
+        _ => None,
     }
 }
 
@@ -144,7 +144,7 @@ pub fn why() -> Why {
     let time = number();
     let dues = due_times();
     Why {
-        tightness: tightness(kind, which, time),
+        reason: tightness(kind, which, time),
         dues,
     }
 }

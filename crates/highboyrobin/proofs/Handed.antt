@@ -1,4 +1,5 @@
 -- A reason from numbers: what the tests of the code say of its kind.
+use Rattle.std.specs.Prelude.{Option, None, Some}
 use Prim.Native.Nat.{ℕ, ◌+◌, ◌<◌}
 use mathlib.Core.Path.{◌≡◌, refl, sym, ap, ◌∙◌}
 use mathlib.Core.Bool.{true, false}
@@ -15,8 +16,6 @@ use mir.ValLaws.{to_z-of_z}
 use Rattle.sums.specs.Lists.{tabulate}
 use Rattle.profile.specs.Standing.{same_z}
 use Rattle.reason.specs.declared.Reason.TheVariants.{Job, Stairs}
-use Rattle.reason.specs.declared.Tightness.{Tightness}
-use Rattle.reason.specs.declared.Tightness.TheVariants.{Tight, Met}
 use Rattle.reason.specs.declared.Why.{Why}
 use Rattle.highboyrobin.specs.Calls.{tightness_from, why_from}
 
@@ -56,33 +55,33 @@ module _ (z : ℤ) (f : SFits w32 z) where
       at (negsuc m) e = refl
 
 module _ (kind : ℤ) where
-  pub negative-which : (which time : ℤ) → lt_z which (pos 0) ≡ true → Met ≡ tightness_from kind which time
+  pub negative-which : (which time : ℤ) → lt_z which (pos 0) ≡ true → None ≡ tightness_from kind which time
   negative-which (pos n) time e = absurd (omega (arith, ltb-true n 0 e))
   negative-which (negsuc n) time e = refl
 
-  pub negative-time : (which time : ℤ) (n : ℕ) → which ≡ pos n → lt_z time (pos 0) ≡ true → Met ≡ tightness_from kind which time
+  pub negative-time : (which time : ℤ) (n : ℕ) → which ≡ pos n → lt_z time (pos 0) ≡ true → None ≡ tightness_from kind which time
   negative-time which (pos m) n w e = absurd (omega (arith, ltb-true m 0 e))
   negative-time which (negsuc m) n w e = rw w refl
 
   module _ (which time : ℤ) (n m : ℕ) (w : which ≡ pos n) (t : time ≡ pos m) where
-    pub job-kind : kind ≡ pos 1 → Tight (Job n m) ≡ tightness_from kind which time
+    pub job-kind : kind ≡ pos 1 → Some (Job n m) ≡ tightness_from kind which time
     job-kind k = rw (w, t, k) refl
 
-    pub no_kind : same_z kind (pos 1) ≡ false → same_z kind (pos 2) ≡ false → Met ≡ tightness_from kind which time
+    pub no_kind : same_z kind (pos 1) ≡ false → same_z kind (pos 2) ≡ false → None ≡ tightness_from kind which time
     no_kind k l = rw (w, t, k, l) refl
 
-    pub stairs-time : kind ≡ pos 2 → same_z time (pos 0) ≡ false → Met ≡ tightness_from kind which time
+    pub stairs-time : kind ≡ pos 2 → same_z time (pos 0) ≡ false → None ≡ tightness_from kind which time
     stairs-time k l =
         let z : eqb m 0 ≡ false = ap (λ (y : ℤ). same_z y (pos 0)) (sym t) ∙ l in
         rw (w, t, k, z) refl
 
-    pub stairs-kind : kind ≡ pos 2 → time ≡ pos 0 → Tight (Stairs n) ≡ tightness_from kind which time
+    pub stairs-kind : kind ≡ pos 2 → time ≡ pos 0 → Some (Stairs n) ≡ tightness_from kind which time
     stairs-kind k l = rw (w, k, l) refl
 
 -- the reason of nineteen numbers, from its parts
-pub why-is : (numbers : List ℤ) (a b c : ℤ) (t : Tightness) (dues : List ℤ) → a ≡ get_or numbers 0 (pos 0) → b ≡ get_or numbers 1 (pos 0) →
+pub why-is : (numbers : List ℤ) (a b c : ℤ) (t : Option Reason) (dues : List ℤ) → a ≡ get_or numbers 0 (pos 0) → b ≡ get_or numbers 1 (pos 0) →
     c ≡ get_or numbers 2 (pos 0) → t ≡ tightness_from a b c → dues ≡ tabulate 16 (λ i. get_or numbers (3 + i) (pos 0)) →
-    ◌≡◌ {A = Why} (record { tightness = t; dues = dues }) (why_from numbers)
+    ◌≡◌ {A = Why} (record { reason = t; dues = dues }) (why_from numbers)
 unfolding why_from
 why-is numbers a b c t dues p q r e f =
     let same : t ≡ tightness_from (get_or numbers 0 (pos 0)) (get_or numbers 1 (pos 0)) (get_or numbers 2 (pos 0)) = e ∙ rw

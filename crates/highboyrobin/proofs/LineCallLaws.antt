@@ -1,5 +1,6 @@
 -- What hbr_sentence and hbr_parse say: a line is composed for exactly the numbers that hbr_reason answers for a reason that stands, it is
 -- a fact about every plan, and hbr_parse answers the same numbers for it, for another line none.
+use Rattle.std.specs.Prelude.{None, Some}
 use Rattle.std.specs.Prelude.{ℕ, ◌≤◌, ◌≡◌, Bool, true, false, cond, ◌&&◌, List, ◌++◌, ◌↔◌, eqb, ℤ, pos, negsuc, take, drop}
 use Rattle.std.proofs.Math.Path.{refl, ap}
 use Rattle.std.proofs.Common.{sym, ◌∙◌, subst, arith, eqb-true, take_at}
@@ -17,7 +18,6 @@ use Rattle.profile.specs.Standing.{same_z}
 use Rattle.reason.specs.Told.{why_of}
 use Rattle.reason.specs.declared.Reason.{Reason as CodeReason}
 use Rattle.reason.specs.declared.Reason.TheVariants.{Job, Stairs}
-use Rattle.reason.specs.declared.Tightness.TheVariants.{Tight, Met}
 use Rattle.reason.specs.declared.Why.{Why}
 use Rattle.sentence.specs.Handed.{handed}
 use Rattle.sentence.specs.HandedLaws.{Fitting, handed-own, handed-told}
@@ -29,8 +29,8 @@ use Rattle.highboyrobin.specs.Places.{take_places}
 use Rattle.highboyrobin.specs.Inside.{kind_of, which_of, time_of}
 
 -- numbers of a kind are those of the reason that they tell
-from-kind : (kind : ℤ) (n m : ℕ) (r : CodeReason) → tightness_from kind (pos n) (pos m) ≡ Tight r →
-    (pos (kind_of (Tight r)) ≡ kind) × (which_of (Tight r) ≡ n) × (time_of (Tight r) ≡ m)
+from-kind : (kind : ℤ) (n m : ℕ) (r : CodeReason) → tightness_from kind (pos n) (pos m) ≡ Some r →
+    (pos (kind_of (Some r)) ≡ kind) × (which_of (Some r) ≡ n) × (time_of (Some r) ≡ m)
 from-kind kind n m r e = at (same_z kind (pos 1)) refl (same_z kind (pos 2) && eqb m 0) refl e
   where
     is : (k : ℕ) → same_z kind (pos k) ≡ true → pos k ≡ kind
@@ -41,21 +41,21 @@ from-kind kind n m r e = at (same_z kind (pos 1)) refl (same_z kind (pos 2) && e
         read (negsuc j) h = let w : ◌≡◌ {A = ℕ} 0 1 = cc in absurd (omega arith)
 
     at : (a : Bool) → same_z kind (pos 1) ≡ a → (b : Bool) → (same_z kind (pos 2) && eqb m 0) ≡ b →
-        cond a (Tight (Job n m)) (cond b (Tight (Stairs n)) Met) ≡ Tight r →
-        (pos (kind_of (Tight r)) ≡ kind) × (which_of (Tight r) ≡ n) × (time_of (Tight r) ≡ m)
+        cond a (Some (Job n m)) (cond b (Some (Stairs n)) None) ≡ Some r →
+        (pos (kind_of (Some r)) ≡ kind) × (which_of (Some r) ≡ n) × (time_of (Some r) ≡ m)
     at true f b g h =
         let same : Job n m ≡ r = cc in
-        subst (λ (x : CodeReason). (pos (kind_of (Tight x)) ≡ kind) × (which_of (Tight x) ≡ n) × (time_of (Tight x) ≡ m)) same
+        subst (λ (x : CodeReason). (pos (kind_of (Some x)) ≡ kind) × (which_of (Some x) ≡ n) × (time_of (Some x) ≡ m)) same
         (is 1 f, refl, refl)
     at false f true g h =
         let same : Stairs n ≡ r = cc in
         let both = both_true (same_z kind (pos 2)) (eqb m 0) g in
-        subst (λ (x : CodeReason). (pos (kind_of (Tight x)) ≡ kind) × (which_of (Tight x) ≡ n) × (time_of (Tight x) ≡ m)) same
+        subst (λ (x : CodeReason). (pos (kind_of (Some x)) ≡ kind) × (which_of (Some x) ≡ n) × (time_of (Some x) ≡ m)) same
         (is 2 both.0, refl, sym (eqb-true m 0 both.1))
     at false f false g h = let w : ◌≡◌ {A = ℕ} 0 1 = cc in absurd (omega arith)
 
-from-numbers : (kind which time : ℤ) (r : CodeReason) → tightness_from kind which time ≡ Tight r →
-    (pos (kind_of (Tight r)) ≡ kind) × (pos (which_of (Tight r)) ≡ which) × (pos (time_of (Tight r)) ≡ time)
+from-numbers : (kind which time : ℤ) (r : CodeReason) → tightness_from kind which time ≡ Some r →
+    (pos (kind_of (Some r)) ≡ kind) × (pos (which_of (Some r)) ≡ which) × (pos (time_of (Some r)) ≡ time)
 from-numbers kind (pos n) (pos m) r e = let h = from-kind kind n m r e in (h.0, ap pos h.1, ap pos h.2)
 from-numbers kind (pos n) (negsuc m) r e = let w : ◌≡◌ {A = ℕ} 0 1 = cc in absurd (omega arith)
 from-numbers kind (negsuc n) time r e = let w : ◌≡◌ {A = ℕ} 0 1 = cc in absurd (omega arith)
@@ -73,11 +73,11 @@ module _ (o : Order) (numbers : List ℤ) (enough : 19 ≤ length numbers) where
       at : (r : Reason) → why_from numbers ≡ why_of o (found r) → tabulate 19 (λ i. get_or numbers i (pos 0)) ≡ reason_numbers o (found r)
       at (over_end j) w =
           let h = from-numbers (get_or numbers 0 (pos 0)) (get_or numbers 1 (pos 0)) (get_or numbers 2 (pos 0)) _
-          (ap (λ (x : Why). x.tightness) w) in
+          (ap (λ (x : Why). x.reason) w) in
           cc (h.0, h.1, h.2, ap (λ (x : Why). x.dues) w)
       at (stairs dues) w =
           let h = from-numbers (get_or numbers 0 (pos 0)) (get_or numbers 1 (pos 0)) (get_or numbers 2 (pos 0)) _
-          (ap (λ (x : Why). x.tightness) w) in
+          (ap (λ (x : Why). x.reason) w) in
           cc (h.0, h.1, h.2, ap (λ (x : Why). x.dues) w)
 
   -- the numbers of a reason, read as one, are what the planner tells of it

@@ -1,4 +1,5 @@
 -- The reason as numbers: they are few, and those of the code's reason are those of document 01's.
+use Rattle.std.specs.Prelude.{Option, None, Some}
 use Prim.Native.Nat.{ℕ, ◌<◌}
 use mathlib.Core.Path.{◌≡◌, refl, sym, ◌∙◌, subst}
 use mathlib.Core.Bool.{true, false}
@@ -18,8 +19,6 @@ use Rattle.profile.specs.Search.{Found, nothing, found, reason_of}
 use Rattle.order.proofs.ClassLaws.{classes-few}
 use Rattle.reason.specs.Told.{why_of}
 use Rattle.reason.specs.declared.Reason.TheVariants.{Job, Stairs}
-use Rattle.reason.specs.declared.Tightness.{Tightness}
-use Rattle.reason.specs.declared.Tightness.TheVariants.{Tight, Met}
 use Rattle.reason.specs.declared.Why.{Why}
 use Rattle.highboyrobin.specs.Calls.{reason_numbers}
 use Rattle.highboyrobin.specs.Inside.{kind_of, which_of, time_of, why_numbers}
@@ -29,10 +28,10 @@ numbers-are o nothing = refl
 numbers-are o (found (over_end j)) = refl
 numbers-are o (found (stairs dues)) = refl
 
-pub kind-small : (t : Tightness) → kind_of t < 2147483648
-kind-small Met = omega arith
-kind-small (Tight (Job j t)) = omega arith
-kind-small (Tight (Stairs k)) = omega arith
+pub kind-small : (t : Option Reason) → kind_of t < 2147483648
+kind-small None = omega arith
+kind-small (Some (Job j t)) = omega arith
+kind-small (Some (Stairs k)) = omega arith
 
 -- row 8 decides after an accepted order
 module _ (o : Order) (bound : ℤ) (a : Accepted o) where
@@ -47,7 +46,7 @@ module _ (o : Order) (bound : ℤ) (a : Accepted o) where
 -- each number of a reason that stands is below 2^31
 module _ (o : Order) (bound : ℤ) (a : Accepted o) where
   abbrev Small : Why → Type 0
-  Small w = (which_of w.tightness < 2147483648) × (time_of w.tightness < 2147483648)
+  Small w = (which_of w.reason < 2147483648) × (time_of w.reason < 2147483648)
 
   small : (f : Found Reason) → ((r : Reason) → f ≡ found r → Stands o bound r) → Small (why_of o f)
   small nothing s = (omega arith, omega arith)
@@ -63,13 +62,13 @@ module _ (o : Order) (bound : ℤ) (a : Accepted o) where
       (omega (arith, p, classes-few o, h.few-processors), omega arith)
 
   pub reason-small : (w : Why) → w ≡ why_of o (reason_of o bound) →
-      (which_of w.tightness < 2147483648) × (time_of w.tightness < 2147483648)
+      (which_of w.reason < 2147483648) × (time_of w.reason < 2147483648)
   reason-small w e =
       subst Small (sym e)
       (small (reason_of o bound) (λ r f. reason-stands o bound r ((reason-found o bound r).0 f)))
 
   pub read_small : (line : List ℕ) (w : Why) → w ≡ why_of o (read_back o bound line) →
-      (which_of w.tightness < 2147483648) × (time_of w.tightness < 2147483648)
+      (which_of w.reason < 2147483648) × (time_of w.reason < 2147483648)
   read_small line w e = subst Small (sym e) (small (read_back o bound line) (λ r f. ((reads-to o a bound line r).0 f).0))
 
 -- the reason of the order that was read is that of the file's

@@ -1,4 +1,5 @@
 -- What each exported function answers, and by which rows of the refusal table it judges. A file stands for the order in it.
+use Rattle.std.specs.Prelude.{Option, None, Some}
 use Rattle.std.specs.Prelude.{ℕ, ◌+◌, ◌*◌, ◌/◌, ◌≡◌, Bool, cond, ◌&&◌, List, [], ◌∷◌, ◌++◌, eqb, ℤ, pos, negsuc, length, get_or, drop}
 use Rattle.sums.specs.Lists.{tabulate}
 use Rattle.order.specs.Order.{Order, processor_count, job_count, job_of}
@@ -11,8 +12,6 @@ use Rattle.profile.specs.Search.{Found, nothing, found, reason_of}
 use Rattle.profile.specs.Standing.{same_z}
 use Rattle.reason.specs.Told.{sixteen}
 use Rattle.reason.specs.declared.Reason.TheVariants.{Job, Stairs}
-use Rattle.reason.specs.declared.Tightness.{Tightness}
-use Rattle.reason.specs.declared.Tightness.TheVariants.{Tight, Met}
 use Rattle.reason.specs.declared.Why.{Why}
 use Rattle.sentence.specs.Handed.{handed}
 use Rattle.sentence.specs.Line.{composed, read_back}
@@ -61,15 +60,15 @@ reason_answer file bound answer =
     left_by (judge (reason_call file bound (length answer))) (reason_numbers (order_in file) (reason_of (order_in file) bound)) answer
 
 -- hbr_sentence: nineteen numbers as a reason is handed in, each kind with no number that is not its own; others tell none
-abbrev pub tightness_from : ℤ → ℤ → ℤ → Tightness
+abbrev pub tightness_from : ℤ → ℤ → ℤ → Option Reason
 tightness_from kind (pos which) (pos time) =
-    cond (same_z kind (pos 1)) (Tight (Job which time)) (cond (same_z kind (pos 2) && eqb time 0) (Tight (Stairs which)) Met)
-tightness_from kind (pos which) (negsuc time) = Met
-tightness_from kind (negsuc which) time = Met
+    cond (same_z kind (pos 1)) (Some (Job which time)) (cond (same_z kind (pos 2) && eqb time 0) (Some (Stairs which)) None)
+tightness_from kind (pos which) (negsuc time) = None
+tightness_from kind (negsuc which) time = None
 
 unfoldable pub why_from : List ℤ → Why
 why_from numbers = record {
-  tightness = tightness_from (get_or numbers 0 (pos 0)) (get_or numbers 1 (pos 0)) (get_or numbers 2 (pos 0));
+  reason = tightness_from (get_or numbers 0 (pos 0)) (get_or numbers 1 (pos 0)) (get_or numbers 2 (pos 0));
   dues = tabulate 16 (λ i. get_or numbers (3 + i) (pos 0));
 }
 

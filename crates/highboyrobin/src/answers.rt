@@ -76,10 +76,10 @@ fn put_dues(answer: &mut [i32], dues: [i32; 16])
 }
 
 // The kind of a reason; the job or the count of classes; the job's time. 0 where there is none.
-fn kind_of(told: Tightness) -> u32
+fn kind_of(told: Option<Reason>) -> u32
     ensures { result ≡ kind_of told }
 {
-    let Tightness::Tight(reason) = told else {
+    let Some(reason) = told else {
         return 0;
     };
     match reason {
@@ -88,10 +88,10 @@ fn kind_of(told: Tightness) -> u32
     }
 }
 
-fn which_of(told: Tightness) -> u32
+fn which_of(told: Option<Reason>) -> u32
     ensures { result ≡ which_of told }
 {
-    let Tightness::Tight(reason) = told else {
+    let Some(reason) = told else {
         return 0;
     };
     match reason {
@@ -100,10 +100,10 @@ fn which_of(told: Tightness) -> u32
     }
 }
 
-fn time_of(told: Tightness) -> u32
+fn time_of(told: Option<Reason>) -> u32
     ensures { result ≡ time_of told }
 {
-    let Tightness::Tight(reason) = told else {
+    let Some(reason) = told else {
         return 0;
     };
     match reason {
@@ -114,10 +114,10 @@ fn time_of(told: Tightness) -> u32
 
 // A reason, or that there is none.
 pub fn put_reason(answer: &mut [i32], why: Why)
-    requires { (which_of why.tightness < 2147483648) × (time_of why.tightness < 2147483648) × (19 ≤ length answer.old) }
+    requires { (which_of why.reason < 2147483648) × (time_of why.reason < 2147483648) × (19 ≤ length answer.old) }
     ensures { answer.new ≡ why_numbers why ++ drop 19 answer.old }
 {
-    let told = why.tightness;
+    let told = why.reason;
     let dues = why.dues;
     put_three(answer, kind_of(told), which_of(told), time_of(told));
     put_dues(answer, dues);

@@ -6,25 +6,25 @@ ghost use Rattle.highboyrobin.specs.Calls.{tightness_from, why_from};
 use reason::{Reason, Tightness, Why};
 
 // Its kind, with the job and its time or with the count of classes; none where a number is not of this kind.
-fn tightness_from(kind: i32, which: i32, time: i32) -> Tightness
+fn tightness_from(kind: i32, which: i32, time: i32) -> Option<Reason>
     ensures { result ≡ tightness_from kind which time }
 {
     if which < 0 {
-        return Tightness::Met;
+        return None;
     }
     if time < 0 {
-        return Tightness::Met;
+        return None;
     }
     if kind == 1 {
-        return Tightness::Tight(Reason::Job(which as u32, time as u32));
+        return Some(Reason::Job(which as u32, time as u32));
     }
     if kind != 2 {
-        return Tightness::Met;
+        return None;
     }
     if time != 0 {
-        return Tightness::Met;
+        return None;
     }
-    Tightness::Tight(Reason::Stairs(which as u32))
+    Some(Reason::Stairs(which as u32))
 }
 
 // Its sixteen due times.
@@ -47,7 +47,7 @@ pub fn why_from(numbers: &[i32]) -> Why
 {
     let dues = dues_from(numbers);
     Why {
-        tightness: tightness_from(numbers[0], numbers[1], numbers[2]),
+        reason: tightness_from(numbers[0], numbers[1], numbers[2]),
         dues,
     }
 }

@@ -1,4 +1,5 @@
 -- What the answers of the code say of the text that is written.
+use Rattle.std.specs.Prelude.{Some}
 use Prim.Native.Nat.{ℕ, ◌-◌, ◌*◌, ◌≤◌, ◌<◌}
 use mathlib.Core.Path.{◌≡◌, refl, sym, ap, ◌∙◌, subst}
 use mathlib.Core.Bool.{true, false}
@@ -31,7 +32,6 @@ use Rattle.profile.specs.Reason.{Reason}
 use Rattle.profile.specs.Search.{Found, nothing, found, reason_of}
 use Rattle.reason.specs.Told.{reason_told, why_told, why_of}
 use Rattle.reason.specs.declared.Reason.{Reason as CodeReason}
-use Rattle.reason.specs.declared.Tightness.TheVariants.{Tight as TooTight}
 use Rattle.reason.specs.declared.Why.{Why}
 use Rattle.planner.specs.Rows.{least_rows, plan_rows}
 use Rattle.planner.specs.Told.{reason_carried, why_in, ReasonTold}
@@ -178,7 +178,7 @@ module _ (o : Order) (bound : ℤ) (rows rows' : List ℕ) (a : PlanAnswer) (t :
     tight-verdict = sym same-plan-rows ∙ (planned-tight o bound rows rows' a.planned t code e).0
 
     abbrev why : Why
-    why = record { tightness = TooTight code; dues = a.dues }
+    why = record { reason = Some code; dues = a.dues }
 
     why-as : why_in a ≡ why
     why-as = ap (λ (p : Planned). why_in (record { planned = p; dues = a.dues })) e

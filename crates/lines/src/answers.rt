@@ -4,7 +4,7 @@ ghost use Rattle.order.specs.Refusals.{Accepted, bound_in_range};
 ghost use Rattle.order.specs.Table.{order_of};
 ghost use Rattle.profile.specs.Reason.{over_end, stairs};
 ghost use Rattle.reason.specs.Told.{reason_told};
-ghost use Rattle.reason.specs.declared.Tightness.TheVariants.{Tight};
+ghost use Rattle.std.specs.Prelude.{Some};
 ghost use Rattle.sentence.specs.Handed.{handed};
 ghost use Rattle.sentence.specs.Line.{composed};
 ghost use Rattle.text.specs.Text.{line_end, Put};
@@ -103,12 +103,12 @@ pub fn put_reason(
 ) -> usize
     requires { Accepted (order_of order) × (bound_in_range bound ≡ true) × (804 ≤ length out.old) }
     ensures { Put out.old 0 (tight_line (reason_told reason dues) ++ (composed (order_of order) bound
-        (handed (order_of order) (record { tightness = Tight reason; dues = dues })) ++ line_end)) out.new result
+        (handed (order_of order) (record { reason = Some reason; dues = dues })) ++ line_end)) out.new result
         × (result ≤ 804) }
 {
     let behind = put_tight(out, 0, reason, dues);
     let why = Why {
-        tightness: Tightness::Tight(reason),
+        reason: Some(reason),
         dues,
     };
     let mut text = [0u8; 598];

@@ -5,26 +5,21 @@ ghost use Rattle.order.specs.Table.{order_of};
 ghost use Rattle.plan.specs.Check.{is_right, check_rows};
 ghost use Rattle.plan.specs.Told.{checked_told};
 
-use super::Checked;
 use super::rows::rows_right;
-use order::{Acceptance, Order, Refusal};
+use order::{Order, Refusal};
 
 // Whether the lent rows are a right plan for the order and the bound: rows in any order, four numbers to a row.
-pub fn check_plan(order: Order, bound: i32, rows: &[u32]) -> Checked
+#[tactic(auto, unfolding(crate::specs::Check::check_rows, order::specs::Refusals::judge))]
+pub fn check_plan(order: Order, bound: i32, rows: &[u32]) -> Result<bool, Refusal>
     ensures { checked_told result ≡ answer_by (judge (check_rows (order_of order) bound (length rows.now)))
         (is_right (order_of order) bound rows.now) }
 {
-    if let Acceptance::Refused(refusal) = order::accept::accept(order) {
-        return Checked::Refused(refusal);
-    }
+    order::accept::accept(order)?;
     if !order::deadline::bound_in_range(bound) {
-        return Checked::Refused(Refusal::BoundOutOfRange);
+        return Err(Refusal::BoundOutOfRange);
     }
     if 12096 < rows.len() {
-        return Checked::Refused(Refusal::TooManyRows);
+        return Err(Refusal::TooManyRows);
     }
-    if rows_right(order, bound, rows) {
-        return Checked::Yes;
-    }
-    Checked::No
+    Ok(rows_right(order, bound, rows))
 }

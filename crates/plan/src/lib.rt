@@ -1,8 +1,6 @@
 // The plan check (document 01, "Plans"): whether lent rows are a right plan, by whomever it was made.
 #![tactic(auto)]
 
-use order::Refusal;
-
 pub mod check; // check_plan
 pub mod rows; // rows of lent numbers, and the four rules
 
@@ -20,12 +18,4 @@ pub struct Piece {
 pub enum RowRead {
     Good(Piece),
     Malformed,
-}
-
-// Whether the plan is right, or why it was not judged.
-#[derive(Clone, Copy)]
-pub enum Checked {
-    Yes,
-    No,
-    Refused(Refusal),
 }

@@ -1,5 +1,6 @@
 -- How the planner puts its answers together: a refusal stands whatever rows follow, 10 comes with its reason, and where the table
 -- accepts a plan was written.
+use Rattle.std.specs.Prelude.{Option, None, Some}
 use Prim.Native.Nat.{ℕ, ◌/◌, ◌≤◌, ◌<◌}
 use mathlib.Core.Path.{◌≡◌, refl, sym, ap, ◌∙◌, subst}
 use mathlib.Core.Bool.{Bool, true, false, not}
@@ -54,8 +55,6 @@ use Rattle.table.specs.declared.Table.{Table}
 use Rattle.reason.specs.Matching.{reach-same}
 use Rattle.reason.specs.Telling.{told_is}
 use Rattle.reason.specs.declared.Reason.{Reason as CodeReason}
-use Rattle.reason.specs.declared.Tightness.{Tightness}
-use Rattle.reason.specs.declared.Tightness.TheVariants.{Tight as TooTight, Met}
 use Rattle.reason.specs.declared.Why.{Why}
 use Rattle.planner.specs.DemandMet.{not_found}
 use Rattle.planner.specs.AnswerLaws.{carried_none, plan-begins}
@@ -102,17 +101,17 @@ pub order-accepted : (o : Order) (a : Acceptance) → acceptance_told a ≡ judg
 order-accepted o a e is = sym e ∙ ap acceptance_told is
 
 -- what is told is tight exactly where there is a reason
-tight-found : (o : Order) (f : Found Reason) (r : CodeReason) → (why_of o f).tightness ≡ TooTight r → is_found f ≡ true
+tight-found : (o : Order) (f : Found Reason) (r : CodeReason) → (why_of o f).reason ≡ Some r → is_found f ≡ true
 tight-found o nothing r e = let z : ◌≡◌ {A = ℕ} 0 1 = cc in absurd (omega arith)
 tight-found o (found reason) r e = refl
 
-met-none : (o : Order) (f : Found Reason) → (why_of o f).tightness ≡ Met → f ≡ nothing
+met-none : (o : Order) (f : Found Reason) → (why_of o f).reason ≡ None → f ≡ nothing
 met-none o nothing e = refl
 met-none o (found (over_end j)) e = let z : ◌≡◌ {A = ℕ} 0 1 = cc in absurd (omega arith)
 met-none o (found (stairs dues)) e = let z : ◌≡◌ {A = ℕ} 0 1 = cc in absurd (omega arith)
 
-pub told-met : (o : Order) (f : Found Reason) (w : Why) → w ≡ why_of o f → w.tightness ≡ Met → f ≡ nothing
-told-met o f w e h = met-none o f (sym (ap (λ (w : Why). w.tightness) e) ∙ h)
+pub told-met : (o : Order) (f : Found Reason) (w : Why) → w ≡ why_of o f → w.reason ≡ None → f ≡ nothing
+told-met o f w e h = met-none o f (sym (ap (λ (w : Why). w.reason) e) ∙ h)
 
 -- a table has room for sixteen classes
 pub classes-few : (o : Order) {t : Table} → Tabled last_due o t → length (classes o) ≤ 16
@@ -163,8 +162,8 @@ module _ (o : Order) (bound : ℤ) (n : ℕ) where
       let none : nothing ≡ reason_carried (judge (plan_rows o bound n)) (reason_of o bound)
       = sym (carried_none rf (reason_of o bound)) ∙ ap (λ (v : Verdict). reason_carried v (reason_of o bound)) v in
       let is : why_judged r ≡ why_of o nothing
-      = ap (λ (j : Judgement). record { tightness = tightness_judged j; dues = r.dues }) e
-      ∙ ap (λ (ds : List ℤ). record { tightness = Met; dues = ds }) f in
+      = ap (λ (j : Judgement). record { reason = tightness_judged j; dues = r.dues }) e
+      ∙ ap (λ (ds : List ℤ). record { reason = None; dues = ds }) f in
       record {
         verdict = ap judged_told e ∙ v;
         reason-told = ap why_told is ∙ none;
@@ -174,14 +173,14 @@ module _ (o : Order) (bound : ℤ) (n : ℕ) where
 
   module _ (ok : Accepted o) (in-range : bound_in_range bound ≡ true) (room : rows_asked o ≤ n / 4) (t : Table) (m : Tabled last_due o t)
       (w : Why) (f : w ≡ why_of o (reason_of o bound)) where
-    pub tight-judged : (r : CodeReason) → w.tightness ≡ TooTight r →
+    pub tight-judged : (r : CodeReason) → w.reason ≡ Some r →
         JudgedAt o bound n (record { judgement = Tighten r; dues = w.dues; table = t })
     unfolding judge
     tight-judged r h =
-        let is : record { tightness = TooTight r; dues = w.dues } ≡ w
-        = ap (λ (t : Tightness). record { tightness = t; dues = w.dues }) (sym h) in
+        let is : record { reason = Some r; dues = w.dues } ≡ w
+        = ap (λ (t : Option Reason). record { reason = t; dues = w.dues }) (sym h) in
         let v : judge (plan_rows o bound n) ≡ refused 10 0
-        = last_row ok in-range room ∙ rw (tight-found o (reason_of o bound) r (sym (ap (λ (w : Why). w.tightness) f) ∙ h)) in
+        = last_row ok in-range room ∙ rw (tight-found o (reason_of o bound) r (sym (ap (λ (w : Why). w.reason) f) ∙ h)) in
         record {
           verdict = sym v;
           reason-told = rw v (why-told o bound (classes-few o m) _ (is ∙ f));
@@ -189,12 +188,12 @@ module _ (o : Order) (bound : ℤ) (n : ℕ) where
           table_is = λ h. let z : ◌≡◌ {A = ℕ} 0 1 = cc in absurd (omega arith);
         }
 
-    pub open-judged : w.tightness ≡ Met → JudgedAt o bound n (record { judgement = Open; dues = w.dues; table = t })
+    pub open-judged : w.reason ≡ None → JudgedAt o bound n (record { judgement = Open; dues = w.dues; table = t })
     unfolding judge
     open-judged h =
         let none = told-met o (reason_of o bound) w f h in
-        let is : record { tightness = Met; dues = w.dues } ≡ w
-        = ap (λ (t : Tightness). record { tightness = t; dues = w.dues }) (sym h) in
+        let is : record { reason = None; dues = w.dues } ≡ w
+        = ap (λ (t : Option Reason). record { reason = t; dues = w.dues }) (sym h) in
         let v : judge (plan_rows o bound n) ≡ accepted = last_row ok in-range room ∙ rw none in
         record {
           verdict = sym v;
@@ -213,7 +212,7 @@ module _ (o : Order) (bound : ℤ) (n : ℕ) where
         ReasonTold o (reason_carried (judge (plan_rows o bound n)) (reason_of o bound)) (record { planned = p; dues = r.dues })
     told-on p e =
         let is : why_in (record { planned = p; dues = r.dues }) ≡ why_judged r
-        = ap (λ (t : Tightness). record { tightness = t; dues = r.dues }) e in
+        = ap (λ (t : Option Reason). record { reason = t; dues = r.dues }) e in
         (ap why_told is ∙ judged.reason-told, is ∙ judged.reason-whole)
 
     pub refused-ensured : (entry : List ℕ) (rf : Refusal) → r.judgement ≡ Refuse rf →

@@ -1,5 +1,6 @@
 -- How the booked planners put their answers together: where the earlier rows refuse, the answer is theirs and the book as it was; where
 -- they accept, the book's row decides.
+use Rattle.std.specs.Prelude.{Option}
 use Prim.Native.Nat.{ℕ}
 use mathlib.Core.Path.{◌≡◌, refl, sym, ap, ◌∙◌, subst}
 use mathlib.Core.Bool.{true, false}
@@ -19,7 +20,6 @@ use Rattle.plan.specs.IsLeast.{IsLeast}
 use Rattle.profile.specs.Least.{least_lateness}
 use Rattle.profile.specs.Search.{nothing, reason_of}
 use Rattle.reason.specs.declared.Reason.{Reason as CodeReason}
-use Rattle.reason.specs.declared.Tightness.{Tightness}
 use Rattle.reason.specs.Told.{why_of, why_told}
 use Rattle.planner.specs.Judged.{judged_told, tightness_judged, JudgedAt, JudgedLeast}
 use Rattle.planner.specs.Rows.{least_rows, plan_rows, booked_least_rows, booked_plan_rows}
@@ -104,7 +104,7 @@ module _ (o : Order) (bound : ℤ) (n : ℕ) (book : Book) where
       -- no reason is told where the earlier rows accept
       untold : why_in (record { planned = Refused BookFull; dues = j.dues }) ≡ why_of o nothing
       untold =
-          ap (λ (t : Tightness). record { tightness = t; dues = j.dues }) (sym (ap tightness_judged e))
+          ap (λ (t : Option Reason). record { reason = t; dues = j.dues }) (sym (ap tightness_judged e))
           ∙ (judged.reason-whole ∙ ap (λ (x : Verdict). why_of o (reason_carried x (reason_of o bound))) (opened o bound n j judged e))
 
       pub full-booked : over_booked o book.counts ≡ true →

@@ -1,5 +1,6 @@
 -- What is judged before any row is written: the table's verdict, the reason that comes with a 10, and the table of an order that is
 -- gone on with.
+use Rattle.std.specs.Prelude.{Option, None, Some}
 use Rattle.std.specs.Prelude.{ℕ, ◌≡◌, ℤ}
 use Rattle.order.specs.Order.{Order}
 use Rattle.order.specs.Lead.{last_due}
@@ -9,8 +10,6 @@ use Rattle.order.specs.declared.Acceptance.TheVariants.{Accepted as Accepts}
 use Rattle.profile.specs.Search.{reason_of}
 use Rattle.table.specs.Tabled.{Tabled}
 use Rattle.reason.specs.Told.{why_of, why_told}
-use Rattle.reason.specs.declared.Tightness.{Tightness}
-use Rattle.reason.specs.declared.Tightness.TheVariants.{Tight as TooTight, Met}
 use Rattle.reason.specs.declared.Why.{Why}
 use Rattle.planner.specs.Rows.{least_rows, plan_rows}
 use Rattle.planner.specs.Told.{reason_carried}
@@ -24,13 +23,13 @@ judged_told (Refused r) = refusal_told r
 judged_told (Tight reason) = refused 10 0
 judged_told Open = accepted
 
-abbrev pub tightness_judged : Judgement → Tightness
-tightness_judged (Refused r) = Met
-tightness_judged (Tight reason) = TooTight reason
-tightness_judged Open = Met
+abbrev pub tightness_judged : Judgement → Option Reason
+tightness_judged (Refused r) = None
+tightness_judged (Tight reason) = Some reason
+tightness_judged Open = None
 
 abbrev pub why_judged : BoundJudged → Why
-why_judged r = record { tightness = tightness_judged r.judgement; dues = r.dues }
+why_judged r = record { reason = tightness_judged r.judgement; dues = r.dues }
 
 -- at a bound, for a buffer of so many numbers
 pub record JudgedAt (o : Order) (bound : ℤ) (lent : ℕ) (r : BoundJudged) : Type 0 where

@@ -1,6 +1,7 @@
 -- Document 02, §8, of the planner: "For every order the least lateness, reasons, refusals and rows are equal to those of the input-order
 -- table." Least lateness and reasons stand in reason/specs/SameTold.antt; acceptance and the bound are judged of the order itself, 9 and 10
 -- of the table.
+use Rattle.std.specs.Prelude.{Option, None, Some}
 use Rattle.std.specs.Prelude.{ℕ, ◌+◌, ◌-◌, ◌*◌, ◌/◌, ◌≡◌, refl, Bool, true, false, List, [], ◌∷◌, ◌↔◌, ℤ, length, get_or, replicate}
 use Rattle.std.proofs.Common.{sym, ap, ◌∙◌}
 use Rattle.std.proofs.lemmas.List.{get_or-replicate}
@@ -24,20 +25,18 @@ use Rattle.allot.specs.InFrame.{Agrees}
 use Rattle.allot.specs.SameRows.{over, ends_from, LentNumbers, frame_of, RowsFrom, RowsIn, rows-one, rows_in, rows-carried}
 use Rattle.reason.specs.Asked.{told_of, told_in_order}
 use Rattle.reason.specs.SameTold.{reason-same}
-use Rattle.reason.specs.declared.Tightness.{Tightness}
-use Rattle.reason.specs.declared.Tightness.TheVariants.{Tight, Met}
 use Rattle.reason.specs.declared.Why.{Why}
 use Rattle.planner.specs.Written.{Written}
 
 -- Refusals ---------------------------------------------------------------------------------------------------------------------
 
-abbrev is_tight : Tightness → Bool
-is_tight (Tight reason) = true
-is_tight Met = false
+abbrev is_tight : Option Reason → Bool
+is_tight (Some reason) = true
+is_tight None = false
 
 -- rows 9 and 10 as they are read from a table and from what is told of it
 abbrev pub rows_read : Table → Why → ℕ → List TableRow
-rows_read t why numbers = room_row (numbers / 4) (t.q * (t.n + t.m - 1)) ∷ tight_row (is_tight why.tightness) ∷ []
+rows_read t why numbers = room_row (numbers / 4) (t.q * (t.n + t.m - 1)) ∷ tight_row (is_tight why.reason) ∷ []
 
 -- Rows -------------------------------------------------------------------------------------------------------------------------
 

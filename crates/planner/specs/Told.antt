@@ -1,4 +1,5 @@
 -- What the planner's answers stand for. The number of rows is named here; Written says which it is.
+use Rattle.std.specs.Prelude.{Option, None, Some}
 use Rattle.std.specs.Prelude.{ℕ, ◌≡◌, cond, eqb, ℤ, pos}
 use Rattle.order.specs.Order.{Order}
 use Rattle.order.specs.Refusals.{Verdict, accepted, refused, Answer, answer, refusal, answer_by}
@@ -7,8 +8,6 @@ use Rattle.plan.specs.IsLeast.{IsLeast}
 use Rattle.profile.specs.Reason.{Reason}
 use Rattle.profile.specs.Search.{Found, nothing}
 use Rattle.reason.specs.Told.{why_of, why_told}
-use Rattle.reason.specs.declared.Tightness.{Tightness}
-use Rattle.reason.specs.declared.Tightness.TheVariants.{Tight as TooTight, Met}
 use Rattle.reason.specs.declared.Why.{Why}
 use Rattle.planner.specs.declared.Least.{Least}
 use Rattle.planner.specs.declared.Least.TheVariants.{At, Refused as LeastRefused}
@@ -33,13 +32,13 @@ reason_carried accepted reason = nothing
 reason_carried (refused number carried) reason = cond (eqb number 10) reason nothing
 
 -- the reason of an answer: a bound that is not judged or is met has none
-abbrev pub tightness_of : Planned → Tightness
-tightness_of (Rows count) = Met
-tightness_of (Tight reason) = TooTight reason
-tightness_of (Refused r) = Met
+abbrev pub tightness_of : Planned → Option Reason
+tightness_of (Rows count) = None
+tightness_of (Tight reason) = Some reason
+tightness_of (Refused r) = None
 
 abbrev pub why_in : PlanAnswer → Why
-why_in r = record { tightness = tightness_of r.planned; dues = r.dues }
+why_in r = record { reason = tightness_of r.planned; dues = r.dues }
 
 -- an answer stands for this reason, and holds nothing but it
 abbrev pub ReasonTold : Order → Found Reason → PlanAnswer → Type 0

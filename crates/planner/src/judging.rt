@@ -60,15 +60,15 @@ pub fn judge_bound(order: Order, bound: i32, lent: usize) -> BoundJudged
         return refuse(Refusal::BufferTooShort);
     }
     let why = tell(t, reach_of(bound));
-    let tightness = why.tightness;
+    let reason = why.reason;
     let dues = why.dues;
     match tightness {
-        Tightness::Tight(reason) => BoundJudged {
+        Some(reason) => BoundJudged {
             judgement: Judgement::Tight(reason),
             dues,
             table: t,
         },
-        Tightness::Met => BoundJudged {
+        None => BoundJudged {
             judgement: Judgement::Open,
             dues,
             table: t,

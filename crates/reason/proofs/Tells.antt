@@ -1,4 +1,5 @@
 -- What is told, from what the parts find.
+use Rattle.std.specs.Prelude.{None, Some}
 use Prim.Native.Nat.{ℕ, zero, suc, ◌-◌, ◌≤◌, ◌<◌}
 use mathlib.Core.Path.{◌≡◌, refl, sym, ap, ◌∙◌}
 use mathlib.Core.List.{List, [], ◌∷◌, map}
@@ -26,7 +27,6 @@ use Rattle.stairs.specs.declared.Stop.{Stop}
 use Rattle.reason.specs.Told.{sixteen}
 use Rattle.reason.specs.Asked.{first_of, late, due_or, told_at, told_by, told_from, told_of}
 use Rattle.reason.specs.declared.Reason.TheVariants.{Job, Stairs}
-use Rattle.reason.specs.declared.Tightness.TheVariants.{Tight, Met}
 
 module _ (f : ℕ → ℤ) where
   map_at : (ds : List ℕ) (i : ℕ) → i < length ds → get_or (map f ds) i (pos 0) ≡ f (get_or ds i 0)
@@ -89,18 +89,18 @@ module _ (t : Table) (reach at : ℕ) (fine : Fine t) (l : at ≤ t.n)
     (e : finding_of (nth t.by_need at 0) ≡ first (late (by_number t) reach) (tabulate t.n (λ j. j))) where
   -- a job was found
   pub tell-late : 0 < at →
-      record { tightness = Tight (Job (get_or t.by_need (at - 1) 0) (get_or t.times (at - 1) 0)); dues = replicate 16 (pos 0) }
+      record { reason = Some (Job (get_or t.by_need (at - 1) 0) (get_or t.times (at - 1) 0)); dues = replicate 16 (pos 0) }
       ≡ told_of t reach
   unfolding told_from
   tell-late h = go at h l ∙ ap (λ (f : Finding). told_by (by_number t) t f (first_of t reach)) e
     where
       number : (x v : ℕ) → 1 ≤ x → value_of t.by_need t.n t.times x ≡ v →
-          record { tightness = Tight (Job x v); dues = sixteen [] } ≡ told_by (by_number t) t (finding_of x) (first_of t reach)
+          record { reason = Some (Job x v); dues = sixteen [] } ≡ told_by (by_number t) t (finding_of x) (first_of t reach)
       number zero v b q = absurd (omega arith)
       number (suc x) v b q = rw q refl
 
       go : (at : ℕ) → 0 < at → at ≤ t.n →
-          record { tightness = Tight (Job (get_or t.by_need (at - 1) 0) (get_or t.times (at - 1) 0)); dues = replicate 16 (pos 0) }
+          record { reason = Some (Job (get_or t.by_need (at - 1) 0) (get_or t.times (at - 1) 0)); dues = replicate 16 (pos 0) }
           ≡ told_by (by_number t) t (finding_of (nth t.by_need at 0)) (first_of t reach)
       go zero h l = absurd (omega arith)
       go (suc i) h l =
@@ -122,25 +122,25 @@ module _ (t : Table) (reach at : ℕ) (fine : Fine t) (l : at ≤ t.n)
     -- a profile was found
     pub tell-stairs : (w : Stop) (k : ℕ) → Hit t reach w k → (r : List ℤ) →
         (length r ≡ 16) × ((i : ℕ) → i < 16 → get_or r i (pos 0) ≡ due_or t.grid w.at k i) →
-        record { tightness = Tight (Stairs k); dues = r } ≡ told_of t reach
+        record { reason = Some (Stairs k); dues = r } ≡ told_of t reach
     tell-stairs w k x r f =
         let d : r ≡ sixteen (map (λ d. due_at last_due (get_or t.grid d 0)) x.ds)
         = sym (ap (λ (n : ℕ). tabulate n (λ i. get_or r i (pos 0))) (sym f.0) ∙ tabulate-get_or r (pos 0))
         ∙ tabulate-cong 16 (λ i. get_or r i (pos 0)) (λ i. get_or (map (λ d. due_at last_due (get_or t.grid d 0)) x.ds) i (pos 0))
         (λ i l.
         f.1 i l ∙ (rw (x.at, ← x.count) (due-or-map t.grid x.ds i (omega (arith, x.count, x.few))))) in
-        ap (λ (l : List ℤ). record { tightness = Tight (Stairs k); dues = l }) d
-        ∙ (ap (λ (n : ℕ). record { tightness = Tight (Stairs n); dues = sixteen (map (λ d. due_at last_due (get_or t.grid d 0)) x.ds) })
+        ap (λ (l : List ℤ). record { reason = Some (Stairs k); dues = l }) d
+        ∙ (ap (λ (n : ℕ). record { reason = Some (Stairs n); dues = sixteen (map (λ d. due_at last_due (get_or t.grid d 0)) x.ds) })
         (sym x.count)
         ∙ (ap (told_at t) (sym x.is) ∙ by-profile))
 
     -- none was
     pub tell-nothing : (w : Stop) → w ≡ stop_at (first_of t reach) → w.outcome ≡ Nowhere →
-        record { tightness = Met; dues = replicate 16 (pos 0) } ≡ told_of t reach
+        record { reason = None; dues = replicate 16 (pos 0) } ≡ told_of t reach
     unfolding stop_at
     tell-nothing w q r = go (first_of t reach) refl q
       where
         go : (f : FoundPlaces) → first_of t reach ≡ f → w ≡ stop_at f →
-            record { tightness = Met; dues = replicate 16 (pos 0) } ≡ told_of t reach
+            record { reason = None; dues = replicate 16 (pos 0) } ≡ told_of t reach
         go nothing g q = ap (told_at t) (sym g) ∙ by-profile
         go (found ds) g q = let z : ◌≡◌ {A = ℕ} 0 1 = cc (ap (λ (v : Stop). v.outcome) q) in absurd (omega arith)

@@ -1,4 +1,5 @@
 -- What is asked of a table: what a class weighs at a due time, the first overfull profile at a reach, the least reach, what is told.
+use Rattle.std.specs.Prelude.{None, Some}
 use Rattle.std.specs.Prelude.{ℕ, suc, ◌+◌, ◌-◌, ◌*◌, max, pred, Bool, cond, List, [], map, ltb, eqb, ℤ, pos, length, get_or}
 use Rattle.sums.specs.Sum.{sum}
 use Rattle.sums.specs.Lists.{only, tabulate}
@@ -13,7 +14,6 @@ use Rattle.order.specs.Lead.{due_at, last_due}
 use Rattle.sums.specs.Most.{most, ceiling}
 use Rattle.reason.specs.Told.{sixteen}
 use Rattle.reason.specs.declared.Reason.TheVariants.{Job, Stairs}
-use Rattle.reason.specs.declared.Tightness.TheVariants.{Tight, Met}
 use Rattle.reason.specs.declared.Why.{Why}
 
 -- what a job owes at the lead g
@@ -71,11 +71,11 @@ due_or grid at k i = cond (ltb i k) (due_at last_due (get_or grid (get_or at i 0
 
 -- what is told of a profile found, or of none
 abbrev pub told_at : Table → FoundPlaces → Why
-told_at t nothing = record { tightness = Met; dues = sixteen [] }
-told_at t (found ds) = record { tightness = Tight (Stairs (length ds)); dues = sixteen (map (λ d. due_at last_due (get_or t.grid d 0)) ds) }
+told_at t nothing = record { reason = None; dues = sixteen [] }
+told_at t (found ds) = record { reason = Some (Stairs (length ds)); dues = sixteen (map (λ d. due_at last_due (get_or t.grid d 0)) ds) }
 
 abbrev pub told_by : Reading → Table → Finding → FoundPlaces → Why
-told_by r t (holds j) f = record { tightness = Tight (Job j (r.time (pred j))); dues = sixteen [] }
+told_by r t (holds j) f = record { reason = Some (Job j (r.time (pred j))); dues = sixteen [] }
 told_by r t clear f = told_at t f
 
 -- a job whose time exceeds its end, the first such in input order; if there is none, the first overfull profile

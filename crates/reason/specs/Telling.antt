@@ -1,5 +1,6 @@
 -- What is told of a table is document 01's reason: the same job is over its end, and where none is, the same profile is
 -- the first overfull one.
+use Rattle.std.specs.Prelude.{Some}
 use Prim.Native.Nat.{ℕ, zero, suc, ◌+◌, ◌*◌, ◌≤◌, ◌<◌}
 use Rattle.std.specs.Prelude.{◌≡◌, refl, Bool, true, false, cond, ltb, ℤ, pos, get_or}
 use Rattle.std.proofs.Math.Path.{sym, ap}
@@ -31,7 +32,6 @@ use Rattle.reason.specs.Asked.{weight, procs_to, first_of, late, told_at, told_b
 use Rattle.reason.specs.Choices.{found_map, first-image, first-agree, ranked-places, ranking-sized}
 use Rattle.reason.specs.Matching.{due_in, value_same, procs-same}
 use Rattle.reason.specs.declared.Reason.TheVariants.{Job as JobReason, Stairs}
-use Rattle.reason.specs.declared.Tightness.TheVariants.{Tight}
 
 -- a condition about single ones, asked place by place
 first-places : {A B : Type 0} (test : A → Bool) (xs : List A) (d : A) (test' : B → Bool) (n : ℕ) (g : ℕ → B) (k : ℕ) →
@@ -134,7 +134,7 @@ module _ {number : ℕ → ℕ} (o : Order) (t : Table) (m : TabledBy number las
         at : (f : FoundPlaces) → why_of o (reason_by clear (found_map (map (due_in o t m)) f)) ≡ told_at t f
         at nothing = refl
         at (found ds) =
-            ap (λ (n : ℕ). record { tightness = Tight (Stairs n); dues = sixteen (map (due_in o t m) ds) }) (length-map ds (due_in o t m))
+            ap (λ (n : ℕ). record { reason = Some (Stairs n); dues = sixteen (map (due_in o t m) ds) }) (length-map ds (due_in o t m))
 
   told-by : (f : Finding) → first_over_end o bound ≡ f → why_of o (reason_by f (first_overfull o bound)) ≡ told_by r t f
       (first_of t reach)
@@ -143,7 +143,7 @@ module _ {number : ℕ → ℕ} (o : Order) (t : Table) (m : TabledBy number las
   told-by (holds j) e =
       let h = first_holds over o.jobs 0 j e in
       let q : j ≡ suc h.0 = omega (arith, h.2) in
-      ap (λ (x : ℕ). record { tightness = Tight (JobReason j x); dues = sixteen [] })
+      ap (λ (x : ℕ). record { reason = Some (JobReason j x); dues = sixteen [] })
       (rw q (sym (R.times h.0 h.1)))
 
   -- what is told is the reason

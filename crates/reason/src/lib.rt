@@ -14,16 +14,9 @@ pub enum Reason {
     Stairs(u32),
 }
 
-// Whether a bound is too tight, and for which reason.
-#[derive(Clone, Copy)]
-pub enum Tightness {
-    Tight(Reason),
-    Met,
-}
-
-// Whether a bound is too tight, and beside it the due times of the classes 1 to k of a staircase; 0 beyond.
+// Why a bound is too tight, none where it is not; beside the reason the due times of the classes 1 to k of a staircase, 0 beyond.
 #[derive(Clone, Copy)]
 pub struct Why {
-    pub tightness: Tightness,
+    pub reason: Option<Reason>,
     pub dues: [i32; 16],
 }

@@ -12,7 +12,7 @@ ghost use Rattle.reason.specs.Told.{why_of, why_told};
 
 use super::least::least_reach;
 use super::overfull::first_overfull;
-use super::{Reason, Tightness, Why};
+use super::{Reason, Why};
 use order::Order;
 use stairs::Outcome;
 use table::Table;
@@ -71,7 +71,7 @@ pub fn tell(o: Table, reach: u32) -> Why
         let k = (place - 1) as usize;
         let number = o.by_need[k];
         return Why {
-            tightness: Tightness::Tight(Reason::Job(number, o.times[k])),
+            reason: Some(Reason::Job(number, o.times[k])),
             dues: [0i32; 16],
         };
     }
@@ -81,11 +81,11 @@ pub fn tell(o: Table, reach: u32) -> Why
     let grid = o.grid;
     match outcome {
         Outcome::Places(k) => Why {
-            tightness: Tightness::Tight(Reason::Stairs(k)),
+            reason: Some(Reason::Stairs(k)),
             dues: dues_of(grid, at, k),
         },
         Outcome::Nothing => Why {
-            tightness: Tightness::Met,
+            reason: None,
             dues: [0i32; 16],
         },
     }

@@ -1,4 +1,5 @@
 -- A reason that is handed in, by its kind.
+use Rattle.std.specs.Prelude.{Option, None, Some}
 use Prim.Native.Nat.{ℕ, ◌≤◌, ◌<◌}
 use mathlib.Core.Path.{◌≡◌, refl, sym, ap, ◌∙◌}
 use mathlib.Core.Bool.{Bool, true, false, cond, not, ◌&&◌}
@@ -12,8 +13,6 @@ use Rattle.profile.specs.Reason.{over_end, stairs}
 use Rattle.profile.specs.Search.{nothing, found}
 use Rattle.reason.specs.declared.Reason.{Reason}
 use Rattle.reason.specs.declared.Reason.TheVariants.{Job, Stairs}
-use Rattle.reason.specs.declared.Tightness.{Tightness}
-use Rattle.reason.specs.declared.Tightness.TheVariants.{Tight, Met}
 use Rattle.reason.specs.declared.Why.{Why}
 use Rattle.sentence.specs.Handed.{all_zero, handed, handed_by}
 use Rattle.sentence.specs.Inside.{job_composed}
@@ -21,14 +20,14 @@ use Rattle.sentence.specs.Line.{composed}
 use Rattle.sentence.specs.LineLaws.{composed-nothing}
 
 module _ (o : Order) (bound : ℤ) (why : Why) where
-  pub met-none : why.tightness ≡ Met → composed o bound (handed o why) ≡ []
-  met-none e = ap (λ (t : Tightness). composed o bound (handed_by o t why.dues)) e ∙ composed-nothing o bound
+  pub met-none : why.reason ≡ None → composed o bound (handed o why) ≡ []
+  met-none e = ap (λ (t : Option Reason). composed o bound (handed_by o t why.dues)) e ∙ composed-nothing o bound
 
-  module _ (r : Reason) (e : why.tightness ≡ Tight r) (b : Bool) where
+  module _ (r : Reason) (e : why.reason ≡ Some r) (b : Bool) where
     -- a job
     module _ (j time : ℕ) (f : r ≡ Job j time) (z : b ≡ all_zero (drop 0 why.dues)) where
-      job-told : handed o why ≡ handed_by o (Tight (Job j time)) why.dues
-      job-told = ap (λ (t : Tightness). handed_by o t why.dues) e ∙ ap (λ (s : Reason). handed_by o (Tight s) why.dues) f
+      job-told : handed o why ≡ handed_by o (Some (Job j time)) why.dues
+      job-told = ap (λ (t : Option Reason). handed_by o t why.dues) e ∙ ap (λ (s : Reason). handed_by o (Some s) why.dues) f
 
       both : (a c : Bool) → c ≡ true → (a && c) ≡ a
       both true c e = e
@@ -51,31 +50,31 @@ module _ (o : Order) (bound : ℤ) (why : Why) where
           (both (eqb time (job_of o j).time) (all_zero why.dues) (sym z ∙ not-false b h)))
 
   -- a staircase
-  pub stairs-told : (r : Reason) → why.tightness ≡ Tight r → (k : ℕ) → r ≡ Stairs k →
-      composed o bound (handed_by o (Tight (Stairs k)) why.dues) ≡ composed o bound (handed o why)
+  pub stairs-told : (r : Reason) → why.reason ≡ Some r → (k : ℕ) → r ≡ Stairs k →
+      composed o bound (handed_by o (Some (Stairs k)) why.dues) ≡ composed o bound (handed o why)
   stairs-told r e k f =
-      sym (ap (λ (t : Tightness). composed o bound (handed_by o t why.dues)) e
-      ∙ ap (λ (s : Reason). composed o bound (handed_by o (Tight s) why.dues)) f)
+      sym (ap (λ (t : Option Reason). composed o bound (handed_by o t why.dues)) e
+      ∙ ap (λ (s : Reason). composed o bound (handed_by o (Some s) why.dues)) f)
 
 -- a staircase of k classes
 module _ (o : Order) (bound : ℤ) (dues : List ℤ) (k : ℕ) where
-  pub stairs-beyond : length dues < k → composed o bound (handed_by o (Tight (Stairs k)) dues) ≡ []
+  pub stairs-beyond : length dues < k → composed o bound (handed_by o (Some (Stairs k)) dues) ≡ []
   stairs-beyond h =
       ap (λ (c : Bool). composed o bound (cond (c && all_zero (drop k dues)) (found (stairs (take k dues))) nothing))
       (lt-leb k (length dues) h) ∙ composed-nothing o bound
 
   module _ (few : k ≤ length dues) (b : Bool) (z : b ≡ all_zero (drop k dues)) where
-    within : handed_by o (Tight (Stairs k)) dues ≡ cond b (found (stairs (take k dues))) nothing
+    within : handed_by o (Some (Stairs k)) dues ≡ cond b (found (stairs (take k dues))) nothing
     within =
         ap (λ (c : Bool). cond (c && all_zero (drop k dues)) (found (stairs (take k dues))) nothing) (le-leb k (length dues) few)
         ∙ ap (λ (c : Bool). cond c (found (stairs (take k dues))) nothing) (sym z)
 
-    pub stairs-beside : not b ≡ true → composed o bound (handed_by o (Tight (Stairs k)) dues) ≡ []
+    pub stairs-beside : not b ≡ true → composed o bound (handed_by o (Some (Stairs k)) dues) ≡ []
     stairs-beside h =
         ap (composed o bound) (within ∙ ap (λ (c : Bool). cond c (found (stairs (take k dues))) nothing) (not-true b h))
         ∙ composed-nothing o bound
 
     pub stairs-handed : not b ≡ false →
-        composed o bound (found (stairs (take k dues))) ≡ composed o bound (handed_by o (Tight (Stairs k)) dues)
+        composed o bound (found (stairs (take k dues))) ≡ composed o bound (handed_by o (Some (Stairs k)) dues)
     stairs-handed h =
         sym (ap (composed o bound) (within ∙ ap (λ (c : Bool). cond c (found (stairs (take k dues))) nothing) (not-false b h)))

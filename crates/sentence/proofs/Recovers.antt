@@ -1,4 +1,5 @@
 -- The time of a job of a struct; two lines, byte by byte; the reason that a line may be of.
+use Rattle.std.specs.Prelude.{Some}
 use Prim.Native.Nat.{ℕ, zero, suc, ◌+◌, ◌-◌, ◌/◌, ◌≤◌, ◌<◌}
 use mathlib.Core.Path.{◌≡◌, refl, ap}
 use mathlib.Core.Bool.{Bool, true, false, ◌&&◌}
@@ -18,7 +19,6 @@ use Rattle.order.specs.Table.{order_of, job_at}
 use Rattle.order.specs.declared.Order.{Order as OrderTable}
 use Rattle.reason.specs.Told.{sixteen}
 use Rattle.reason.specs.declared.Reason.TheVariants.{Job, Stairs}
-use Rattle.reason.specs.declared.Tightness.TheVariants.{Tight}
 use Rattle.reason.specs.declared.Why.{Why}
 use Rattle.sentence.specs.Scanning.{scanned, candidate}
 use Rattle.sentence.specs.declared.Numbers.{Numbers}
@@ -68,11 +68,11 @@ module _ (xs ys : List ℕ) (i : ℕ) (e : length xs ≡ length ys) where
 -- the reason of a job's line, and of another
 module _ (o : Order) (line : List ℕ) (s : Numbers) (e : s ≡ scanned line) where
   pub candidate-job : (time : ℕ) → eqb (get_or line 0 0) 106 ≡ true → time ≡ (job_of o s.first).time →
-      ◌≡◌ {A = Why} (record { tightness = Tight (Job s.first time); dues = sixteen [] }) (candidate o line)
+      ◌≡◌ {A = Why} (record { reason = Some (Job s.first time); dues = sixteen [] }) (candidate o line)
   unfolding candidate
   candidate-job time j t = rw (j, t, e) refl
 
   pub candidate-stairs : eqb (get_or line 0 0) 106 ≡ false →
-      ◌≡◌ {A = Why} (record { tightness = Tight (Stairs (s.done / 2)); dues = s.dues }) (candidate o line)
+      ◌≡◌ {A = Why} (record { reason = Some (Stairs (s.done / 2)); dues = s.dues }) (candidate o line)
   unfolding candidate
   candidate-stairs j = rw (j, e) refl

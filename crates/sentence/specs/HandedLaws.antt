@@ -1,4 +1,5 @@
 -- What is handed in tells a reason exactly if it is what the planner would tell of it.
+use Rattle.std.specs.Prelude.{Option, None, Some}
 use Rattle.std.specs.Prelude.{ℕ, zero, suc, ◌≤◌, ◌≡◌, refl, Bool, true, false, cond, ◌&&◌, List, [], ◌∷◌, leb, eqb, ℤ, pos, negsuc, length, get_or, take, drop}
 use Rattle.std.proofs.Common.{sym, ap, ◌∙◌, arith, eqb-true, eq-eqb, leb-true, le-leb, length-take-le}
 use Rattle.sums.specs.Lists.{tabulate}
@@ -10,8 +11,6 @@ use Rattle.profile.specs.Search.{nothing, found}
 use Rattle.profile.specs.Standing.{same_z}
 use Rattle.reason.specs.Told.{why_of}
 use Rattle.reason.specs.declared.Reason.TheVariants.{Job, Stairs}
-use Rattle.reason.specs.declared.Tightness.{Tightness}
-use Rattle.reason.specs.declared.Tightness.TheVariants.{Tight, Met}
 use Rattle.reason.specs.declared.Why.{Why}
 use Rattle.sentence.specs.Handed.{all_zero, handed_by, handed}
 
@@ -66,23 +65,23 @@ found-where false x r e = let z : ◌≡◌ {A = ℕ} 0 1 = cc in absurd (omega 
 -- and nothing else tells it
 pub handed-told : (o : Order) (why : Why) (r : TightReason) → length why.dues ≡ 16 → handed o why ≡ found r →
     why ≡ why_of o (found r)
-handed-told o why r l e = at why.tightness why.dues l e
+handed-told o why r l e = at why.reason why.dues l e
   where
-    at : (t : Tightness) (dues : List ℤ) → length dues ≡ 16 → handed_by o t dues ≡ found r →
-        ◌≡◌ {A = Why} (record { tightness = t; dues = dues }) (why_of o (found r))
-    at Met dues l e = let z : ◌≡◌ {A = ℕ} 0 1 = cc in absurd (omega arith)
-    at (Tight (Job j time)) dues l e =
+    at : (t : Option Reason) (dues : List ℤ) → length dues ≡ 16 → handed_by o t dues ≡ found r →
+        ◌≡◌ {A = Why} (record { reason = t; dues = dues }) (why_of o (found r))
+    at None dues l e = let z : ◌≡◌ {A = ℕ} 0 1 = cc in absurd (omega arith)
+    at (Some (Job j time)) dues l e =
         let h = found-where (eqb time (job_of o j).time && all_zero dues) (over_end j) r e in
         let b = both_true (eqb time (job_of o j).time) (all_zero dues) h.0 in
-        ap (λ (n : ℕ). record { tightness = Tight (Job j n); dues = dues }) (eqb-true time (job_of o j).time b.0)
-        ∙ (ap (λ (ds : List ℤ). record { tightness = Tight (Job j (job_of o j).time); dues = ds }) (zeros 16 dues l b.1)
+        ap (λ (n : ℕ). record { reason = Some (Job j n); dues = dues }) (eqb-true time (job_of o j).time b.0)
+        ∙ (ap (λ (ds : List ℤ). record { reason = Some (Job j (job_of o j).time); dues = ds }) (zeros 16 dues l b.1)
         ∙ ap (λ (x : TightReason). why_of o (found x)) h.1)
-    at (Tight (Stairs k)) dues l e =
+    at (Some (Stairs k)) dues l e =
         let h = found-where (leb k (length dues) && all_zero (drop k dues)) (stairs (take k dues)) r e in
         let b = both_true (leb k (length dues)) (all_zero (drop k dues)) h.0 in
         let few = leb-true k (length dues) b.0 in
         let size : length (take k dues) ≡ k = length-take-le k dues few in
-        ap (λ (n : ℕ). record { tightness = Tight (Stairs n); dues = dues }) (sym size)
-        ∙ (ap (λ (ds : List ℤ). record { tightness = Tight (Stairs (length (take k dues))); dues = ds })
+        ap (λ (n : ℕ). record { reason = Some (Stairs n); dues = dues }) (sym size)
+        ∙ (ap (λ (ds : List ℤ). record { reason = Some (Stairs (length (take k dues))); dues = ds })
         (padded 16 dues k l (omega arith) b.1)
         ∙ ap (λ (x : TightReason). why_of o (found x)) h.1)

@@ -1,12 +1,12 @@
 -- The numbers in a line, byte by byte, and the reason that they would be of: the first number is a job's, the second, fourth, .. are due
 -- times. What a line reads back to does not rest on this: the reason is only tried.
+use Rattle.std.specs.Prelude.{Some}
 use Rattle.std.specs.Prelude.{ℕ, ◌+◌, ◌-◌, ◌*◌, ◌/◌, ◌%◌, Bool, true, false, cond, List, [], ◌∷◌, ltb, leb, eqb, ℤ, pos, neg_ℤ, get_or, set}
 use Rattle.order.specs.Order.{Order}
 use Rattle.profile.specs.Reason.{over_end}
 use Rattle.profile.specs.Search.{found}
 use Rattle.reason.specs.Told.{sixteen, why_of}
 use Rattle.reason.specs.declared.Reason.TheVariants.{Stairs}
-use Rattle.reason.specs.declared.Tightness.TheVariants.{Tight}
 use Rattle.reason.specs.declared.Why.{Why}
 use Rattle.sentence.specs.declared.Numbers.{Numbers}
 
@@ -64,7 +64,7 @@ scanned line = scan_from scan_start line
 -- the reason of a line, if it has one: a line that begins with j is a job's
 abbrev pub tried : Order → Bool → Numbers → Why
 tried o true s = why_of o (found (over_end s.first))
-tried o false s = record { tightness = Tight (Stairs (s.done / 2)); dues = s.dues }
+tried o false s = record { reason = Some (Stairs (s.done / 2)); dues = s.dues }
 
 unfoldable pub candidate : Order → List ℕ → Why
 candidate o line = tried o (eqb (get_or line 0 0) 106) (scanned line)

@@ -6,7 +6,7 @@ ghost use Rattle.profile.specs.Reason.{stairs};
 ghost use Rattle.profile.specs.Search.{found};
 ghost use Rattle.text.specs.Text.{Put};
 ghost use Rattle.reason.specs.declared.Reason.TheVariants.{Stairs};
-ghost use Rattle.reason.specs.declared.Tightness.TheVariants.{Tight};
+ghost use Rattle.std.specs.Prelude.{Some};
 ghost use Rattle.sentence.specs.Handed.{all_zero, handed_by, handed};
 ghost use Rattle.sentence.specs.Inside.{job_composed};
 ghost use Rattle.sentence.specs.Line.{job_text, class_text, between, classes_from, sums_text, composed};
@@ -140,7 +140,7 @@ fn stairs_line(order: Order, bound: i32, dues: [i32; 16], k: usize, out: &mut [u
 // The line of as many classes as are counted; nothing where a due time stands beyond them.
 fn counted_line(order: Order, bound: i32, count: u32, dues: [i32; 16], out: &mut [u8]) -> usize
     requires { Accepted (order_of order) × (bound_in_range bound ≡ true) × (598 ≤ length out.old) }
-    ensures { Put out.old 0 (composed (order_of order) bound (handed_by (order_of order) (Tight (Stairs count)) dues))
+    ensures { Put out.old 0 (composed (order_of order) bound (handed_by (order_of order) (Some (Stairs count)) dues))
         out.new result × (result ≤ 598) }
 {
     if 16 < count {
@@ -158,9 +158,9 @@ pub fn put_line(order: Order, bound: i32, why: Why, out: &mut [u8]) -> usize
     ensures { Put out.old 0 (composed (order_of order) bound (handed (order_of order) why)) out.new result
         × (result ≤ 598) }
 {
-    let tightness = why.tightness;
+    let reason = why.reason;
     let dues = why.dues;
-    let Tightness::Tight(reason) = tightness else {
+    let Some(reason) = tightness else {
         return 0;
     };
     match reason {

@@ -7,7 +7,7 @@ ghost use Rattle.order.specs.Order.{job_of};
 ghost use Rattle.order.specs.Refusals.{Accepted, judge, bound_in_range};
 ghost use Rattle.order.specs.Table.{order_of, acceptance_told};
 ghost use Rattle.reason.specs.Told.{sixteen, why_of};
-ghost use Rattle.reason.specs.declared.Tightness.TheVariants.{Met};
+ghost use Rattle.std.specs.Prelude.{None};
 ghost use Rattle.sentence.specs.Handed.{handed};
 ghost use Rattle.sentence.specs.Line.{composed, read_back};
 ghost use Rattle.sentence.specs.Scanning.{candidate};
@@ -55,12 +55,12 @@ fn candidate_of(order: Order, line: &[u8]) -> Why
     let dues = s.dues;
     if is_job_line(line) {
         return Why {
-            tightness: Tightness::Tight(Reason::Job(s.first, time_of(order, s.first))),
+            reason: Some(Reason::Job(s.first, time_of(order, s.first))),
             dues: [0i32; 16],
         };
     }
     Why {
-        tightness: Tightness::Tight(Reason::Stairs(s.done / 2)),
+        reason: Some(Reason::Stairs(s.done / 2)),
         dues,
     }
 }
@@ -97,10 +97,10 @@ fn has_line(order: Order, bound: i32, why: Why, line: &[u8]) -> bool
 
 // That there is none.
 fn no_reason() -> Why
-    ensures { result ≡ record { tightness = Met; dues = sixteen [] } }
+    ensures { result ≡ record { reason = None; dues = sixteen [] } }
 {
     Why {
-        tightness: Tightness::Met,
+        reason: None,
         dues: [0i32; 16],
     }
 }

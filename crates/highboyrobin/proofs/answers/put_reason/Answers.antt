@@ -7,7 +7,7 @@ use Rattle.highboyrobin.proofs.answers.put_reason.Goals as goal
 
 pub put_three-requires : goal.put_three-requires
 put_three-requires c = (
-  omega (arith, kind-small c.args.why.tightness, c.kind_of.ensures),
+  omega (arith, kind-small c.args.why.reason, c.kind_of.ensures),
   omega (arith, c.requires.0, c.which_of.ensures),
   omega (arith, c.requires.1, c.time_of.ensures),
   omega (arith, c.requires.2),

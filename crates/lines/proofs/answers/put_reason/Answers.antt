@@ -1,3 +1,4 @@
+use Rattle.std.specs.Prelude.{Some}
 use mathlib.Core.Path.{ap, ◌∙◌}
 use native.Mathlib.Omega.{arith}
 use lib.IntN.{ℤ}
@@ -6,7 +7,6 @@ use mir.Syntax.{w32}
 use mir.ValLaws.{to_z-of_z}
 use Rattle.order.specs.Refusals.{bound_in_range}
 use Rattle.order.specs.Table.{order_of}
-use Rattle.reason.specs.declared.Tightness.TheVariants.{Tight}
 use Rattle.sentence.specs.Handed.{handed}
 use Rattle.sentence.specs.Line.{composed}
 use Rattle.text.specs.TextLaws.{put_both, put_as, put_first}
@@ -38,7 +38,7 @@ returns c =
     let line = c.put_line-n.ensures in
     let p2 = c.put_bytes-end.ensures in
     let p3 = c.put_bytes.ensures in
-    let same = ap (λ (b : ℤ). composed o b (handed o (record { tightness = Tight c.args.reason; dues = c.args.dues })))
+    let same = ap (λ (b : ℤ). composed o b (handed o (record { reason = Some c.args.reason; dues = c.args.dues })))
     (to_z-of_z w32 c.args.bound c.ranges.bound) in (
       put_both p1.0 (put_both (put_as (put_first line.0 ∙ same) p2) p3),
       omega (arith, p1.1, line.1, line.0.next-is, p2.next-is, p3.next-is, ap length (put_first line.0)),

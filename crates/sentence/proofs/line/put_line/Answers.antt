@@ -1,3 +1,4 @@
+use Rattle.std.specs.Prelude.{Some}
 use mathlib.Core.Path.{sym, ap, ◌∙◌}
 use lib.IntN.{ℤ}
 use mir.Syntax.{w32}
@@ -7,7 +8,6 @@ use Rattle.order.specs.Table.{order_of}
 use Rattle.text.specs.TextLaws.{put-none, put_as}
 use Rattle.sentence.specs.Line.{composed}
 use Rattle.reason.specs.declared.Reason.TheVariants.{Stairs}
-use Rattle.reason.specs.declared.Tightness.TheVariants.{Tight}
 use Rattle.sentence.specs.Handed.{handed_by}
 use Rattle.sentence.specs.Inside.{job_composed}
 use Rattle.sentence.proofs.Handings.{met-none, job-beside, job-handed, stairs-told}
@@ -53,7 +53,7 @@ pub returns-in-Stairs : goal.returns-in-Stairs
 returns-in-Stairs c =
     let q = c.counted_line.ensures in
     let o = order_of c.args.order in (
-      put_as (ap (λ (b : ℤ). composed o b (handed_by o (Tight (Stairs c.in-Stairs.count)) c.args.why.dues))
+      put_as (ap (λ (b : ℤ). composed o b (handed_by o (Some (Stairs c.in-Stairs.count)) c.args.why.dues))
           (to_z-of_z w32 c.args.bound c.ranges.bound)
           ∙ stairs-told o c.args.bound c.args.why c.in-Tight.reason c.in-Tight.is c.in-Stairs.count c.in-Stairs.is) q.0,
       q.1,
