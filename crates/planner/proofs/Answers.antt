@@ -1,6 +1,6 @@
 -- How the planner puts its answers together: a refusal stands whatever rows follow, 10 comes with its reason, and where the table
 -- accepts a plan was written.
-use Rattle.std.specs.Prelude.{Option, None, Some}
+use Rattle.std.specs.Prelude.{Option, None, Some, Result, Ok, Err}
 use Prim.Native.Nat.{ℕ, ◌/◌, ◌≤◌, ◌<◌}
 use mathlib.Core.Path.{◌≡◌, refl, sym, ap, ◌∙◌, subst}
 use mathlib.Core.Bool.{Bool, true, false, not}
@@ -35,10 +35,8 @@ use Rattle.order.proofs.RefusalLaws.{
   whole-clear,
   accepted-iff,
 }
-use Rattle.order.specs.Table.{refusal_told, acceptance_told}
+use Rattle.order.specs.Table.{Acceptance, refusal_told, acceptance_told}
 use Rattle.order.proofs.TableLaws.{refused-told}
-use Rattle.order.specs.declared.Acceptance.{Acceptance}
-use Rattle.order.specs.declared.Acceptance.TheVariants.{Accepted as Accepts, Refused as Refuses}
 use Rattle.order.specs.declared.Refusal.{Refusal}
 use Rattle.order.specs.declared.Refusal.TheVariants.{BoundOutOfRange, BufferTooShort}
 use Rattle.plan.specs.IsLeast.{IsLeast}
@@ -46,7 +44,7 @@ use Rattle.profile.specs.Least.{least_lateness}
 use Rattle.profile.specs.Reason.{Reason, over_end, stairs}
 use Rattle.profile.proofs.ReasonLaws.{NoReason, reason-none}
 use Rattle.profile.specs.Search.{Found, nothing, found, reason_of}
-use Rattle.reason.specs.Told.{sixteen, why_of, why_told}
+use Rattle.reason.specs.Told.{why_of}
 use Rattle.reason.specs.ToldLaws.{why-told}
 use Rattle.order.specs.Lead.{reach_at, bound_at, last_due}
 use Rattle.reason.specs.Asked.{told_of, least_reach_of}
@@ -59,8 +57,8 @@ use Rattle.reason.specs.declared.Why.{Why}
 use Rattle.planner.specs.DemandMet.{not_found}
 use Rattle.planner.specs.AnswerLaws.{carried_none, plan-begins}
 use Rattle.planner.specs.Rows.{rows_asked, buffer_row, is_found, least_rows, earlier_rows, plan_rows}
-use Rattle.planner.specs.Told.{planned_told, rows_of, reason_carried, tightness_of, why_in, ReasonTold, least_told, least_count, LeastIn}
-use Rattle.planner.specs.Judged.{judged_told, tightness_judged, why_judged, JudgedAt, JudgedLeast}
+use Rattle.planner.specs.Told.{planned_told, rows_of, reason_carried, ReasonTold, least_told, least_count, LeastIn}
+use Rattle.planner.specs.Judged.{JudgedAt, JudgedLeast}
 use Rattle.planner.specs.Written.{Written, BufferBy}
 use Rattle.planner.specs.Making.{MadeOf}
 use Rattle.profile.specs.LeastRead.{read-least}
@@ -70,15 +68,9 @@ use Rattle.profile.proofs.Threshold.{no-reason-from}
 use lib.Signed.{≤ℤ_refl}
 use mir.Val.{to_z, of_z}
 use mir.Syntax.{w32}
-use Rattle.planner.specs.declared.BoundJudged.{BoundJudged}
-use Rattle.planner.specs.declared.Judgement.{Judgement}
-use Rattle.planner.specs.declared.Judgement.TheVariants.{Refused as Refuse, Tight as Tighten, Open}
-use Rattle.planner.specs.declared.LeastJudged.{LeastJudged}
 use Rattle.planner.specs.declared.Least.{Least}
-use Rattle.planner.specs.declared.Least.TheVariants.{At, Refused as LeastRefused}
-use Rattle.planner.specs.declared.PlanAnswer.{PlanAnswer}
-use Rattle.planner.specs.declared.Planned.{Planned}
-use Rattle.planner.specs.declared.Planned.TheVariants.{Rows, Tight, Refused}
+use Rattle.planner.specs.declared.NoPlan.{NoPlan}
+use Rattle.planner.specs.declared.NoPlan.TheVariants.{Refused, TooTight}
 
 -- a refusal leaves the buffer
 buffer-kept : (rf : Refusal) (o : Order) (bound : ℤ) (entry : List ℕ) → BufferBy (refusal_told rf) o bound entry entry 0
@@ -93,11 +85,11 @@ stands rows later rf e =
     t.2 ∙ sym (judge-refused-append rows later t.0 t.1 (sym e ∙ t.2))
 
 -- what acceptance says of the first rows
-pub order-refused : (o : Order) (a : Acceptance) (rf : Refusal) → acceptance_told a ≡ judge (order_rows limits o) → a ≡ Refuses rf →
+pub order-refused : (o : Order) (a : Acceptance) (rf : Refusal) → acceptance_told a ≡ judge (order_rows limits o) → a ≡ Err rf →
     refusal_told rf ≡ judge (order_rows limits o)
 order-refused o a rf e is = sym (ap acceptance_told is) ∙ e
 
-pub order-accepted : (o : Order) (a : Acceptance) → acceptance_told a ≡ judge (order_rows limits o) → a ≡ Accepts → Accepted o
+pub order-accepted : (o : Order) (a : Acceptance) → acceptance_told a ≡ judge (order_rows limits o) → a ≡ Ok tt → Accepted o
 order-accepted o a e is = sym e ∙ ap acceptance_told is
 
 -- what is told is tight exactly where there is a reason
@@ -118,10 +110,10 @@ pub classes-few : (o : Order) {t : Table} → Tabled last_due o t → length (cl
 classes-few o m = omega (arith, m.classed, m.few-classes)
 
 -- what an answer at a bound has to hold, by what the table answers
-abbrev pub EnsuredBy : Verdict → Order → ℤ → List ℕ → List ℕ → PlanAnswer → Type 0
+abbrev pub EnsuredBy : Verdict → Order → ℤ → List ℕ → List ℕ → Result ℕ NoPlan → Type 0
 EnsuredBy v o bound entry exit r =
-    (planned_told r.planned ≡ answer_by v (rows_of r.planned))
-    × (ReasonTold o (reason_carried v (reason_of o bound)) r × BufferBy v o bound entry exit (rows_of r.planned))
+    (planned_told r ≡ answer_by v (rows_of r))
+    × (ReasonTold o (reason_carried v (reason_of o bound)) r × BufferBy v o bound entry exit (rows_of r))
 
 -- the verdicts, row by row
 module _ (o : Order) (bound : ℤ) (n : ℕ) where
@@ -154,101 +146,66 @@ module _ (o : Order) (bound : ℤ) (n : ℕ) where
         pub last_row : judge (plan_rows o bound n) ≡ judge (tight_row (is_found (reason_of o bound)) ∷ [])
         unfolding plan_rows
         last_row = judge-accepted-append (earlier_rows o bound n) _ earlier
-        -- what judge_bound ensures
 
-  pub refused-judged : (rf : Refusal) → refusal_told rf ≡ judge (plan_rows o bound n) → (r : BoundJudged) →
-      r.judgement ≡ Refuse rf → r.dues ≡ sixteen [] → JudgedAt o bound n r
-  refused-judged rf v r e f =
-      let none : nothing ≡ reason_carried (judge (plan_rows o bound n)) (reason_of o bound)
-      = sym (carried_none rf (reason_of o bound)) ∙ ap (λ (v : Verdict). reason_carried v (reason_of o bound)) v in
-      let is : why_judged r ≡ why_of o nothing
-      = ap (λ (j : Judgement). record { reason = tightness_judged j; dues = r.dues }) e
-      ∙ ap (λ (ds : List ℤ). record { reason = None; dues = ds }) f in
-      record {
-        verdict = ap judged_told e ∙ v;
-        reason-told = ap why_told is ∙ none;
-        reason-whole = is ∙ ap (why_of o) none;
-        table_is = λ h. let z : ◌≡◌ {A = ℕ} 0 1 = cc (sym e ∙ h) in absurd (omega arith);
-      }
+  -- what judge_bound ensures
+  module _ (r : Result Table NoPlan) where
+    pub refused-judged : (rf : Refusal) → refusal_told rf ≡ judge (plan_rows o bound n) → r ≡ Err (Refused rf) → JudgedAt o bound n r
+    refused-judged rf v e =
+        let none : nothing ≡ reason_carried (judge (plan_rows o bound n)) (reason_of o bound)
+        = sym (carried_none rf (reason_of o bound)) ∙ ap (λ (v : Verdict). reason_carried v (reason_of o bound)) v in
+        rw e (record { verdict = v; reason-told = (none, ap (why_of o) none); table_is = tt })
 
-  module _ (ok : Accepted o) (in-range : bound_in_range bound ≡ true) (room : rows_asked o ≤ n / 4) (t : Table) (m : Tabled last_due o t)
-      (w : Why) (f : w ≡ why_of o (reason_of o bound)) where
-    pub tight-judged : (r : CodeReason) → w.reason ≡ Some r →
-        JudgedAt o bound n (record { judgement = Tighten r; dues = w.dues; table = t })
-    unfolding judge
-    tight-judged r h =
-        let is : record { reason = Some r; dues = w.dues } ≡ w
-        = ap (λ (t : Option Reason). record { reason = t; dues = w.dues }) (sym h) in
-        let v : judge (plan_rows o bound n) ≡ refused 10 0
-        = last_row ok in-range room ∙ rw (tight-found o (reason_of o bound) r (sym (ap (λ (w : Why). w.reason) f) ∙ h)) in
-        record {
-          verdict = sym v;
-          reason-told = rw v (why-told o bound (classes-few o m) _ (is ∙ f));
-          reason-whole = rw v (is ∙ f);
-          table_is = λ h. let z : ◌≡◌ {A = ℕ} 0 1 = cc in absurd (omega arith);
-        }
+    module _ (ok : Accepted o) (in-range : bound_in_range bound ≡ true) (room : rows_asked o ≤ n / 4) (t : Table)
+        (m : Tabled last_due o t) (w : Why) (f : w ≡ why_of o (reason_of o bound)) where
+      pub tight-judged : (reason : CodeReason) → w.reason ≡ Some reason → r ≡ Err (TooTight reason w.dues) → JudgedAt o bound n r
+      unfolding judge
+      tight-judged reason h e =
+          let is : record { reason = Some reason; dues = w.dues } ≡ w
+          = ap (λ (t : Option CodeReason). record { reason = t; dues = w.dues }) (sym h) in
+          let v : judge (plan_rows o bound n) ≡ refused 10 0
+          = last_row ok in-range room ∙ rw (tight-found o (reason_of o bound) reason (sym (ap (λ (w : Why). w.reason) f) ∙ h)) in
+          rw e (record {
+            verdict = sym v;
+            reason-told = rw v (why-told o bound (classes-few o m) _ (is ∙ f), is ∙ f);
+            table_is = tt;
+          })
 
-    pub open-judged : w.reason ≡ None → JudgedAt o bound n (record { judgement = Open; dues = w.dues; table = t })
-    unfolding judge
-    open-judged h =
-        let none = told-met o (reason_of o bound) w f h in
-        let is : record { reason = None; dues = w.dues } ≡ w
-        = ap (λ (t : Option Reason). record { reason = t; dues = w.dues }) (sym h) in
-        let v : judge (plan_rows o bound n) ≡ accepted = last_row ok in-range room ∙ rw none in
-        record {
-          verdict = sym v;
-          reason-told = rw v;
-          reason-whole = rw v (is ∙ f ∙ ap (why_of o) none);
-          table_is = λ h. m;
-        }
+      pub open-judged : w.reason ≡ None → r ≡ Ok t → JudgedAt o bound n r
+      unfolding judge
+      open-judged h e =
+          let none = told-met o (reason_of o bound) w f h in
+          let v : judge (plan_rows o bound n) ≡ accepted = last_row ok in-range room ∙ rw none in
+          rw e (record { verdict = sym v; reason-told = rw v (refl, refl); table_is = m })
 
   -- what plan_at ensures
-  abbrev pub Ensured : List ℕ → List ℕ → PlanAnswer → Type 0
+  abbrev pub Ensured : List ℕ → List ℕ → Result ℕ NoPlan → Type 0
   Ensured entry exit r = EnsuredBy (judge (plan_rows o bound n)) o bound entry exit r
 
-  module _ (r : BoundJudged) (judged : JudgedAt o bound n r) where
-    -- the reason is handed on as it was judged
-    told-on : (p : Planned) → tightness_of p ≡ tightness_judged r.judgement →
-        ReasonTold o (reason_carried (judge (plan_rows o bound n)) (reason_of o bound)) (record { planned = p; dues = r.dues })
-    told-on p e =
-        let is : why_in (record { planned = p; dues = r.dues }) ≡ why_judged r
-        = ap (λ (t : Option Reason). record { reason = t; dues = r.dues }) e in
-        (ap why_told is ∙ judged.reason-told, is ∙ judged.reason-whole)
-
-    pub refused-ensured : (entry : List ℕ) (rf : Refusal) → r.judgement ≡ Refuse rf →
-        Ensured entry entry (record { planned = Refused rf; dues = r.dues })
-    refused-ensured entry rf e =
-        let v : refusal_told rf ≡ judge (plan_rows o bound n) = sym (ap judged_told e) ∙ judged.verdict in (
-          ap (λ (v : Verdict). answer_by v 0) v,
-          (
-            told-on (Refused rf) (sym (ap tightness_judged e)),
-            subst (λ (v : Verdict). BufferBy v o bound entry entry 0) v (buffer-kept rf o bound entry),
-          ),
+  module _ (r : Result Table NoPlan) (judged : JudgedAt o bound n r) where
+    -- what refuses the judgement is handed on
+    pub refused-ensured : (entry : List ℕ) (no_plan : NoPlan) → r ≡ Err no_plan → Ensured entry entry (Err no_plan)
+    refused-ensured entry (Refused rf) e =
+        let j = subst (JudgedAt o bound n) e judged in (
+          ap (λ (v : Verdict). answer_by v 0) j.verdict,
+          (j.reason-told, subst (λ (v : Verdict). BufferBy v o bound entry entry 0) j.verdict (buffer-kept rf o bound entry)),
+        )
+    refused-ensured entry (TooTight reason dues) e =
+        let j = subst (JudgedAt o bound n) e judged in (
+          ap (λ (v : Verdict). answer_by v 0) j.verdict,
+          (j.reason-told, subst (λ (v : Verdict). BufferBy v o bound entry entry 0) j.verdict (refl, refl)),
         )
 
-    pub tight-ensured : (entry : List ℕ) (reason : CodeReason) → r.judgement ≡ Tighten reason →
-        Ensured entry entry (record { planned = Tight reason; dues = r.dues })
-    tight-ensured entry reason e =
-        let v : refused 10 0 ≡ judge (plan_rows o bound n) = sym (ap judged_told e) ∙ judged.verdict in (
-          ap (λ (v : Verdict). answer_by v 0) v,
-          (
-            told-on (Tight reason) (sym (ap tightness_judged e)),
-            subst (λ (v : Verdict). BufferBy v o bound entry entry 0) v (refl, refl),
-          ),
-        )
+    module _ (t : Table) (e : r ≡ Ok t) where
+      abbrev at : JudgedAt o bound n (Ok t)
+      at = subst (JudgedAt o bound n) e judged
 
-    module _ (e : r.judgement ≡ Open) where
       pub opened : judge (plan_rows o bound n) ≡ accepted
-      opened = sym judged.verdict ∙ ap judged_told e
+      opened = sym at.verdict
 
-      pub rows-ensured : (entry exit : List ℕ) (count : ℕ) → Written o bound entry exit count →
-          Ensured entry exit (record { planned = Rows count; dues = r.dues })
+      pub rows-ensured : (entry exit : List ℕ) (count : ℕ) → Written o bound entry exit count → Ensured entry exit (Ok count)
       rows-ensured entry exit count written = (
         ap (λ (v : Verdict). answer_by v count) (sym opened),
-        (
-          told-on (Rows count) (sym (ap tightness_judged e)),
-          subst (λ (v : Verdict). BufferBy v o bound entry exit count) (sym opened) written,
-        ),
+        (at.reason-told, subst (λ (v : Verdict). BufferBy v o bound entry exit count) (sym opened) written),
       )
 
       -- what planning goes on with
@@ -273,60 +230,55 @@ module _ (o : Order) (bound : ℤ) (n : ℕ) where
       reason-good : NoReason o bound
       reason-good = (reason-none o bound).0 (not_found (reason_of o bound) (whole-clear _ rows-clear.1.1.0))
 
-      pub made : MadeOf o r.table bound n
+      pub made : MadeOf o t bound n
       made =
           record {
             accepted = order-good;
             bound-good = bound-good;
             no-reason = reason-good;
             room = omega (arith, room-good);
-            tabled = judged.table_is e;
+            tabled = at.table_is;
           }
 
 -- what judge_least ensures
-module _ (o : Order) (n : ℕ) where
-  pub least-refused-judged : (rf : Refusal) → refusal_told rf ≡ judge (least_rows o n) → (r : LeastJudged) → r.status ≡ Refuses rf →
-      JudgedLeast o n r
-  least-refused-judged rf v r e =
-      record {
-        verdict = ap acceptance_told e ∙ v;
-        table_is = λ h. let z : ◌≡◌ {A = ℕ} 0 1 = cc (sym e ∙ h) in absurd (omega arith);
-      }
+module _ (o : Order) (n : ℕ) (r : Result Table Refusal) where
+  pub least-refused-judged : (rf : Refusal) → refusal_told rf ≡ judge (least_rows o n) → r ≡ Err rf → JudgedLeast o n r
+  least-refused-judged rf v e = rw e (record { verdict = v; table_is = tt })
 
+  pub least-open : Accepted o → rows_asked o ≤ n / 4 → (t : Table) → Tabled last_due o t → r ≡ Ok t → JudgedLeast o n r
+  unfolding least_rows judge
+  least-open ok room t m e =
+      rw e (record {
+        verdict =
+            sym (judge-accepted-append (order_rows limits o) (buffer_row o n ∷ []) ok
+            ∙ rw (le-ltb (n / 4) (rows_asked o) room));
+        table_is = m;
+      })
+
+module _ (o : Order) (n : ℕ) where
   pub least-refused-first : (rf : Refusal) → refusal_told rf ≡ judge (order_rows limits o) → refusal_told rf ≡ judge (least_rows o n)
   unfolding least_rows
   least-refused-first rf e = stands (order_rows limits o) (buffer_row o n ∷ []) rf e
 
-  module _ (ok : Accepted o) where
-    pub least-refused-9 : n / 4 < rows_asked o → refused 9 0 ≡ judge (least_rows o n)
-    unfolding least_rows judge
-    least-refused-9 h =
-        sym (judge-accepted-append (order_rows limits o) (buffer_row o n ∷ []) ok ∙ rw (lt-ltb (n / 4) (rows_asked o) h))
-
-    pub least-open : rows_asked o ≤ n / 4 → (t : Table) → Tabled last_due o t → JudgedLeast o n (record { status = Accepts; table = t })
-    unfolding least_rows judge
-    least-open room t m =
-        record {
-          verdict =
-              sym (judge-accepted-append (order_rows limits o) (buffer_row o n ∷ []) ok
-              ∙ rw (le-ltb (n / 4) (rows_asked o) room));
-          table_is = λ h. m;
-        }
+  pub least-refused-9 : Accepted o → n / 4 < rows_asked o → refused 9 0 ≡ judge (least_rows o n)
+  unfolding least_rows judge
+  least-refused-9 ok h =
+      sym (judge-accepted-append (order_rows limits o) (buffer_row o n ∷ []) ok ∙ rw (lt-ltb (n / 4) (rows_asked o) h))
 
 -- what least_lateness ensures
-abbrev pub LeastEnsuredBy : Verdict → Order → List ℕ → List ℕ → Least → Type 0
+abbrev pub LeastEnsuredBy : Verdict → Order → List ℕ → List ℕ → Result Least Refusal → Type 0
 LeastEnsuredBy v o entry exit r =
     (least_told r ≡ answer_by v (least_lateness o)) × (LeastIn o r × BufferBy v o (least_lateness o) entry exit (least_count r))
 
 module _ (o : Order) (n : ℕ) where
-  abbrev pub LeastEnsured : List ℕ → List ℕ → Least → Type 0
+  abbrev pub LeastEnsured : List ℕ → List ℕ → Result Least Refusal → Type 0
   LeastEnsured entry exit r = LeastEnsuredBy (judge (least_rows o n)) o entry exit r
 
-  module _ (r : LeastJudged) (judged : JudgedLeast o n r) where
-    pub least-refused : (entry : List ℕ) (rf : Refusal) → r.status ≡ Refuses rf → LeastEnsured entry entry (LeastRefused rf)
+  module _ (r : Result Table Refusal) (judged : JudgedLeast o n r) where
+    pub least-refused : (entry : List ℕ) (rf : Refusal) → r ≡ Err rf → LeastEnsured entry entry (Err rf)
     least-refused entry rf e =
         let t = refused-told rf in
-        let v : refusal_told rf ≡ judge (least_rows o n) = sym (ap acceptance_told e) ∙ judged.verdict in (
+        let v : refusal_told rf ≡ judge (least_rows o n) = (subst (JudgedLeast o n) e judged).verdict in (
           rw (t.2, sym v ∙ t.2),
           (
             tt,
@@ -334,9 +286,12 @@ module _ (o : Order) (n : ℕ) where
           ),
         )
 
-    module _ (e : r.status ≡ Accepts) where
+    module _ (t : Table) (e : r ≡ Ok t) where
       pub least-opened : judge (least_rows o n) ≡ accepted
-      least-opened = sym judged.verdict ∙ ap acceptance_told e
+      least-opened = sym (subst (JudgedLeast o n) e judged).verdict
+
+      pub least-tabled : Tabled last_due o t
+      least-tabled = (subst (JudgedLeast o n) e judged).table_is
 
       pub least-order-good : Accepted o
       unfolding least_rows
@@ -349,9 +304,9 @@ module _ (o : Order) (n : ℕ) where
           (whole-clear _ ((judge-accepted (buffer_row o n ∷ [])).0
           (sym (judge-accepted-append (order_rows limits o) (buffer_row o n ∷ []) least-order-good) ∙ least-opened)).0)
 
-      pub least-ensured : IsLeast o (least_lateness o) → (entry exit : List ℕ) (count : ℕ) (z : ℤ) →
-          z ≡ least_lateness o → Written o (least_lateness o) entry exit count → LeastEnsured entry exit (At z count)
-      least-ensured least entry exit count z f written = rw (least-opened, f) (refl, (least, written))
+      pub least-ensured : IsLeast o (least_lateness o) → (entry exit : List ℕ) (k : Least) →
+          k.lateness ≡ least_lateness o → Written o (least_lateness o) entry exit k.rows → LeastEnsured entry exit (Ok k)
+      least-ensured least entry exit k f written = rw (least-opened, f) (refl, (least, written))
 
 -- what the test of the bound says, of the bound as passed and as read back
 module _ (bound read : ℤ) (same : read ≡ bound) (b : Bool) (e : b ≡ bound_in_range read) where
@@ -380,22 +335,22 @@ module _ (o : Order) (a : Accepted o) (t : Table) (m : Tabled last_due o t) wher
   unfolding least_lateness
   least-told z e = e ∙ ap (bound_at last_due) (sym (reach-same o t m))
 
-pub judged-at : {o : Order} {bound read : ℤ} {n : ℕ} {r : BoundJudged} → read ≡ bound → JudgedAt o read n r → JudgedAt o bound n r
+pub judged-at : {o : Order} {bound read : ℤ} {n : ℕ} {r : Result Table NoPlan} → read ≡ bound → JudgedAt o read n r → JudgedAt o bound n r
 judged-at {o} {bound} {read} {n} {r} e judged = subst (λ (z : ℤ). JudgedAt o z n r) e judged
 
 -- the least lateness, as the machine reads it, may be planned at
-pub least-made : (o : Order) (n : ℕ) (r : LeastJudged) → JudgedLeast o n r → r.status ≡ Accepts → (z : ℤ) →
-    z ≡ bound_at last_due (least_reach_of r.table) → MadeOf o r.table (to_z w32 (of_z w32 z)) n
+pub least-made : (o : Order) (n : ℕ) (r : Result Table Refusal) → JudgedLeast o n r → (t : Table) → r ≡ Ok t → (z : ℤ) →
+    z ≡ bound_at last_due (least_reach_of t) → MadeOf o t (to_z w32 (of_z w32 z)) n
 unfolding least_lateness
-least-made o n r judged e z is =
-    let ok = least-order-good o n r judged e in
-    let m = judged.table_is e in
-    let read = read-least z (least_lateness o) (least-told o ok r.table m z is) (least-in-range o ok) in
+least-made o n r judged t e z is =
+    let ok = least-order-good o n r judged t e in
+    let m = least-tabled o n r judged t e in
+    let read = read-least z (least_lateness o) (least-told o ok t m z is) (least-in-range o ok) in
     record {
       accepted = ok;
       bound-good = ap bound_in_range read ∙ least-in-range o ok;
       no-reason = subst (NoReason o) (sym read)
           (no-reason-from last_due o (workable o ((accepted-iff o).0 ok)) (least_lateness o) (≤ℤ_refl (least_lateness o)));
-      room = omega (arith, least-room-good o n r judged e);
+      room = omega (arith, least-room-good o n r judged t e);
       tabled = m;
     }

@@ -1,6 +1,6 @@
 -- What the planner's answers say of the verdict and of the lent rows. The order is told twice, as it was read and as the file has
 -- it, and the bound as it was passed and as the machine reads it back.
-use Rattle.std.specs.Prelude.{ℕ, ◌≡◌, refl, false, List, [], ◌∷◌, ◌++◌, eqb, ℤ, length}
+use Rattle.std.specs.Prelude.{ℕ, ◌≡◌, refl, false, List, [], ◌∷◌, ◌++◌, eqb, ℤ, length, Result, Ok, Err}
 use Rattle.std.proofs.Common.{sym, ap, ◌∙◌, subst, append_assoc}
 use Rattle.order.specs.Order.{Order}
 use Rattle.order.specs.Refusals.{limits, TableRow, Verdict, accepted, refused, judge, answer_by, order_rows, bound_row, tight_row}
@@ -15,9 +15,8 @@ use Rattle.planner.specs.Rows.{buffer_row, is_found, least_rows, earlier_rows, p
 use Rattle.planner.specs.Told.{planned_told, rows_of, reason_carried, least_told, least_count}
 use Rattle.planner.specs.Written.{Written, BufferBy}
 use Rattle.planner.specs.declared.Least.{Least}
-use Rattle.planner.specs.declared.Least.TheVariants.{At, Refused as LeastRefused}
-use Rattle.planner.specs.declared.Planned.{Planned}
-use Rattle.planner.specs.declared.Planned.TheVariants.{Rows, Tight, Refused}
+use Rattle.planner.specs.declared.NoPlan.{NoPlan}
+use Rattle.planner.specs.declared.NoPlan.TheVariants.{Refused, TooTight}
 use Rattle.reason.specs.declared.Reason.{Reason}
 
 -- no refusal of the code is 10, so none comes with a reason
@@ -61,90 +60,90 @@ filled : (v : Verdict) → v ≡ accepted → (o : Order) (bound : ℤ) (rows ro
 filled v e o bound rows rows' count b = rw e at b
 
 -- at a bound, by what a table answers
-abbrev pub PlanToldBy : Verdict → Order → ℤ → List ℕ → List ℕ → Planned → Type 0
+abbrev pub PlanToldBy : Verdict → Order → ℤ → List ℕ → List ℕ → Result ℕ NoPlan → Type 0
 PlanToldBy v o bound rows rows' p = (planned_told p ≡ answer_by v (rows_of p)) × BufferBy v o bound rows rows' (rows_of p)
 
-module _ (v : Verdict) (o : Order) (bound : ℤ) (rows rows' : List ℕ) (p : Planned) (t : PlanToldBy v o bound rows rows' p) where
-  told-as : (q : Planned) → p ≡ q → PlanToldBy v o bound rows rows' q
+module _ (v : Verdict) (o : Order) (bound : ℤ) (rows rows' : List ℕ) (p : Result ℕ NoPlan) (t : PlanToldBy v o bound rows rows' p) where
+  told-as : (q : Result ℕ NoPlan) → p ≡ q → PlanToldBy v o bound rows rows' q
   told-as q e = subst (PlanToldBy v o bound rows rows') e t
 
-  pub refused-by-plan : (why : Refusal) → p ≡ Refused why → (v ≡ refusal_told why) × (rows' ≡ rows)
+  pub refused-by-plan : (why : Refusal) → p ≡ Err (Refused why) → (v ≡ refusal_told why) × (rows' ≡ rows)
   refused-by-plan why e =
-      let u = told-as (Refused why) e in
+      let u = told-as (Err (Refused why)) e in
       let w = verdict-refused v why 0 0 u.0 in
       let r = refused-told why in
       (w, kept v r.0 r.1 (w ∙ r.2) o bound rows rows' 0 u.1)
 
-  pub tight-by-plan : (reason : Reason) → p ≡ Tight reason → (v ≡ refused 10 0) × (rows' ≡ rows)
-  tight-by-plan reason e =
-      let u = told-as (Tight reason) e in
+  pub tight-by-plan : (reason : Reason) (dues : List ℤ) → p ≡ Err (TooTight reason dues) → (v ≡ refused 10 0) × (rows' ≡ rows)
+  tight-by-plan reason dues e =
+      let u = told-as (Err (TooTight reason dues)) e in
       let w = refused-by v 10 0 0 u.0 in
       (w, kept v 10 0 w o bound rows rows' 0 u.1)
 
-  pub rows-by-plan : (count : ℕ) → p ≡ Rows count → (v ≡ accepted) × Written o bound rows rows' count
+  pub rows-by-plan : (count : ℕ) → p ≡ Ok count → (v ≡ accepted) × Written o bound rows rows' count
   rows-by-plan count e =
-      let u = told-as (Rows count) e in
+      let u = told-as (Ok count) e in
       let w = (verdict-accepted v count count u.0).0 in
       (w, filled v w o bound rows rows' count u.1)
 
 -- of the planner without a book
-abbrev pub PlanTold : Order → ℤ → List ℕ → List ℕ → Planned → Type 0
+abbrev pub PlanTold : Order → ℤ → List ℕ → List ℕ → Result ℕ NoPlan → Type 0
 PlanTold o bound rows rows' p = PlanToldBy (judge (plan_rows o bound (length rows))) o bound rows rows' p
 
-pub plan-moved : (o o' : Order) (read bound : ℤ) (rows rows' : List ℕ) (p : Planned) → o ≡ o' → read ≡ bound →
+pub plan-moved : (o o' : Order) (read bound : ℤ) (rows rows' : List ℕ) (p : Result ℕ NoPlan) → o ≡ o' → read ≡ bound →
     PlanTold o read rows rows' p → PlanTold o' bound rows rows' p
 plan-moved o o' read bound rows rows' p e f t =
     subst (λ (z : ℤ). PlanTold o' z rows rows' p) f (subst (λ (x : Order). PlanTold x read rows rows' p) e t)
 
-module _ (o : Order) (bound : ℤ) (rows rows' : List ℕ) (p : Planned) (t : PlanTold o bound rows rows' p) where
+module _ (o : Order) (bound : ℤ) (rows rows' : List ℕ) (p : Result ℕ NoPlan) (t : PlanTold o bound rows rows' p) where
   abbrev v : Verdict
   v = judge (plan_rows o bound (length rows))
 
-  pub planned-refused : (why : Refusal) → p ≡ Refused why → (v ≡ refusal_told why) × (rows' ≡ rows)
+  pub planned-refused : (why : Refusal) → p ≡ Err (Refused why) → (v ≡ refusal_told why) × (rows' ≡ rows)
   planned-refused = refused-by-plan v o bound rows rows' p t
 
-  pub planned-tight : (reason : Reason) → p ≡ Tight reason → (v ≡ refused 10 0) × (rows' ≡ rows)
+  pub planned-tight : (reason : Reason) (dues : List ℤ) → p ≡ Err (TooTight reason dues) → (v ≡ refused 10 0) × (rows' ≡ rows)
   planned-tight = tight-by-plan v o bound rows rows' p t
 
-  pub planned-rows : (count : ℕ) → p ≡ Rows count → (v ≡ accepted) × Written o bound rows rows' count
+  pub planned-rows : (count : ℕ) → p ≡ Ok count → (v ≡ accepted) × Written o bound rows rows' count
   planned-rows = rows-by-plan v o bound rows rows' p t
 
 -- at the least lateness
-abbrev pub LeastToldBy : Verdict → Order → List ℕ → List ℕ → Least → Type 0
+abbrev pub LeastToldBy : Verdict → Order → List ℕ → List ℕ → Result Least Refusal → Type 0
 LeastToldBy v o rows rows' l =
     (least_told l ≡ answer_by v (least_lateness o)) × BufferBy v o (least_lateness o) rows rows' (least_count l)
 
-module _ (v : Verdict) (o : Order) (rows rows' : List ℕ) (l : Least) (t : LeastToldBy v o rows rows' l) where
-  least-as : (k : Least) → l ≡ k → LeastToldBy v o rows rows' k
+module _ (v : Verdict) (o : Order) (rows rows' : List ℕ) (l : Result Least Refusal) (t : LeastToldBy v o rows rows' l) where
+  least-as : (k : Result Least Refusal) → l ≡ k → LeastToldBy v o rows rows' k
   least-as k e = subst (LeastToldBy v o rows rows') e t
 
-  pub refused-by-least : (why : Refusal) → l ≡ LeastRefused why → (v ≡ refusal_told why) × (rows' ≡ rows)
+  pub refused-by-least : (why : Refusal) → l ≡ Err why → (v ≡ refusal_told why) × (rows' ≡ rows)
   refused-by-least why e =
-      let u = least-as (LeastRefused why) e in
+      let u = least-as (Err why) e in
       let x = verdict-refused v why _ _ u.0 in
       let r = refused-told why in
       (x, kept v r.0 r.1 (x ∙ r.2) o _ rows rows' 0 u.1)
 
-  pub at-by-least : (z : ℤ) (count : ℕ) → l ≡ At z count →
-      (v ≡ accepted) × (z ≡ least_lateness o) × Written o (least_lateness o) rows rows' count
-  at-by-least z count e =
-      let u = least-as (At z count) e in
-      let x = verdict-accepted v z (least_lateness o) u.0 in
-      (x.0, x.1, filled v x.0 o _ rows rows' count u.1)
+  pub at-by-least : (k : Least) → l ≡ Ok k →
+      (v ≡ accepted) × (k.lateness ≡ least_lateness o) × Written o (least_lateness o) rows rows' k.rows
+  at-by-least k e =
+      let u = least-as (Ok k) e in
+      let x = verdict-accepted v k.lateness (least_lateness o) u.0 in
+      (x.0, x.1, filled v x.0 o _ rows rows' k.rows u.1)
 
-abbrev pub LeastTold : Order → List ℕ → List ℕ → Least → Type 0
+abbrev pub LeastTold : Order → List ℕ → List ℕ → Result Least Refusal → Type 0
 LeastTold o rows rows' l = LeastToldBy (judge (least_rows o (length rows))) o rows rows' l
 
-pub least-moved : (o o' : Order) (rows rows' : List ℕ) (l : Least) → o ≡ o' → LeastTold o rows rows' l → LeastTold o' rows rows' l
+pub least-moved : (o o' : Order) (rows rows' : List ℕ) (l : Result Least Refusal) → o ≡ o' → LeastTold o rows rows' l → LeastTold o' rows rows' l
 least-moved o o' rows rows' l e t = subst (λ (x : Order). LeastTold x rows rows' l) e t
 
-module _ (o : Order) (rows rows' : List ℕ) (l : Least) (t : LeastTold o rows rows' l) where
+module _ (o : Order) (rows rows' : List ℕ) (l : Result Least Refusal) (t : LeastTold o rows rows' l) where
   abbrev w : Verdict
   w = judge (least_rows o (length rows))
 
-  pub least-refused : (why : Refusal) → l ≡ LeastRefused why → (w ≡ refusal_told why) × (rows' ≡ rows)
+  pub least-refused : (why : Refusal) → l ≡ Err why → (w ≡ refusal_told why) × (rows' ≡ rows)
   least-refused = refused-by-least w o rows rows' l t
 
-  pub least_at : (z : ℤ) (count : ℕ) → l ≡ At z count →
-      (w ≡ accepted) × (z ≡ least_lateness o) × Written o (least_lateness o) rows rows' count
+  pub least_at : (k : Least) → l ≡ Ok k →
+      (w ≡ accepted) × (k.lateness ≡ least_lateness o) × Written o (least_lateness o) rows rows' k.rows
   least_at = at-by-least w o rows rows' l t

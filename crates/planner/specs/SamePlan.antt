@@ -1,8 +1,7 @@
 -- Document 02, §8, of the planner: "For every order the least lateness, reasons, refusals and rows are equal to those of the input-order
 -- table." Least lateness and reasons stand in reason/specs/SameTold.antt; acceptance and the bound are judged of the order itself, 9 and 10
 -- of the table.
-use Rattle.std.specs.Prelude.{Option, None, Some}
-use Rattle.std.specs.Prelude.{ℕ, ◌+◌, ◌-◌, ◌*◌, ◌/◌, ◌≡◌, refl, Bool, true, false, List, [], ◌∷◌, ◌↔◌, ℤ, length, get_or, replicate}
+use Rattle.std.specs.Prelude.{ℕ, ◌+◌, ◌-◌, ◌*◌, ◌/◌, ◌≡◌, refl, Bool, true, false, List, [], ◌∷◌, ◌↔◌, ℤ, Option, None, Some, length, get_or, replicate}
 use Rattle.std.proofs.Common.{sym, ap, ◌∙◌}
 use Rattle.std.proofs.lemmas.List.{get_or-replicate}
 use Rattle.sums.specs.Lists.{tabulate}
@@ -25,6 +24,7 @@ use Rattle.allot.specs.InFrame.{Agrees}
 use Rattle.allot.specs.SameRows.{over, ends_from, LentNumbers, frame_of, RowsFrom, RowsIn, rows-one, rows_in, rows-carried}
 use Rattle.reason.specs.Asked.{told_of, told_in_order}
 use Rattle.reason.specs.SameTold.{reason-same}
+use Rattle.reason.specs.declared.Reason.{Reason}
 use Rattle.reason.specs.declared.Why.{Why}
 use Rattle.planner.specs.Written.{Written}
 

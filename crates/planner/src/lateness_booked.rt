@@ -9,44 +9,29 @@ ghost use Rattle.planner.specs.Rows.{booked_least_rows};
 ghost use Rattle.planner.specs.Written.{BufferBy};
 ghost use Rattle.planner.specs.Told.{least_told, least_count, LeastIn};
 
+use super::Least;
 use super::judging::judge_least;
 use super::making::make_plan;
-use super::{Least, LeastBooked};
 use book::Book;
 use book::minutes::book_order;
-use order::{Acceptance, Order, Refusal};
+use order::{Order, Refusal};
+use reason::tell::least_in;
 
-// An answer with the book that is given back.
-fn give(least: Least, book: Book) -> LeastBooked
-    ensures { result ≡ record { least = least; book = book } }
-{
-    LeastBooked { least, book }
-}
-
-// The least lateness, with a right plan at it in the lent buffer, and the book with its minutes.
-pub fn least_booked(order: Order, rows: &mut [u32], book: Book) -> LeastBooked
-    ensures least_value { least_told result.least
-        ≡ answer_by (judge (booked_least_rows (order_of order) (length rows.old) book.counts))
+// The least lateness, with a right plan at it in the lent buffer, and its minutes in the book.
+pub fn least_booked(order: Order, rows: &mut [u32], book: &mut Book) -> Result<Least, Refusal>
+    ensures least_value { least_told result
+        ≡ answer_by (judge (booked_least_rows (order_of order) (length rows.old) book.old.counts))
         (least_lateness (order_of order)) }
-    ensures least_in { LeastIn (order_of order) result.least }
-    ensures buffer_by { BufferBy (judge (booked_least_rows (order_of order) (length rows.old) book.counts))
-        (order_of order) (least_lateness (order_of order)) rows.old rows.new (least_count result.least) }
-    ensures counts_value { result.book.counts
-        ≡ booked_by (judge (booked_least_rows (order_of order) (length rows.old) book.counts))
-        (order_of order) book.counts }
+    ensures least_in { LeastIn (order_of order) result }
+    ensures buffer_by { BufferBy (judge (booked_least_rows (order_of order) (length rows.old) book.old.counts))
+        (order_of order) (least_lateness (order_of order)) rows.old rows.new (least_count result) }
+    ensures counts_value { book.new.counts
+        ≡ booked_by (judge (booked_least_rows (order_of order) (length rows.old) book.old.counts))
+        (order_of order) book.old.counts }
 {
-    let judged = judge_least(order, rows.len());
-    let status = judged.status;
-    if let Acceptance::Refused(refusal) = status {
-        return give(Least::Refused(refusal), book);
-    }
-    let booking = book_order(order, book);
-    if booking.full {
-        return give(Least::Refused(Refusal::BookFull), book);
-    }
-    let after = booking.book;
-    let table = judged.table;
-    let lateness = reason::tell::least_in(table);
-    let count = make_plan(table, lateness, rows);
-    give(Least::At(lateness, count as u32), after)
+    let table = judge_least(order, rows.len())?;
+    *book = book_order(order, *book)?;
+    let lateness = least_in(table);
+    let rows = make_plan(table, lateness, rows) as u32;
+    Ok(Least { lateness, rows })
 }

@@ -2,10 +2,8 @@
 // minutes booked per maker (document 02, §4).
 #![tactic(auto)]
 
-use book::Book;
-use order::{Acceptance, Refusal};
+use order::Refusal;
 use reason::Reason;
-use table::Table;
 
 pub mod bound; // plan_at
 pub mod bound_booked; // plan_booked
@@ -15,60 +13,28 @@ pub mod lateness_booked; // least_booked
 mod making; // a plan where there is no reason against the bound
 pub mod room; // rows_asked
 
-// The least lateness and the number of rows written, or why there is none.
+// The least lateness, and the number of rows of the plan at it.
 #[derive(Clone, Copy)]
-pub enum Least {
-    At(i32, u32),
+pub struct Least {
+    pub lateness: i32,
+    pub rows: u32,
+}
+
+// Why no plan was written at a bound: the order or the call is refused, or the bound is too tight, for this reason with the due times of
+// a staircase beside it, 0 beyond.
+#[derive(Clone, Copy)]
+pub enum NoPlan {
     Refused(Refusal),
+    TooTight(Reason, [i32; 16]),
 }
 
-// The number of rows written; or why the bound is too tight; or why it was not judged.
-#[derive(Clone, Copy)]
-pub enum Planned {
-    Rows(u32),
-    Tight(Reason),
-    Refused(Refusal),
-}
+impl From<Refusal> for NoPlan {
+    ghost use Rattle.std.specs.Prelude.{◌≡◌};
+    ghost use Rattle.planner.specs.declared.NoPlan.{NoPlan};
 
-// Whether a plan is to be written: not where it is refused or the bound too tight.
-#[derive(Clone, Copy)]
-pub enum Judgement {
-    Refused(Refusal),
-    Tight(Reason),
-    Open,
-}
+    ghost from_gives = { λ refusal no_plan. no_plan ≡ NoPlan.Refused refusal };
 
-// The judgement at a bound; beside it the due times of a staircase, 0 beyond, and the table where a plan is to be written.
-#[derive(Clone, Copy)]
-pub struct BoundJudged {
-    pub judgement: Judgement,
-    pub dues: [i32; 16],
-    pub table: Table,
-}
-
-// The judgement where no bound is asked, and the table where a plan is to be written.
-#[derive(Clone, Copy)]
-pub struct LeastJudged {
-    pub status: Acceptance,
-    pub table: Table,
-}
-
-// The answer at a bound, and beside it the due times of a staircase; 0 beyond.
-#[derive(Clone, Copy)]
-pub struct PlanAnswer {
-    pub planned: Planned,
-    pub dues: [i32; 16],
-}
-
-// The same answers, with the book that is given back.
-#[derive(Clone, Copy)]
-pub struct PlanBooked {
-    pub answer: PlanAnswer,
-    pub book: Book,
-}
-
-#[derive(Clone, Copy)]
-pub struct LeastBooked {
-    pub least: Least,
-    pub book: Book,
+    fn from(refusal: Refusal) -> NoPlan {
+        NoPlan::Refused(refusal)
+    }
 }

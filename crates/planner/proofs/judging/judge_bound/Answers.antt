@@ -1,5 +1,4 @@
-use Prim.Native.Nat.{◌/◌, ◌≤◌}
-use mathlib.Core.Path.{sym, ◌∙◌}
+use Rattle.std.proofs.Common.{rules, ◌≡◌, ◌/◌, ◌≤◌, Err, refl, sym, ◌∙◌}
 use borrow.Author.Tests.{ltb-true, ltb-false}
 use mir.Syntax.{w32}
 use mir.ValLaws.{to_z-of_z}
@@ -8,6 +7,7 @@ use Rattle.order.specs.Table.{order_of}
 use Rattle.order.specs.declared.Refusal.TheVariants.{BoundOutOfRange, BufferTooShort}
 use Rattle.table.specs.Making.{fine_of}
 use Rattle.planner.specs.Rows.{rows_asked}
+use Rattle.planner.specs.declared.NoPlan.TheVariants.{Refused}
 use Rattle.planner.proofs.SetupLaws.{counts-small, short-is}
 use Rattle.planner.proofs.Answers.{
   order-refused,
@@ -25,52 +25,40 @@ use Rattle.planner.proofs.Answers.{
 }
 use Rattle.planner.proofs.judging.judge_bound.Goals as goal
 
-pub returns-in-Refused : goal.returns-in-Refused
-returns-in-Refused c =
+pub returns-in_err-accept : goal.returns-in_err-accept
+returns-in_err-accept c =
     let o = order_of c.args.order in
-    let e = to_z-of_z w32 c.args.bound c.ranges.bound in
-    let rf = c.in-Refused.refusal in
-    refused-judged o c.args.bound c.args.lent rf
-    (refused-first o c.args.bound c.args.lent rf
-    (order-refused o _ _ c.accept.ensures c.in-Refused.is))
-    _ c.refuse.ensures.0 c.refuse.ensures.1
+    let rf = c.in_err-accept.field-0.0 in
+    let is : c.from_residual.result ≡ Err (Refused rf) = search rules in
+    refused-judged o c.args.bound c.args.lent _ rf
+    (refused-first o c.args.bound c.args.lent rf (order-refused o _ _ c.accept.ensures c.in_err-accept.was)) is
 
 pub returns-then-not-bound_in_range : goal.returns-then-not-bound_in_range
 returns-then-not-bound_in_range c =
     let o = order_of c.args.order in
     let e = to_z-of_z w32 c.args.bound c.ranges.bound in
-    let ok = order-accepted o _ c.accept.ensures
-    c.in_default.is in
-    refused-judged o c.args.bound c.args.lent BoundOutOfRange
+    let ok = order-accepted o _ c.accept.ensures c.in_ok-accept.was in
+    refused-judged o c.args.bound c.args.lent _ BoundOutOfRange
     (refused-8 o c.args.bound c.args.lent ok
-    (out_of_range _ _ e _ c.bound_in_range.ensures c.if-not-bound_in_range.true-raw))
-    _ c.refuse-then-not-bound_in_range.ensures.0 c.refuse-then-not-bound_in_range.ensures.1
+    (out_of_range _ _ e _ c.bound_in_range.ensures c.if-not-bound_in_range.true-raw)) refl
 
-pub table_of-t-requires : goal.table_of-t-requires
-table_of-t-requires c =
-    order-accepted (order_of c.args.order) _
-    c.accept.ensures c.in_default.is
+pub table_of-table-requires : goal.table_of-table-requires
+table_of-table-requires c = order-accepted (order_of c.args.order) _ c.accept.ensures c.in_ok-accept.was
 
 pub is_short-requires : goal.is_short-requires
 is_short-requires c =
     let o = order_of c.args.order in
-    let ok = order-accepted o _ c.accept.ensures
-    c.in_default.is in
-    counts-small o ok _ c.table_of-t.ensures
+    counts-small o (order-accepted o _ c.accept.ensures c.in_ok-accept.was) _ c.table_of-table.ensures
 
 pub returns-then-is_short : goal.returns-then-is_short
 returns-then-is_short c =
     let o = order_of c.args.order in
     let e = to_z-of_z w32 c.args.bound c.ranges.bound in
-    let ok = order-accepted o _ c.accept.ensures
-    c.in_default.is in
-    let in-range = within-range _ _ e _ c.bound_in_range.ensures
-    c.if-not-bound_in_range.false-raw in
-    refused-judged o c.args.bound c.args.lent BufferTooShort
+    let ok = order-accepted o _ c.accept.ensures c.in_ok-accept.was in
+    let in-range = within-range _ _ e _ c.bound_in_range.ensures c.if-not-bound_in_range.false-raw in
+    refused-judged o c.args.bound c.args.lent _ BufferTooShort
     (refused-9 o c.args.bound c.args.lent ok in-range
-    (ltb-true _ _ (sym (short-is o ok _ c.table_of-t.ensures _ c.is_short.ensures)
-    ∙ c.if-is_short.true)))
-    _ c.refuse-then-is_short.ensures.0 c.refuse-then-is_short.ensures.1
+    (ltb-true _ _ (sym (short-is o ok _ c.table_of-table.ensures _ c.is_short.ensures) ∙ c.if-is_short.true))) refl
 
 pub reach_of-requires : goal.reach_of-requires
 reach_of-requires c =
@@ -80,45 +68,31 @@ reach_of-requires c =
 pub tell-why-requires : goal.tell-why-requires
 tell-why-requires c =
     let o = order_of c.args.order in
-    let e = to_z-of_z w32 c.args.bound c.ranges.bound in
-    let ok = order-accepted o _ c.accept.ensures
-    c.in_default.is in record {
-      fine = fine_of o _ c.table_of-t.ensures ((accepted-iff o).0 ok);
+    let ok = order-accepted o _ c.accept.ensures c.in_ok-accept.was in record {
+      fine = fine_of o _ c.table_of-table.ensures ((accepted-iff o).0 ok);
       reach_le_most_reach = c.reach_of.ensures.1;
     }
 
-pub returns-in-Tight : goal.returns-in-Tight
-returns-in-Tight c =
+pub returns-in-Some : goal.returns-in-Some
+returns-in-Some c =
     let o = order_of c.args.order in
     let e = to_z-of_z w32 c.args.bound c.ranges.bound in
-    let ok = order-accepted o _
-    c.accept.ensures
-    c.in_default.is in
-    let m = c.table_of-t.ensures in
-    let room : rows_asked o ≤ c.args.lent / 4 = ltb-false _ _
-    (sym (short-is o ok _ m _ c.is_short.ensures)
-    ∙ c.if-is_short.false) in
-    let in-range = within-range _ _ e _
-    c.bound_in_range.ensures
-    c.if-not-bound_in_range.false-raw in
-    let f = reason-told o ok _ m c.args.bound _ e _ c.reach_of.ensures.0 _
-    c.tell-why.ensures in
-    tight-judged o c.args.bound c.args.lent ok in-range room _ m _ f _ c.in-Tight.is
+    let ok = order-accepted o _ c.accept.ensures c.in_ok-accept.was in
+    let m = c.table_of-table.ensures in
+    let room : rows_asked o ≤ c.args.lent / 4
+    = ltb-false _ _ (sym (short-is o ok _ m _ c.is_short.ensures) ∙ c.if-is_short.false) in
+    let in-range = within-range _ _ e _ c.bound_in_range.ensures c.if-not-bound_in_range.false-raw in
+    let f = reason-told o ok _ m c.args.bound _ e _ c.reach_of.ensures.0 _ c.tell-why.ensures in
+    tight-judged o c.args.bound c.args.lent _ ok in-range room _ m _ f _ c.in-Some.is refl
 
-pub returns-in-Met : goal.returns-in-Met
-returns-in-Met c =
+pub returns : goal.returns
+returns c =
     let o = order_of c.args.order in
     let e = to_z-of_z w32 c.args.bound c.ranges.bound in
-    let ok = order-accepted o _
-    c.accept.ensures
-    c.in_default.is in
-    let m = c.table_of-t.ensures in
-    let room : rows_asked o ≤ c.args.lent / 4 = ltb-false _ _
-    (sym (short-is o ok _ m _ c.is_short.ensures)
-    ∙ c.if-is_short.false) in
-    let in-range = within-range _ _ e _
-    c.bound_in_range.ensures
-    c.if-not-bound_in_range.false-raw in
-    let f = reason-told o ok _ m c.args.bound _ e _ c.reach_of.ensures.0 _
-    c.tell-why.ensures in
-    open-judged o c.args.bound c.args.lent ok in-range room _ m _ f c.in-Met.is
+    let ok = order-accepted o _ c.accept.ensures c.in_ok-accept.was in
+    let m = c.table_of-table.ensures in
+    let room : rows_asked o ≤ c.args.lent / 4
+    = ltb-false _ _ (sym (short-is o ok _ m _ c.is_short.ensures) ∙ c.if-is_short.false) in
+    let in-range = within-range _ _ e _ c.bound_in_range.ensures c.if-not-bound_in_range.false-raw in
+    let f = reason-told o ok _ m c.args.bound _ e _ c.reach_of.ensures.0 _ c.tell-why.ensures in
+    open-judged o c.args.bound c.args.lent _ ok in-range room _ m _ f c.in_default.is refl
