@@ -18,6 +18,7 @@ use Rattle.profile.specs.Standing.{same_z}
 use Rattle.reason.specs.declared.Reason.TheVariants.{Job, Stairs}
 use Rattle.reason.specs.declared.Why.{Why}
 use Rattle.highboyrobin.specs.Calls.{tightness_from, why_from}
+use Rattle.reason.specs.declared.Reason.{Reason}
 
 -- a number as the machine reads it back
 module _ (z : ℤ) (f : SFits w32 z) where

@@ -22,13 +22,14 @@ use Rattle.reason.specs.declared.Reason.TheVariants.{Job, Stairs}
 use Rattle.reason.specs.declared.Why.{Why}
 use Rattle.highboyrobin.specs.Calls.{reason_numbers}
 use Rattle.highboyrobin.specs.Inside.{kind_of, which_of, time_of, why_numbers}
+use Rattle.reason.specs.declared.Reason.{Reason as CodeReason}
 
 pub numbers-are : (o : Order) (r : Found Reason) → why_numbers (why_of o r) ≡ reason_numbers o r
 numbers-are o nothing = refl
 numbers-are o (found (over_end j)) = refl
 numbers-are o (found (stairs dues)) = refl
 
-pub kind-small : (t : Option Reason) → kind_of t < 2147483648
+pub kind-small : (t : Option CodeReason) → kind_of t < 2147483648
 kind-small None = omega arith
 kind-small (Some (Job j t)) = omega arith
 kind-small (Some (Stairs k)) = omega arith

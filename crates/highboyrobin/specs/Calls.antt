@@ -19,6 +19,7 @@ use Rattle.sentence.specs.Told.{compose_rows, read_rows}
 use Rattle.planner.specs.Rows.{rows_asked, least_rows, plan_rows}
 use Rattle.planner.specs.Written.{Written}
 use Rattle.highboyrobin.specs.Results.{file_call, list_call, answer_row, part_job_row}
+use Rattle.reason.specs.declared.Reason.{Reason as CodeReason}
 
 -- hbr_judge: the processors, the jobs, and the rows to be lent
 abbrev pub judge_call : List ℕ → ℕ → List TableRow
@@ -60,7 +61,7 @@ reason_answer file bound answer =
     left_by (judge (reason_call file bound (length answer))) (reason_numbers (order_in file) (reason_of (order_in file) bound)) answer
 
 -- hbr_sentence: nineteen numbers as a reason is handed in, each kind with no number that is not its own; others tell none
-abbrev pub tightness_from : ℤ → ℤ → ℤ → Option Reason
+abbrev pub tightness_from : ℤ → ℤ → ℤ → Option CodeReason
 tightness_from kind (pos which) (pos time) =
     cond (same_z kind (pos 1)) (Some (Job which time)) (cond (same_z kind (pos 2) && eqb time 0) (Some (Stairs which)) None)
 tightness_from kind (pos which) (negsuc time) = None

@@ -3,6 +3,7 @@ use Rattle.std.specs.Prelude.{Option, None, Some}
 use Rattle.std.specs.Prelude.{ℕ, List, ◌∷◌, ℤ, pos}
 use Rattle.reason.specs.declared.Reason.TheVariants.{Job, Stairs}
 use Rattle.reason.specs.declared.Why.{Why}
+use Rattle.reason.specs.declared.Reason.{Reason}
 
 abbrev pub kind_of : Option Reason → ℕ
 kind_of None = 0

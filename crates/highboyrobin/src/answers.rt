@@ -7,7 +7,7 @@ ghost use Rattle.highboyrobin.specs.Inside.{kind_of, which_of, time_of, why_numb
 
 use order::Order;
 use planner::room::rows_asked;
-use reason::{Reason, Tightness, Why};
+use reason::{Reason, Why};
 
 // A count as a number of an answer.
 fn count_of(n: u32) -> i32

@@ -3,7 +3,7 @@ ghost use Rattle.std.specs.Prelude.{◌≡◌, ℕ, ◌+◌, ◌≤◌, pos, len
 ghost use Rattle.sums.specs.Lists.{tabulate};
 ghost use Rattle.highboyrobin.specs.Calls.{tightness_from, why_from};
 
-use reason::{Reason, Tightness, Why};
+use reason::{Reason, Why};
 
 // Its kind, with the job and its time or with the count of classes; none where a number is not of this kind.
 fn tightness_from(kind: i32, which: i32, time: i32) -> Option<Reason>

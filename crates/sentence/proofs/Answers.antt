@@ -25,26 +25,23 @@ use Rattle.order.specs.Refusals.{
   bound_in_range,
 }
 use Rattle.order.proofs.RefusalLaws.{judge-accepted-append, judge-refused-append}
-use Rattle.order.specs.Table.{refusal_told, acceptance_told}
+use Rattle.order.specs.Table.{Acceptance, refusal_told, acceptance_told}
 use Rattle.order.proofs.TableLaws.{refused-told}
-use Rattle.order.specs.declared.Acceptance.{Acceptance}
-use Rattle.order.specs.declared.Acceptance.TheVariants.{Refused}
+use Rattle.std.specs.Prelude.{Err}
 use Rattle.order.specs.declared.Refusal.{Refusal}
 use Rattle.order.specs.declared.Refusal.TheVariants.{BoundOutOfRange, BufferTooShort}
-use Rattle.profile.specs.Search.{nothing}
-use Rattle.reason.specs.Told.{why_of}
 use Rattle.reason.specs.declared.Why.{Why}
 use Rattle.text.specs.Text.{Put}
 use Rattle.sentence.specs.Handed.{handed}
-use Rattle.sentence.specs.Line.{composed, read_back}
-use Rattle.sentence.specs.Told.{compose_rows, read_rows, recovered_by}
+use Rattle.sentence.specs.Line.{composed}
+use Rattle.sentence.specs.Told.{compose_rows, read_rows}
 
 -- the rows of acceptance, then 8, then others
 module _ (o : Order) (bound : ℤ) (later : List TableRow) where
   abbrev rows : List TableRow
   rows = order_rows limits o ++ (bound_row bound ∷ later)
 
-  order-refused : (a : Acceptance) (r : Refusal) → acceptance_told a ≡ judge (order_rows limits o) → a ≡ Refused r →
+  order-refused : (a : Acceptance) (r : Refusal) → acceptance_told a ≡ judge (order_rows limits o) → a ≡ Err r →
       judge rows ≡ refusal_told r
   order-refused a r e is =
       let t = refused-told r in
@@ -72,7 +69,7 @@ module _ (o : Order) (bound : ℤ) (why : Why) (entry : List ℕ) where
       (entry ≡ left_by v text entry)
   refuses r e = let t = refused-told r in rw (e, t.2) (refl, refl)
 
-  pub compose-order : (a : Acceptance) (r : Refusal) → acceptance_told a ≡ judge (order_rows limits o) → a ≡ Refused r →
+  pub compose-order : (a : Acceptance) (r : Refusal) → acceptance_told a ≡ judge (order_rows limits o) → a ≡ Err r →
       (answer_by (refusal_told r) 0 ≡ answer_by v (length text)) × (entry ≡ left_by v text entry)
   unfolding compose_rows
   compose-order a r e is = refuses r (order-refused o bound (room_row (length entry) (length text) ∷ []) a r e is)
@@ -103,24 +100,18 @@ module _ (o : Order) (bound : ℤ) (why : Why) (entry : List ℕ) where
           rw open_is (ap answer size, p.after_is ∙ ap (λ (k : ℕ). text ++ drop k entry) place)
 
 -- reading back
-module _ (o : Order) (bound : ℤ) (line : List ℕ) where
+module _ (o : Order) (bound : ℤ) where
   abbrev read : Verdict
   read = judge (read_rows o bound)
 
-  read-refused : (r : Refusal) → read ≡ refusal_told r → (refusal_told r ≡ read) × (why_of o nothing ≡ recovered_by read o bound line)
-  read-refused r e = let t = refused-told r in rw (e, t.2) (refl, refl)
-
-  pub read-order : (a : Acceptance) (r : Refusal) → acceptance_told a ≡ judge (order_rows limits o) → a ≡ Refused r →
-      (refusal_told r ≡ read) × (why_of o nothing ≡ recovered_by read o bound line)
+  pub read-order : (a : Acceptance) (r : Refusal) → acceptance_told a ≡ judge (order_rows limits o) → a ≡ Err r → refusal_told r ≡ read
   unfolding read_rows
-  read-order a r e is = read-refused r (order-refused o bound [] a r e is)
+  read-order a r e is = sym (order-refused o bound [] a r e is)
 
-  pub read-bound : Accepted o → bound_in_range bound ≡ false →
-      (refusal_told BoundOutOfRange ≡ read) × (why_of o nothing ≡ recovered_by read o bound line)
+  pub read-bound : Accepted o → bound_in_range bound ≡ false → refusal_told BoundOutOfRange ≡ read
   unfolding read_rows
-  read-bound a h = read-refused BoundOutOfRange (bound-refused o bound [] a h)
+  read-bound a h = sym (bound-refused o bound [] a h)
 
-  pub read_done : Accepted o → bound_in_range bound ≡ true → (w : Why) → w ≡ why_of o (read_back o bound line) →
-      (accepted ≡ read) × (w ≡ recovered_by read o bound line)
+  pub read_done : Accepted o → bound_in_range bound ≡ true → accepted ≡ read
   unfolding read_rows judge
-  read_done a b w e = let open_is : read ≡ accepted = bound-passed o bound [] a b in rw open_is (refl, e)
+  read_done a b = sym (bound-passed o bound [] a b)

@@ -8,6 +8,7 @@ use Rattle.profile.specs.Search.{Found, nothing, found}
 use Rattle.profile.specs.Standing.{same_z}
 use Rattle.reason.specs.declared.Reason.TheVariants.{Job, Stairs}
 use Rattle.reason.specs.declared.Why.{Why}
+use Rattle.reason.specs.declared.Reason.{Reason}
 
 unfoldable pub all_zero : List ℤ → Bool
 all_zero [] = true

@@ -13,6 +13,7 @@ use Rattle.reason.specs.Told.{why_of}
 use Rattle.reason.specs.declared.Reason.TheVariants.{Job, Stairs}
 use Rattle.reason.specs.declared.Why.{Why}
 use Rattle.sentence.specs.Handed.{all_zero, handed_by, handed}
+use Rattle.reason.specs.declared.Reason.{Reason}
 
 -- beyond the due times of a staircase there is nothing but zeros
 beyond-zero : (n : ℕ) (dues : List ℤ) → all_zero (drop (length dues) (tabulate n (λ i. get_or dues i (pos 0)))) ≡ true

@@ -1,29 +1,12 @@
 // The reason as a sentence (document 02, §1): one English line for each reason that stands, and back.
 #![tactic(auto)]
 
-use order::{Acceptance, Refusal};
-use reason::Why;
-
 pub mod compose; // the line of a reason that is handed in
 pub mod line; // a line, put into a buffer
 pub mod recover; // the reason of a line
 mod scan; // the numbers in a line
 mod standing; // whether a staircase stands
 mod minutes; // minutes owed and minutes on hand
-
-// The length of the line, 0 where no reason stands; or why it was not composed.
-#[derive(Clone, Copy)]
-pub enum Composed {
-    Length(u32),
-    Refused(Refusal),
-}
-
-// The reason of a line, or that there is none.
-#[derive(Clone, Copy)]
-pub struct Recovered {
-    pub status: Acceptance,
-    pub why: Why,
-}
 
 // Minutes owed and minutes on hand of a staircase.
 #[derive(Clone, Copy)]

@@ -15,7 +15,7 @@ use super::Weighed;
 use super::standing::weigh;
 use order::Order;
 use order::deadline::end_of;
-use reason::{Reason, Tightness, Why};
+use reason::{Reason, Why};
 use table::making::table_of;
 use table::passing::classes_of;
 use text::put::{put_bytes, put_number, put_signed};
@@ -158,9 +158,8 @@ pub fn put_line(order: Order, bound: i32, why: Why, out: &mut [u8]) -> usize
     ensures { Put out.old 0 (composed (order_of order) bound (handed (order_of order) why)) out.new result
         × (result ≤ 598) }
 {
-    let reason = why.reason;
     let dues = why.dues;
-    let Some(reason) = tightness else {
+    let Some(reason) = why.reason else {
         return 0;
     };
     match reason {

@@ -1,25 +1,24 @@
 // Reading back: the reason whose line these bytes are. The refusals of acceptance, then 8. A reason is taken from the numbers in the
 // line, its own line is composed, and the two are compared: no other line reads to it. What stands before `read_back` serves it alone,
 // in part with a `requires`.
-ghost use Rattle.std.specs.Prelude.{◌≡◌, true, [], ◌↔◌, ◌≤◌, eqb, length, get_or};
+ghost use Rattle.std.specs.Prelude.{◌≡◌, true, [], ◌↔◌, ◌≤◌, eqb, length, get_or, IfOk};
 ghost use Rattle.sums.specs.Same.{same_list};
 ghost use Rattle.order.specs.Order.{job_of};
 ghost use Rattle.order.specs.Refusals.{Accepted, judge, bound_in_range};
-ghost use Rattle.order.specs.Table.{order_of, acceptance_told};
+ghost use Rattle.order.specs.Table.{order_of};
 ghost use Rattle.reason.specs.Told.{sixteen, why_of};
 ghost use Rattle.std.specs.Prelude.{None};
 ghost use Rattle.sentence.specs.Handed.{handed};
 ghost use Rattle.sentence.specs.Line.{composed, read_back};
 ghost use Rattle.sentence.specs.Scanning.{candidate};
-ghost use Rattle.sentence.specs.Told.{read_rows, recovered_by};
+ghost use Rattle.sentence.specs.Told.{read_rows, recovered_told};
 
-use super::Recovered;
 use super::line::put_line;
 use super::scan::scan;
 use order::accept::accept;
 use order::deadline::bound_in_range;
-use order::{Acceptance, Order, Refusal};
-use reason::{Reason, Tightness, Why};
+use order::{Order, Refusal};
+use reason::{Reason, Why};
 
 // The time of a job, 0 where there is no such job.
 fn time_of(order: Order, job: u32) -> u32
@@ -117,24 +116,13 @@ fn recovered(order: Order, bound: i32, line: &[u8]) -> Why
     no_reason()
 }
 
-pub fn read_back(order: Order, bound: i32, line: &[u8]) -> Recovered
-    ensures status_value { acceptance_told result.status ≡ judge (read_rows (order_of order) bound) }
-    ensures why_value { result.why ≡ recovered_by (judge (read_rows (order_of order) bound)) (order_of order) bound line.now }
+pub fn read_back(order: Order, bound: i32, line: &[u8]) -> Result<Why, Refusal>
+    ensures status_value { recovered_told result ≡ judge (read_rows (order_of order) bound) }
+    ensures why_value { IfOk result (λ why. why ≡ why_of (order_of order) (read_back (order_of order) bound line.now)) }
 {
-    if let Acceptance::Refused(refusal) = accept(order) {
-        return Recovered {
-            status: Acceptance::Refused(refusal),
-            why: no_reason(),
-        };
-    }
+    accept(order)?;
     if !bound_in_range(bound) {
-        return Recovered {
-            status: Acceptance::Refused(Refusal::BoundOutOfRange),
-            why: no_reason(),
-        };
+        return Err(Refusal::BoundOutOfRange);
     }
-    Recovered {
-        status: Acceptance::Accepted,
-        why: recovered(order, bound, line),
-    }
+    Ok(recovered(order, bound, line))
 }

@@ -24,7 +24,7 @@ returns-in_default c = (
 pub returns-then-not-all_zero : goal.returns-then-not-all_zero
 returns-then-not-all_zero c =
     let z = c.all_zero in (
-      put_as (sym (job-beside (order_of c.args.order) c.args.bound c.args.why c.in-Tight.reason c.in-Tight.is z.result c.in-Job.job
+      put_as (sym (job-beside (order_of c.args.order) c.args.bound c.args.why c.in-Some.reason c.in-Some.is z.result c.in-Job.job
           c.in-Job.time
           c.in-Job.is z.ensures c.if-not-all_zero.true-raw)) (put-none c.args.out.now 0 (omega arith)),
       omega arith,
@@ -44,7 +44,7 @@ returns-else-not-all_zero c =
     let q = c.job_line.ensures in
     let o = order_of c.args.order in (
       put_as (ap (λ (b : ℤ). job_composed o b c.in-Job.job c.in-Job.time) (to_z-of_z w32 c.args.bound c.ranges.bound)
-          ∙ job-handed o c.args.bound c.args.why c.in-Tight.reason c.in-Tight.is z.result c.in-Job.job c.in-Job.time c.in-Job.is z.ensures
+          ∙ job-handed o c.args.bound c.args.why c.in-Some.reason c.in-Some.is z.result c.in-Job.job c.in-Job.time c.in-Job.is z.ensures
           c.if-not-all_zero.false-raw) q.0,
       omega (arith, q.1),
     )
@@ -55,6 +55,6 @@ returns-in-Stairs c =
     let o = order_of c.args.order in (
       put_as (ap (λ (b : ℤ). composed o b (handed_by o (Some (Stairs c.in-Stairs.count)) c.args.why.dues))
           (to_z-of_z w32 c.args.bound c.ranges.bound)
-          ∙ stairs-told o c.args.bound c.args.why c.in-Tight.reason c.in-Tight.is c.in-Stairs.count c.in-Stairs.is) q.0,
+          ∙ stairs-told o c.args.bound c.args.why c.in-Some.reason c.in-Some.is c.in-Stairs.count c.in-Stairs.is) q.0,
       q.1,
     )
