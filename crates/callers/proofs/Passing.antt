@@ -9,10 +9,9 @@ use Rattle.order.specs.Refusals.{limits, TableRow, Verdict, refused, judge, coun
 use Rattle.order.specs.Callers.{limits_of, rows_by, rows_for}
 use Rattle.order.proofs.CallerLaws.{counts-pass, counts-refuse}
 use Rattle.order.proofs.StructLaws.{job-count, processor-count}
-use Rattle.order.specs.Table.{order_of, refusal_told, acceptance_told}
+use Rattle.order.specs.Table.{Acceptance, order_of, refusal_told, acceptance_told}
 use Rattle.order.proofs.TableLaws.{refused-told}
-use Rattle.order.specs.declared.Acceptance.{Acceptance}
-use Rattle.order.specs.declared.Acceptance.TheVariants.{Accepted, Refused}
+use Rattle.std.specs.Prelude.{Ok, Err}
 use Rattle.order.specs.declared.Caller.{Caller}
 use Rattle.order.specs.declared.Order.{Order as OrderTable}
 use Rattle.order.specs.declared.Refusal.{Refusal}
@@ -31,11 +30,11 @@ module _ (caller : Caller) (t : OrderTable) (a : Acceptance)
 
   module _ (P : Verdict → Type 0) {rows : List TableRow} (table : Counted (order_of t) rows) where
     -- the dock's own answer, where the counts are accepted
-    pub passes : a ≡ Accepted → P (judge rows) → P (judge (rows_for caller (order_of t) rows))
+    pub passes : a ≡ Ok tt → P (judge rows) → P (judge (rows_for caller (order_of t) rows))
     passes is p = subst P (sym (counts-pass caller m n rows table.itself (counted ∙ ap acceptance_told is))) p
 
     -- the refusal of the counts
-    pub refuses : (why : Refusal) → a ≡ Refused why → P (refusal_told why) → P (judge (rows_for caller (order_of t) rows))
+    pub refuses : (why : Refusal) → a ≡ Err why → P (refusal_told why) → P (judge (rows_for caller (order_of t) rows))
     refuses why is p =
         let r = refused-told why in
         subst P
@@ -44,24 +43,24 @@ module _ (caller : Caller) (t : OrderTable) (a : Acceptance)
         ∙ counts-refuse caller m n table.later r.0 r.1 (counted ∙ ap acceptance_told is ∙ r.2))) p
 
   -- acceptance, whose table takes the limits itself
-  pub accept-passes : (r : Acceptance) → a ≡ Accepted → acceptance_told r ≡ judge (order_rows limits (order_of t)) →
+  pub accept-passes : (r : Acceptance) → a ≡ Ok tt → acceptance_told r ≡ judge (order_rows limits (order_of t)) →
       acceptance_told r ≡ judge (order_rows (limits_of caller) (order_of t))
   unfolding rows_by
   accept-passes r is p = passes (λ (v : Verdict). acceptance_told r ≡ v) (accept-counted (order_of t)) is p
 
-  pub accept-refuses : (why : Refusal) → a ≡ Refused why → acceptance_told a ≡ judge (order_rows (limits_of caller) (order_of t))
+  pub accept-refuses : (why : Refusal) → a ≡ Err why → acceptance_told a ≡ judge (order_rows (limits_of caller) (order_of t))
   unfolding rows_by
   accept-refuses why is =
       refuses (λ (v : Verdict). acceptance_told a ≡ v) (accept-counted (order_of t)) why is (ap acceptance_told is)
 
   -- the same of a table with a bound, told as it was passed and as the machine reads it back
   module _ (P : Verdict → ℤ → Type 0) {rows : ℤ → List TableRow} (table : (z : ℤ) → Counted (order_of t) (rows z)) (bound : ℤ) where
-    pub passes_at : (read : ℤ) → read ≡ bound → a ≡ Accepted → P (judge (rows read)) read →
+    pub passes_at : (read : ℤ) → read ≡ bound → a ≡ Ok tt → P (judge (rows read)) read →
         P (judge (rows_for caller (order_of t) (rows bound))) bound
     passes_at read same is p =
         passes (λ (v : Verdict). P v bound) (table bound) is (subst (λ (z : ℤ). P (judge (rows z)) z) same p)
 
-    pub refuses-at : (why : Refusal) → a ≡ Refused why → P (refusal_told why) bound →
+    pub refuses-at : (why : Refusal) → a ≡ Err why → P (refusal_told why) bound →
         P (judge (rows_for caller (order_of t) (rows bound))) bound
     refuses-at why is p = refuses (λ (v : Verdict). P v bound) (table bound) why is p
 

@@ -5,14 +5,11 @@ ghost use Rattle.order.specs.Table.{order_of, acceptance_told};
 ghost use Rattle.order.specs.Callers.{limits_of};
 
 use order::accept::{accept, accept_counts_for};
-use order::{Acceptance, Caller, Order};
+use order::{Caller, Order, Refusal};
 
-pub fn accept_for(caller: Caller, order: Order) -> Acceptance
+pub fn accept_for(caller: Caller, order: Order) -> Result<(), Refusal>
     ensures { acceptance_told result ≡ judge (order_rows (limits_of caller) (order_of order)) }
 {
-    let counts = accept_counts_for(caller, order.processors, order.jobs);
-    let Acceptance::Accepted = counts else {
-        return counts;
-    };
+    accept_counts_for(caller, order.processors, order.jobs)?;
     accept(order)
 }

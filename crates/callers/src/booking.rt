@@ -12,27 +12,27 @@ ghost use Rattle.planner.specs.Told.{least_told, least_count, LeastIn, planned_t
 
 use book::Book;
 use order::accept::accept_counts_for;
-use order::{Acceptance, Caller, Order};
+use order::{Caller, Order, Refusal};
 use planner::bound_booked::plan_booked;
 use planner::lateness_booked::least_booked;
-use planner::{Least, LeastBooked, PlanAnswer, PlanBooked, Planned};
+use planner::{Least, NoPlan};
 
-pub fn least_booked_for(caller: Caller, order: Order, rows: &mut [u32], book: Book) -> LeastBooked
-    ensures least_value { least_told result.least ≡ answer_by (judge (rows_for caller (order_of order)
-        (booked_least_rows (order_of order) (length rows.old) book.counts))) (least_lateness (order_of order)) }
-    ensures least_in { LeastIn (order_of order) result.least }
+pub fn least_booked_for(
+    caller: Caller,
+    order: Order,
+    rows: &mut [u32],
+    book: &mut Book,
+) -> Result<Least, Refusal>
+    ensures least_value { least_told result ≡ answer_by (judge (rows_for caller (order_of order)
+        (booked_least_rows (order_of order) (length rows.old) book.old.counts))) (least_lateness (order_of order)) }
+    ensures least_in { LeastIn (order_of order) result }
     ensures buffer_by { BufferBy (judge (rows_for caller (order_of order)
-        (booked_least_rows (order_of order) (length rows.old) book.counts)))
-        (order_of order) (least_lateness (order_of order)) rows.old rows.new (least_count result.least) }
-    ensures counts_value { result.book.counts ≡ booked_by (judge (rows_for caller (order_of order)
-        (booked_least_rows (order_of order) (length rows.old) book.counts))) (order_of order) book.counts }
+        (booked_least_rows (order_of order) (length rows.old) book.old.counts)))
+        (order_of order) (least_lateness (order_of order)) rows.old rows.new (least_count result) }
+    ensures counts_value { book.new.counts ≡ booked_by (judge (rows_for caller (order_of order)
+        (booked_least_rows (order_of order) (length rows.old) book.old.counts))) (order_of order) book.old.counts }
 {
-    if let Acceptance::Refused(refusal) = accept_counts_for(caller, order.processors, order.jobs) {
-        return LeastBooked {
-            least: Least::Refused(refusal),
-            book,
-        };
-    }
+    accept_counts_for(caller, order.processors, order.jobs)?;
     least_booked(order, rows, book)
 }
 
@@ -41,25 +41,19 @@ pub fn plan_booked_for(
     order: Order,
     bound: i32,
     rows: &mut [u32],
-    book: Book,
-) -> PlanBooked
-    ensures planned_value { planned_told result.answer.planned ≡ answer_by (judge (rows_for caller (order_of order)
-        (booked_plan_rows (order_of order) bound (length rows.old) book.counts))) (rows_of result.answer.planned) }
+    book: &mut Book,
+) -> Result<u32, NoPlan>
+    ensures planned_value { planned_told result ≡ answer_by (judge (rows_for caller (order_of order)
+        (booked_plan_rows (order_of order) bound (length rows.old) book.old.counts))) (rows_of result) }
     ensures reason_told { ReasonTold (order_of order) (reason_carried (judge (rows_for caller (order_of order)
-        (booked_plan_rows (order_of order) bound (length rows.old) book.counts))) (reason_of (order_of order) bound))
-        result.answer }
+        (booked_plan_rows (order_of order) bound (length rows.old) book.old.counts))) (reason_of (order_of order) bound))
+        result }
     ensures buffer_by { BufferBy (judge (rows_for caller (order_of order)
-        (booked_plan_rows (order_of order) bound (length rows.old) book.counts)))
-        (order_of order) bound rows.old rows.new (rows_of result.answer.planned) }
-    ensures counts_value { result.book.counts ≡ booked_by (judge (rows_for caller (order_of order)
-        (booked_plan_rows (order_of order) bound (length rows.old) book.counts))) (order_of order) book.counts }
+        (booked_plan_rows (order_of order) bound (length rows.old) book.old.counts)))
+        (order_of order) bound rows.old rows.new (rows_of result) }
+    ensures counts_value { book.new.counts ≡ booked_by (judge (rows_for caller (order_of order)
+        (booked_plan_rows (order_of order) bound (length rows.old) book.old.counts))) (order_of order) book.old.counts }
 {
-    if let Acceptance::Refused(refusal) = accept_counts_for(caller, order.processors, order.jobs) {
-        let answer = PlanAnswer {
-            planned: Planned::Refused(refusal),
-            dues: [0i32; 16],
-        };
-        return PlanBooked { answer, book };
-    }
+    accept_counts_for(caller, order.processors, order.jobs)?;
     plan_booked(order, bound, rows, book)
 }

@@ -7,16 +7,18 @@ ghost use Rattle.plan.specs.Check.{is_right, check_rows};
 ghost use Rattle.plan.specs.Told.{checked_told};
 
 use order::accept::accept_counts_for;
-use order::{Acceptance, Caller, Order};
-use plan::Checked;
+use order::{Caller, Order, Refusal};
 use plan::check::check_plan;
 
-pub fn check_plan_for(caller: Caller, order: Order, bound: i32, rows: &[u32]) -> Checked
+pub fn check_plan_for(
+    caller: Caller,
+    order: Order,
+    bound: i32,
+    rows: &[u32],
+) -> Result<bool, Refusal>
     ensures { checked_told result ≡ answer_by (judge (rows_for caller (order_of order)
         (check_rows (order_of order) bound (length rows.now)))) (is_right (order_of order) bound rows.now) }
 {
-    if let Acceptance::Refused(refusal) = accept_counts_for(caller, order.processors, order.jobs) {
-        return Checked::Refused(refusal);
-    }
+    accept_counts_for(caller, order.processors, order.jobs)?;
     check_plan(order, bound, rows)
 }

@@ -11,20 +11,22 @@ ghost use Rattle.timed.specs.Times.{times_of};
 ghost use Rattle.timed.specs.Written.{asked_told, timed_told, timed_count, TimedBufferBy};
 
 use order::accept::accept_counts_for;
-use order::{Acceptance, Caller, Order};
-use plan::Checked;
+use order::{Caller, Order, Refusal};
+use timed::Times;
 use timed::asking::rows_timed;
 use timed::checking::check_timed;
 use timed::planning::plan_timed;
-use timed::{TimedPlan, TimedRows, Times};
 
-pub fn rows_timed_for(caller: Caller, order: Order, bound: i32, times: Times) -> TimedRows
+pub fn rows_timed_for(
+    caller: Caller,
+    order: Order,
+    bound: i32,
+    times: Times,
+) -> Result<u32, Refusal>
     ensures { asked_told result ≡ answer_by (judge (rows_for caller (order_of order) (asked_rows (order_of order) bound (times_of times))))
         (timed_rows_asked (order_of order) bound (times_of times)) }
 {
-    if let Acceptance::Refused(refusal) = accept_counts_for(caller, order.processors, order.jobs) {
-        return TimedRows::Refused(refusal);
-    }
+    accept_counts_for(caller, order.processors, order.jobs)?;
     rows_timed(order, bound, times)
 }
 
@@ -34,16 +36,14 @@ pub fn plan_timed_for(
     bound: i32,
     times: Times,
     rows: &mut [u32],
-) -> TimedPlan
+) -> Result<Option<u32>, Refusal>
     ensures result_value { timed_told result ≡ answer_by (judge (rows_for caller (order_of order)
         (timed_rows (order_of order) bound (times_of times) (length rows.old)))) (timed_count result) }
     ensures timed_buffer_by { TimedBufferBy (judge (rows_for caller (order_of order)
         (timed_rows (order_of order) bound (times_of times) (length rows.old))))
         (order_of order) bound (times_of times) rows.old rows.new (timed_count result) }
 {
-    if let Acceptance::Refused(refusal) = accept_counts_for(caller, order.processors, order.jobs) {
-        return TimedPlan::Refused(refusal);
-    }
+    accept_counts_for(caller, order.processors, order.jobs)?;
     plan_timed(order, bound, times, rows)
 }
 
@@ -53,13 +53,11 @@ pub fn check_timed_for(
     bound: i32,
     times: Times,
     rows: &[u32],
-) -> Checked
+) -> Result<bool, Refusal>
     ensures { checked_told result ≡ answer_by (judge (rows_for caller (order_of order)
         (timed_check_rows (order_of order) bound (times_of times) (length rows.now))))
         (is_right_timed (order_of order) bound (times_of times) rows.now) }
 {
-    if let Acceptance::Refused(refusal) = accept_counts_for(caller, order.processors, order.jobs) {
-        return Checked::Refused(refusal);
-    }
+    accept_counts_for(caller, order.processors, order.jobs)?;
     check_timed(order, bound, times, rows)
 }

@@ -7,13 +7,10 @@ use lib.IntN.{ℤ}
 use lib.Signed.{lt_z, ◌≤ℤ◌, ◌<ℤ◌}
 use mir.Val.{to_z, of_z}
 use mir.Syntax.{w32}
-use Rattle.order.specs.Order.{no_order}
-use Rattle.order.specs.Refusals.{limits, Verdict, accepted, judge, answer, answer_by}
-use Rattle.order.specs.Table.{table_of, order_of, refusal_told, acceptance_told}
-use Rattle.order.proofs.TableLaws.{refused-told, same-refusal}
+use Rattle.order.specs.Refusals.{limits, accepted, judge, answer, answer_by}
+use Rattle.order.specs.Table.{order_of, refusal_told, Acceptance, acceptance_told}
+use Rattle.order.proofs.TableLaws.{same-refusal}
 use Rattle.order.specs.Whole.{lt_z-true, lt_z-false}
-use Rattle.order.specs.declared.Acceptance.{Acceptance}
-use Rattle.order.specs.declared.Acceptance.TheVariants.{Accepted, Refused}
 use Rattle.order.specs.declared.Refusal.{Refusal}
 use Rattle.profile.proofs.LeastRange.{least-in-range}
 use Rattle.profile.specs.LeastRead.{read-least}
@@ -35,9 +32,8 @@ use Rattle.estimate.specs.Request.{least_along, along-first, along-last, below_n
 use Rattle.estimate.specs.StructLaws.{order_is}
 use Rattle.estimate.specs.Told.{estimate_of, leasts_told, met_told, with_times, handed_out}
 use Rattle.estimate.specs.declared.Estimate.{Estimate as EstimateTable}
-use Rattle.estimate.specs.declared.Leasts.TheVariants.{Between, Refused as LeastsRefused}
-use Rattle.estimate.specs.declared.Meeting.TheVariants.{Met, Nowhere, Refused as MeetingRefused}
-use Rattle.estimate.specs.declared.OrderMet.{OrderMet}
+use Rattle.std.specs.Prelude.{Option, Some, None, Result, Ok, Err, IfOk}
+use Rattle.order.specs.declared.Order.{Order as OrderTable}
 
 -- the least lateness after k minutes, read back
 module _ (e : Estimate) (ok : judge (estimate_rows limits e) ≡ accepted) where
@@ -61,18 +57,18 @@ module _ (e : Estimate) (ok : judge (estimate_rows limits e) ≡ accepted) where
     from-along h = subst (λ (a : ℤ). a ≤ℤ number) (along-read k z is) (lt_z-false _ _ h)
 
 module _ (t : EstimateTable) (a : Acceptance) (e : acceptance_told a ≡ judge (estimate_rows limits (estimate_of t))) where
-  pub estimate-good : a ≡ Accepted → judge (estimate_rows limits (estimate_of t)) ≡ accepted
+  pub estimate-good : a ≡ Ok tt → judge (estimate_rows limits (estimate_of t)) ≡ accepted
   estimate-good is = sym e ∙ ap acceptance_told is
 
-  refused_as : (why : Refusal) → a ≡ Refused why → judge (estimate_rows limits (estimate_of t)) ≡ refusal_told why
+  refused_as : (why : Refusal) → a ≡ Err why → judge (estimate_rows limits (estimate_of t)) ≡ refusal_told why
   refused_as why is = sym e ∙ ap acceptance_told is
 
-  pub leasts-refused : (why : Refusal) → a ≡ Refused why → leasts_told (LeastsRefused why)
+  pub leasts-refused : (why : Refusal) → a ≡ Err why → leasts_told (Err why)
       ≡ answer_by (judge (estimate_rows limits (estimate_of t))) (least_at_lows (estimate_of t), least_at_highs (estimate_of t))
   leasts-refused why is = same-refusal _ why _ _ (refused_as why is)
 
-  pub leasts-told : a ≡ Accepted → (low high : ℤ) (n : ℕ) → low ≡ least_along (estimate_of t) 0 → n ≡ path_length (estimate_of t) →
-      high ≡ least_along (estimate_of t) n → leasts_told (Between (to_z w32 (of_z w32 low)) (to_z w32 (of_z w32 high)))
+  pub leasts-told : a ≡ Ok tt → (low high : ℤ) (n : ℕ) → low ≡ least_along (estimate_of t) 0 → n ≡ path_length (estimate_of t) →
+      high ≡ least_along (estimate_of t) n → leasts_told (Ok (record { low = to_z w32 (of_z w32 low); high = to_z w32 (of_z w32 high) }))
       ≡ answer_by (judge (estimate_rows limits (estimate_of t))) (least_at_lows (estimate_of t), least_at_highs (estimate_of t))
   leasts-told is low high n el en eh =
       let ok = estimate-good is in
@@ -82,44 +78,38 @@ module _ (t : EstimateTable) (a : Acceptance) (e : acceptance_told a ≡ judge (
       rw (ok, l, h)
 
   -- what is handed out, by the verdict and what is met, where the number is compared as the machine reads it
-  module _ (number read : ℤ) (back : read ≡ number) (r : OrderMet) where
-    abbrev Handed : Type 0
-    Handed =
+  module _ (number read : ℤ) (back : read ≡ number) where
+    abbrev pub Handed : Result (Option OrderTable) Refusal → Type 0
+    Handed r =
         (met_told r ≡ answer_by (judge (estimate_rows limits (estimate_of t))) (order_met (estimate_of t) number))
-        × (r.order ≡ handed_out (judge (estimate_rows limits (estimate_of t))) t.order (first_met (estimate_of t) number))
+        × IfOk r (λ met. met ≡ handed_out t.order (first_met (estimate_of t) number))
 
-    pub met-refused : (why : Refusal) → a ≡ Refused why → r.meeting ≡ MeetingRefused why → r.order ≡ table_of no_order → Handed
-    met-refused why is m empty =
-        let v = refused_as why is in
-        let k = refused-told why in (
-          rw (m) (same-refusal _ why _ _ v),
-          empty ∙ sym (ap (λ (w : Verdict). handed_out w t.order (first_met (estimate_of t) number)) (v ∙ k.2)),
-        )
+    pub met-refused : (why : Refusal) → a ≡ Err why → Handed (Err why)
+    met-refused why is = (same-refusal _ why _ _ (refused_as why is), tt)
 
-    module _ (is : a ≡ Accepted) where
-      met-nowhere : first_met (estimate_of t) number ≡ nothing → r.meeting ≡ Nowhere → r.order ≡ table_of no_order → Handed
-      met-nowhere none m empty = rw (estimate-good is, none, m) (refl, empty)
+    module _ (is : a ≡ Ok tt) where
+      met-nowhere : first_met (estimate_of t) number ≡ nothing → Handed (Ok None)
+      met-nowhere none = rw (estimate-good is, none) (refl, refl)
 
-      pub met-below : read <ℤ least_along (estimate_of t) 0 → r.meeting ≡ Nowhere → r.order ≡ table_of no_order → Handed
-      met-below h m empty =
+      pub met-below : read <ℤ least_along (estimate_of t) 0 → Handed (Ok None)
+      met-below h =
           let ok = estimate-good is in
           met-nowhere (below_none (estimate_of t) ok number
-          (subst₂ (λ (x z : ℤ). x <ℤ z) back (along-first (estimate_of t) ok) h)) m empty
+          (subst₂ (λ (x z : ℤ). x <ℤ z) back (along-first (estimate_of t) ok) h))
 
-      pub met-above : (n : ℕ) → n ≡ path_length (estimate_of t) → least_along (estimate_of t) n <ℤ read → r.meeting ≡ Nowhere →
-          r.order ≡ table_of no_order → Handed
-      met-above n en h m empty =
+      pub met-above : (n : ℕ) → n ≡ path_length (estimate_of t) → least_along (estimate_of t) n <ℤ read → Handed (Ok None)
+      met-above n en h =
           let ok = estimate-good is in
           met-nowhere (above-none (estimate_of t) ok number
-          (subst₂ (λ (z x : ℤ). z <ℤ x) (ap (least_along (estimate_of t)) en ∙ along-last (estimate_of t) ok) back h)) m empty
+          (subst₂ (λ (z x : ℤ). z <ℤ x) (ap (least_along (estimate_of t)) en ∙ along-last (estimate_of t) ok) back h))
 
       pub met_at : (n k : ℕ) → n ≡ path_length (estimate_of t) → k ≤ n → least_along (estimate_of t) 0 ≤ℤ read →
-          read ≤ℤ least_along (estimate_of t) k → ((i : ℕ) → i < k → least_along (estimate_of t) i <ℤ read) → r.meeting ≡ Met →
-          r.order ≡ with_times t.order (path_at (estimate_of t) k) → Handed
-      met_at n k en l low high before m eo =
+          read ≤ℤ least_along (estimate_of t) k → ((i : ℕ) → i < k → least_along (estimate_of t) i <ℤ read) →
+          (order : OrderTable) → order ≡ with_times t.order (path_at (estimate_of t) k) → Handed (Ok (Some order))
+      met_at n k en l low high before order eo =
           let ok = estimate-good is in
           let f = met-where-reached (estimate_of t) ok number k (subst (λ (x : ℕ). k ≤ x) en l)
           (subst₂ (λ (z x : ℤ). z ≤ℤ x) (along-first (estimate_of t) ok) back low)
           (subst (λ (x : ℤ). x ≤ℤ least_along (estimate_of t) k) back high)
           (λ i b. subst (λ (x : ℤ). least_along (estimate_of t) i <ℤ x) back (before i b)) in
-          rw (ok, f, m) (ap (λ o. answer (found o)) (ap order_of eo ∙ order_is t ok k), eo)
+          rw (ok, f) (ap (λ o. answer (found o)) (ap order_of eo ∙ order_is t ok k), ap Some eo)

@@ -1,18 +1,15 @@
 -- What the code's values stand for: the estimate of its struct, the two numbers or the refusal, the order met, none or the refusal.
-use Rattle.std.specs.Prelude.{ℕ, List, ℤ, pos, get_or}
+use Rattle.std.specs.Prelude.{ℕ, List, ℤ, pos, get_or, Option, Some, None, Result, Ok, Err}
 use Rattle.sums.specs.Lists.{tabulate}
-use Rattle.order.specs.Order.{Job, Order, no_job, no_order, job_count}
-use Rattle.order.specs.Refusals.{Verdict, accepted, refused, Answer, answer, answer_by}
-use Rattle.order.specs.Table.{job_at, order_of, padded, table_of, refusal_told}
+use Rattle.order.specs.Order.{Job, Order, no_job, job_count}
+use Rattle.order.specs.Refusals.{Answer, answer, answer_by}
+use Rattle.order.specs.Table.{job_at, order_of, padded, refusal_told}
 use Rattle.order.specs.declared.Order.{Order as OrderTable}
+use Rattle.order.specs.declared.Refusal.{Refusal}
 use Rattle.profile.specs.Search.{Found, nothing, found}
 use Rattle.estimate.specs.Estimate.{EstimatedJob, Estimate}
 use Rattle.estimate.specs.declared.Estimate.{Estimate as EstimateTable}
 use Rattle.estimate.specs.declared.Leasts.{Leasts}
-use Rattle.estimate.specs.declared.Leasts.TheVariants.{Between, Refused}
-use Rattle.estimate.specs.declared.Meeting.{Meeting}
-use Rattle.estimate.specs.declared.Meeting.TheVariants.{Met, Nowhere, Refused as MeetingRefused}
-use Rattle.estimate.specs.declared.OrderMet.{OrderMet}
 
 -- a job with its high: its time is the low
 abbrev pub estimated_job : Job → ℕ → EstimatedJob
@@ -36,18 +33,15 @@ estimate_of t = record {
 }
 
 -- the least lateness at all lows and at all highs, or the refusal
-abbrev pub leasts_told : Leasts → Answer (ℤ × ℤ)
-leasts_told (Between low high) = answer (low, high)
-leasts_told (Refused why) = answer_by (refusal_told why) (pos 0, pos 0)
+abbrev pub leasts_told : Result Leasts Refusal → Answer (ℤ × ℤ)
+leasts_told (Ok leasts) = answer (leasts.low, leasts.high)
+leasts_told (Err why) = answer_by (refusal_told why) (pos 0, pos 0)
 
 -- the order met, none, or the refusal
-abbrev pub met_by : Meeting → Order → Answer (Found Order)
-met_by Met o = answer (found o)
-met_by Nowhere o = answer nothing
-met_by (MeetingRefused why) o = answer_by (refusal_told why) nothing
-
-abbrev pub met_told : OrderMet → Answer (Found Order)
-met_told r = met_by r.meeting (order_of r.order)
+abbrev pub met_told : Result (Option OrderTable) Refusal → Answer (Found Order)
+met_told (Ok (Some order)) = answer (found (order_of order))
+met_told (Ok None) = answer nothing
+met_told (Err why) = answer_by (refusal_told why) nothing
 
 -- a struct with other times: 0 beyond them
 abbrev pub with_times : OrderTable → List ℕ → OrderTable
@@ -61,8 +55,7 @@ with_times t times = record {
   makers = t.makers;
 }
 
--- the order that is handed out: the one handed in with the times met, the empty one where there is none
-abbrev pub handed_out : Verdict → OrderTable → Found (List ℕ) → OrderTable
-handed_out accepted t (found times) = with_times t times
-handed_out accepted t nothing = table_of no_order
-handed_out (refused number carried) t met = table_of no_order
+-- the order that is handed out: the one handed in with the times met; none where there are none
+abbrev pub handed_out : OrderTable → Found (List ℕ) → Option OrderTable
+handed_out t (found times) = Some (with_times t times)
+handed_out t nothing = None

@@ -8,16 +8,15 @@ ghost use Rattle.estimate.specs.Told.{estimate_of, leasts_told};
 use super::accept::accept_estimate;
 use super::path::{least_after, path_length};
 use super::{Estimate, Leasts};
-use order::Acceptance;
+use order::Refusal;
 
-pub fn least_between(estimate: Estimate) -> Leasts
+pub fn least_between(estimate: Estimate) -> Result<Leasts, Refusal>
     ensures { leasts_told result ≡ answer_by (judge (estimate_rows limits (estimate_of estimate)))
         (least_at_lows (estimate_of estimate), least_at_highs (estimate_of estimate)) }
 {
-    if let Acceptance::Refused(refusal) = accept_estimate(estimate) {
-        return Leasts::Refused(refusal);
-    }
-    let low = least_after(estimate, 0);
-    let high = least_after(estimate, path_length(estimate));
-    Leasts::Between(low, high)
+    accept_estimate(estimate)?;
+    Ok(Leasts {
+        low: least_after(estimate, 0),
+        high: least_after(estimate, path_length(estimate)),
+    })
 }

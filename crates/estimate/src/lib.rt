@@ -2,7 +2,7 @@
 // the order that has a given least lateness in between.
 #![tactic(auto)]
 
-use order::{Order, Refusal};
+use order::Order;
 
 pub mod accept; // refusals 1 to 7, 13 and 19
 pub mod between; // least_between
@@ -16,24 +16,9 @@ pub struct Estimate {
     pub highs: [u32; 48],
 }
 
-// The least lateness at all lows and at all highs, or why there is none.
+// The least lateness at all lows and at all highs.
 #[derive(Clone, Copy)]
-pub enum Leasts {
-    Between(i32, i32),
-    Refused(Refusal),
-}
-
-// Whether an order is met on the path, or why none is looked for.
-#[derive(Clone, Copy)]
-pub enum Meeting {
-    Met,
-    Nowhere,
-    Refused(Refusal),
-}
-
-// The order met; the empty one where there is none.
-#[derive(Clone, Copy)]
-pub struct OrderMet {
-    pub meeting: Meeting,
-    pub order: Order,
+pub struct Leasts {
+    pub low: i32,
+    pub high: i32,
 }

@@ -1,19 +1,16 @@
 // The order for a number: the refusals of an estimate; else the first order met on the path whose least lateness is the number, or none.
 // The path is not walked: the least lateness never falls on it, so that the place is found by halving. `first_reached` serves
 // `order_between` alone and has a `requires`.
-ghost use Rattle.std.specs.Prelude.{◌≡◌, ℕ, ◌<◌, ◌≤◌, ◌≤ℤ◌, ◌<ℤ◌};
-ghost use Rattle.order.specs.Order.{no_order};
+ghost use Rattle.std.specs.Prelude.{◌≡◌, ℕ, ◌<◌, ◌≤◌, ◌≤ℤ◌, ◌<ℤ◌, IfOk};
 ghost use Rattle.order.specs.Refusals.{judge, accepted, answer_by, limits};
-ghost use Rattle.order.specs.Table.{table_of};
 ghost use Rattle.estimate.specs.Estimate.{estimate_rows, first_met, order_met};
 ghost use Rattle.estimate.specs.Request.{least_along};
 ghost use Rattle.estimate.specs.Told.{estimate_of, met_told, handed_out};
 
+use super::Estimate;
 use super::accept::accept_estimate;
 use super::path::{least_after, order_after, path_length};
-use super::{Estimate, Meeting, OrderMet};
-use order::Acceptance;
-use order::none::no_order;
+use order::{Order, Refusal};
 
 // After how many minutes, of this many at most, the least lateness is first at least the number.
 fn first_reached(estimate: Estimate, number: i32, last: u32) -> u32
@@ -35,32 +32,17 @@ fn first_reached(estimate: Estimate, number: i32, last: u32) -> u32
     high
 }
 
-// No order, for this reason.
-fn no_order_met(meeting: Meeting) -> OrderMet
-    ensures { (result.meeting ≡ meeting) × (result.order ≡ table_of no_order) }
-{
-    let order = no_order();
-    OrderMet { meeting, order }
-}
-
-pub fn order_between(estimate: Estimate, number: i32) -> OrderMet
+pub fn order_between(estimate: Estimate, number: i32) -> Result<Option<Order>, Refusal>
     ensures result_value { met_told result ≡ answer_by (judge (estimate_rows limits (estimate_of estimate))) (order_met (estimate_of estimate) number) }
-    ensures order_value { result.order ≡ handed_out (judge (estimate_rows limits (estimate_of estimate))) estimate.order
-        (first_met (estimate_of estimate) number) }
+    ensures order_value { IfOk result (λ met. met ≡ handed_out estimate.order (first_met (estimate_of estimate) number)) }
 {
-    if let Acceptance::Refused(refusal) = accept_estimate(estimate) {
-        return no_order_met(Meeting::Refused(refusal));
-    }
+    accept_estimate(estimate)?;
     if number < least_after(estimate, 0) {
-        return no_order_met(Meeting::Nowhere);
+        return Ok(None);
     }
     let last = path_length(estimate);
     if least_after(estimate, last) < number {
-        return no_order_met(Meeting::Nowhere);
+        return Ok(None);
     }
-    let order = order_after(estimate, first_reached(estimate, number, last));
-    OrderMet {
-        meeting: Meeting::Met,
-        order,
-    }
+    Ok(Some(order_after(estimate, first_reached(estimate, number, last))))
 }

@@ -1,4 +1,5 @@
 -- How the timed planner's answer is put together: the rows before 9 refuse, then the buffer is too short, then there is a plan or none.
+use Rattle.std.specs.Prelude.{Option, Some, None, Result, Ok, Err}
 use Prim.Native.Nat.{ℕ, suc, ◌+◌, ◌-◌, ◌*◌, ◌≤◌, ◌<◌, ◌/◌}
 use mathlib.Core.Path.{◌≡◌, refl, sym, ap, ◌∙◌}
 use mathlib.Core.List.{List, [], ◌∷◌}
@@ -12,20 +13,7 @@ use Rattle.sums.specs.Lists.{All, tabulate}
 use Rattle.sums.specs.Members.{All-in}
 use Rattle.sums.specs.Places.{numbers-in}
 use Rattle.order.specs.Order.{Order, processor_count, job_count, Numbers}
-use Rattle.order.specs.Refusals.{
-  limits,
-  clear,
-  TableRow,
-  Verdict,
-  accepted,
-  refused,
-  judge,
-  order_rows,
-  bound_row,
-  tight_row,
-  answer,
-  answer_by,
-}
+use Rattle.order.specs.Refusals.{limits, clear, TableRow, Verdict, accepted, refused, judge, order_rows, tight_row, answer, answer_by}
 use Rattle.order.proofs.RefusalLaws.{
   both_true,
   judge-accepted,
@@ -44,18 +32,15 @@ use Rattle.wrap.specs.FrameAt.{Times}
 use Rattle.timed.specs.Changes.{timed_rows_asked}
 use Rattle.timed.specs.Making.{InRange, TimedOf, ChangesOf, Made}
 use Rattle.timed.proofs.NoneLaws.{none-timed, some-timed}
-use Rattle.timed.specs.Rows.{none_timed, asked_rows, timed_buffer, earlier_timed, timed_rows}
-use Rattle.timed.specs.Times.{ready_row, window_row, most_minute, times_of}
+use Rattle.timed.specs.Rows.{none_timed, times_rows, asked_rows, timed_buffer, earlier_timed, timed_rows}
+use Rattle.timed.specs.Times.{most_minute, times_of}
 use Rattle.timed.specs.Written.{TimedBufferBy, timed_told, timed_count, asked_told}
-use Rattle.timed.specs.declared.TimedRows.TheVariants.{Rows as Asked, Refused as AskedRefused}
-use Rattle.timed.specs.declared.TimedPlan.{TimedPlan}
-use Rattle.timed.specs.declared.TimedPlan.TheVariants.{Rows, Tight, Refused}
 use Rattle.timed.specs.declared.Changes.{Changes}
 use Rattle.timed.specs.declared.Times.{Times as TimesTable}
 use Rattle.timed.proofs.Refusing.{order-good, bound-good}
 
 -- the two clauses of the planner's contract
-abbrev pub Ensured : Order → ℤ → Times → (entry exit : List ℕ) → TimedPlan → Type 0
+abbrev pub Ensured : Order → ℤ → Times → (entry exit : List ℕ) → Result (Option ℕ) Refusal → Type 0
 Ensured o bound t entry exit r =
     (timed_told r ≡ answer_by (judge (timed_rows o bound t (length entry))) (timed_count r))
     × TimedBufferBy (judge (timed_rows o bound t (length entry))) o bound t entry exit (timed_count r)
@@ -63,11 +48,11 @@ Ensured o bound t entry exit r =
 module _ (o : Order) (bound : ℤ) (t : Times) where
   -- of an accepted table no time is beyond the last minute
   module _ (ok : judge (asked_rows o bound t) ≡ accepted) where
-    times-clear : All (λ (r : TableRow). r.finding ≡ clear) (ready_row o t ∷ window_row o t ∷ bound_row bound ∷ [])
+    times-clear : All (λ (r : TableRow). r.finding ≡ clear) (times_rows o bound t)
     unfolding asked_rows
     times-clear =
-        let later : List TableRow = ready_row o t ∷ window_row o t ∷ bound_row bound ∷ [] in
-        (judge-accepted later).0 (sym (judge-accepted-append (order_rows limits o) later (order-good o bound t ok)) ∙ ok)
+        (judge-accepted (times_rows o bound t)).0
+        (sym (judge-accepted-append (order_rows limits o) (times_rows o bound t) (order-good o bound t ok)) ∙ ok)
 
     window-good : (i : ℕ) → Numbers (processor_count o) i → (t.opens i < t.closes i) × (t.closes i ≤ most_minute)
     window-good i b =
@@ -88,29 +73,29 @@ module _ (o : Order) (bound : ℤ) (t : Times) where
         }
 
   module _ (entry : List ℕ) where
-    told-by : (k c : ℕ) (exit : List ℕ) (r : TimedPlan) → judge (timed_rows o bound t (length entry)) ≡ refused k c →
+    told-by : (k c : ℕ) (exit : List ℕ) (r : Result (Option ℕ) Refusal) → judge (timed_rows o bound t (length entry)) ≡ refused k c →
         timed_told r ≡ answer_by (refused k c) 0 → timed_count r ≡ 0 → exit ≡ entry → Ensured o bound t entry exit r
     told-by k c exit r e told count same = rw e (told, (same, count))
 
     -- a refusal of the first rows
-    pub asked-refused : (rf : Refusal) → refusal_told rf ≡ judge (asked_rows o bound t) → Ensured o bound t entry entry (Refused rf)
+    pub asked-refused : (rf : Refusal) → refusal_told rf ≡ judge (asked_rows o bound t) → Ensured o bound t entry entry (Err rf)
     unfolding timed_rows earlier_timed
     asked-refused rf e =
         let k = refused-told rf in
         let first = judge-refused-append (asked_rows o bound t) (timed_buffer o bound t (length entry) ∷ []) k.0 k.1 (sym e ∙ k.2) in
         let whole = judge-refused-append (earlier_timed o bound t (length entry)) (tight_row (none_timed o bound t) ∷ []) k.0 k.1 first in
-        told-by k.0 k.1 entry (Refused rf) whole (ap (λ (v : Verdict). answer_by v 0) k.2) refl refl
+        told-by k.0 k.1 entry (Err rf) whole (ap (λ (v : Verdict). answer_by v 0) k.2) refl refl
 
     module _ (ok : judge (asked_rows o bound t) ≡ accepted) where
       -- 9
-      pub short-refused : length entry / 4 < timed_rows_asked o bound t → Ensured o bound t entry entry (Refused BufferTooShort)
+      pub short-refused : length entry / 4 < timed_rows_asked o bound t → Ensured o bound t entry entry (Err BufferTooShort)
       unfolding timed_rows earlier_timed judge
       short-refused h =
           let nine : judge (timed_buffer o bound t (length entry) ∷ []) ≡ refused 9 0
           = rw (lt-ltb (length entry / 4) (timed_rows_asked o bound t) h) refl in
           let first = judge-accepted-append (asked_rows o bound t) (timed_buffer o bound t (length entry) ∷ []) ok ∙ nine in
           let whole = judge-refused-append (earlier_timed o bound t (length entry)) (tight_row (none_timed o bound t) ∷ []) 9 0 first in
-          told-by 9 0 entry (Refused BufferTooShort) whole refl refl refl
+          told-by 9 0 entry (Err BufferTooShort) whole refl refl refl
 
       -- then the plan decides
       module _ (room : timed_rows_asked o bound t ≤ length entry / 4) where
@@ -122,17 +107,16 @@ module _ (o : Order) (bound : ℤ) (t : Times) where
             judge-accepted-append (earlier_timed o bound t (length entry)) (tight_row (none_timed o bound t) ∷ [])
             (judge-accepted-append (asked_rows o bound t) (timed_buffer o bound t (length entry) ∷ []) ok ∙ none)
 
-        pub made-ensured : (exit : List ℕ) (r : TimedPlan) → Made o bound t entry exit r → Ensured o bound t entry exit r
+        pub made-ensured : (exit : List ℕ) (r : Option ℕ) → Made o bound t entry exit r → Ensured o bound t entry exit (Ok r)
         unfolding judge
-        made-ensured exit (Rows count) m =
+        made-ensured exit (Some count) m =
             let e : judge (timed_rows o bound t (length entry)) ≡ accepted
             = left ∙ rw (some-timed o bound t (order-good o bound t ok) m.0.plan m.0.plan-of.right) refl in
             rw e (refl, m.0)
-        made-ensured exit Tight m =
+        made-ensured exit None m =
             let e : judge (timed_rows o bound t (length entry)) ≡ refused 10 0
             = left ∙ rw ((none-timed o bound t (order-good o bound t ok)).1 (m.1 1 (omega arith))) refl in
-            told-by 10 0 exit Tight e refl refl m.0
-        made-ensured exit (Refused rf) m = absurd m
+            told-by 10 0 exit (Ok None) e refl refl m.0
 
 -- a table of an order whose first rows are clear
 pub timed-of : (o : Order) (tb : Table) (bound : ℤ) (times : TimesTable) → judge (asked_rows o bound (times_of times)) ≡ accepted →
@@ -156,15 +140,8 @@ module _ {o : Order} {tb : Table} {bound : ℤ} {times : TimesTable} {c : Change
       let n : tb.n + tb.m - 1 ≤ 63 = omega (arith, T.tabled.few-jobs, T.tabled.few-processors) in
       mul-le-mul {n₂ = 128} {m₂ = 63} C.few n
 
--- the rows to be lent, or why they are not told
+-- the rows to be lent
 module _ (o : Order) (bound : ℤ) (t : Times) where
-  pub rows-refused : (rf : Refusal) → refusal_told rf ≡ judge (asked_rows o bound t) →
-      asked_told (AskedRefused rf) ≡ answer_by (judge (asked_rows o bound t)) (timed_rows_asked o bound t)
-  rows-refused rf e =
-      let k = refused-told rf in
-      let v : judge (asked_rows o bound t) ≡ refused k.0 k.1 = sym e ∙ k.2 in
-      ap (λ (v : Verdict). answer_by v 0) k.2 ∙ sym (ap (λ (v : Verdict). answer_by v (timed_rows_asked o bound t)) v)
-
   pub rows_told : judge (asked_rows o bound t) ≡ accepted → {n : ℕ} → n ≡ timed_rows_asked o bound t →
-      asked_told (Asked n) ≡ answer_by (judge (asked_rows o bound t)) (timed_rows_asked o bound t)
+      asked_told (Ok n) ≡ answer_by (judge (asked_rows o bound t)) (timed_rows_asked o bound t)
   rows_told ok {n} e = ap answer e ∙ sym (ap (λ (v : Verdict). answer_by v (timed_rows_asked o bound t)) ok)

@@ -2,12 +2,10 @@ mod Shifts
 mod Windows
 mod Gathering
 mod TimedMade
-mod Findings
 mod Refusing
 mod Ensuring
 mod InTimes
 mod Walks
-mod Answers
 pub mod ChangeLaws
 pub mod CheckLaws
 pub mod NoneLaws

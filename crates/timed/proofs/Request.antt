@@ -4,7 +4,7 @@ use Rattle.std.proofs.Common.{sym, ap, ◌∙◌, subst, arith}
 use Rattle.sums.specs.Lists.{Pairwise}
 use Rattle.engine.specs.RunLaws.{run-one}
 use Rattle.order.specs.Order.{Order, job_count, Numbers}
-use Rattle.order.specs.Refusals.{limits, Verdict, accepted, refused, judge, tight_row, order_rows, bound_row, Accepted}
+use Rattle.order.specs.Refusals.{limits, Verdict, accepted, refused, judge, tight_row, order_rows, Accepted}
 use Rattle.order.proofs.RefusalLaws.{accepted≢refused, judge-accepted-append, accepted-first}
 use Rattle.plan.specs.Plan.{Row}
 use Rattle.plan.specs.Check.{numbers_of}
@@ -16,8 +16,7 @@ use Rattle.wrap.specs.LayoutSame.{layout-in-same}
 use Rattle.timed.specs.Changes.{timed_frame, timed_rows_asked}
 use Rattle.timed.proofs.ChangeLaws.{timed-rising}
 use Rattle.timed.proofs.NoneLaws.{NoneInParts, none-timed, none-in-parts, some-timed, plan-exists}
-use Rattle.timed.specs.Rows.{NoTimedPlan, none_timed, asked_rows, timed_buffer, earlier_timed, timed_rows}
-use Rattle.timed.specs.Times.{ready_row, window_row}
+use Rattle.timed.specs.Rows.{NoTimedPlan, none_timed, times_rows, asked_rows, timed_buffer, earlier_timed, timed_rows}
 use Rattle.timed.specs.Written.{TimedPlanOf, TimedWritten, TimedBufferBy}
 
 -- What the table answers -----------------------------------------------------------------------------------------------------
@@ -46,7 +45,7 @@ module _ (o : Order) (bound : ℤ) (t : Times) (lent : ℕ) (none : judge (earli
   ok : Accepted o
   unfolding earlier_timed asked_rows
   ok =
-      accepted-first (order_rows limits o) (ready_row o t ∷ window_row o t ∷ bound_row bound ∷ [])
+      accepted-first (order_rows limits o) (times_rows o bound t)
       (accepted-first (asked_rows o bound t) (timed_buffer o bound t lent ∷ []) none)
 
   last : judge (timed_rows o bound t lent) ≡ judge (tight_row (none_timed o bound t) ∷ [])

@@ -1,5 +1,5 @@
 -- What the inner functions of the timed planner hand on: the times at which something changes, and when a plan is made of them.
-use Rattle.std.specs.Prelude.{ℕ, suc, ◌*◌, ◌≤◌, ◌<◌, ◌≡◌, true, List, ℤ, length, get_or}
+use Rattle.std.specs.Prelude.{ℕ, suc, ◌*◌, ◌≤◌, ◌<◌, ◌≡◌, true, List, ℤ, length, get_or, Option, Some, None}
 use Rattle.order.specs.Order.{Order, processor_count, job_count, Numbers}
 use Rattle.order.specs.Lead.{last_due}
 use Rattle.order.specs.Refusals.{Accepted, bound_in_range}
@@ -11,8 +11,6 @@ use Rattle.timed.specs.Changes.{change_count, timed_frame, timed_rows_asked}
 use Rattle.timed.specs.Times.{times_of, most_minute}
 use Rattle.timed.specs.Written.{TimedWritten}
 use Rattle.timed.specs.declared.Changes.{Changes}
-use Rattle.timed.specs.declared.TimedPlan.{TimedPlan}
-use Rattle.timed.specs.declared.TimedPlan.TheVariants.{Rows, Tight, Refused}
 use Rattle.timed.specs.declared.Times.{Times as TimesTable}
 
 -- no time is beyond the last minute
@@ -52,11 +50,10 @@ abbrev pub Makeable : Table → ℤ → TimesTable → Changes → ℕ → Type 
 Makeable t bound times c lent = (o : Order) × RoomFor o t bound times c lent
 
 -- what is made: a plan, or the answer that there is none in any parts
-abbrev pub Made : Order → ℤ → Times → (entry exit : List ℕ) → TimedPlan → Type 0
-Made o bound t entry exit (Rows count) = TimedWritten o bound t entry exit count × (count ≤ 8064)
-Made o bound t entry exit Tight = (exit ≡ entry) × ((p : ℕ) → 1 ≤ p → (rows : List Row) → ¬ RightTimed p o bound t rows)
-Made o bound t entry exit (Refused r) = ⊥
+abbrev pub Made : Order → ℤ → Times → (entry exit : List ℕ) → Option ℕ → Type 0
+Made o bound t entry exit (Some count) = TimedWritten o bound t entry exit count × (count ≤ 8064)
+Made o bound t entry exit None = (exit ≡ entry) × ((p : ℕ) → 1 ≤ p → (rows : List Row) → ¬ RightTimed p o bound t rows)
 
-abbrev pub MadeBy : Table → ℤ → TimesTable → Changes → (entry exit : List ℕ) → TimedPlan → Type 0
+abbrev pub MadeBy : Table → ℤ → TimesTable → Changes → (entry exit : List ℕ) → Option ℕ → Type 0
 MadeBy t bound times c entry exit r =
     (o : Order) → RoomFor o t bound times c (length entry) → Made o bound (times_of times) entry exit r

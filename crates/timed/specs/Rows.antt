@@ -40,9 +40,13 @@ none_by o bound t (refused number carried) e = false
 unfoldable pub none_timed : Order → ℤ → Times → Bool
 none_timed o bound t = none_by o bound t (judge (order_rows limits o)) refl
 
+-- 15, 16, 8
+abbrev pub times_rows : Order → ℤ → Times → List TableRow
+times_rows o bound t = ready_row o t ∷ window_row o t ∷ bound_row bound ∷ []
+
 -- 1 to 6, 13, 7, 15, 16, 8
 unfoldable pub asked_rows : Order → ℤ → Times → List TableRow
-asked_rows o bound t = order_rows limits o ++ (ready_row o t ∷ window_row o t ∷ bound_row bound ∷ [])
+asked_rows o bound t = order_rows limits o ++ times_rows o bound t
 
 -- then 9, of a buffer of so many numbers, and 10
 abbrev pub timed_buffer : Order → ℤ → Times → ℕ → TableRow

@@ -1,10 +1,11 @@
 -- What the timed planner leaves in the lent buffer: the joined layout of the amounts of the frame's run, which keeps the times, and what
 -- stood beyond it; where it refuses, what it was lent.
-use Rattle.std.specs.Prelude.{ℕ, suc, ◌*◌, ◌≡◌, true, List, ◌++◌, ℤ, length, drop}
+use Rattle.std.specs.Prelude.{ℕ, suc, ◌*◌, ◌≡◌, true, List, ◌++◌, ℤ, length, drop, Option, Some, None, Result, Ok, Err}
 use Rattle.order.specs.Order.{Order}
 use Rattle.order.specs.Class.{classes}
 use Rattle.order.specs.Refusals.{Verdict, accepted, refused, Answer, answer, refusal, answer_by}
 use Rattle.order.specs.Table.{refusal_told}
+use Rattle.order.specs.declared.Refusal.{Refusal}
 use Rattle.engine.specs.Run.{RunOf}
 use Rattle.plan.specs.Plan.{Row}
 use Rattle.plan.specs.Check.{numbers_of}
@@ -13,10 +14,6 @@ use Rattle.wrap.specs.Frame.{FeasibleIn, layout_in}
 use Rattle.wrap.specs.FrameAt.{Times, RightTimed}
 use Rattle.wrap.specs.FrameFlow.{flow_in}
 use Rattle.timed.specs.Changes.{timed_frame}
-use Rattle.timed.specs.declared.TimedPlan.{TimedPlan}
-use Rattle.timed.specs.declared.TimedPlan.TheVariants.{Rows, Tight, Refused}
-use Rattle.timed.specs.declared.TimedRows.{TimedRows}
-use Rattle.timed.specs.declared.TimedRows.TheVariants.{Rows as Asked, Refused as AskedRefused}
 
 -- the timed planner's plan at a bound
 pub record TimedPlanOf (o : Order) (bound : ℤ) (t : Times) (plan : List Row) : Type 0 where
@@ -38,17 +35,17 @@ abbrev pub TimedBufferBy : Verdict → Order → ℤ → Times → List ℕ → 
 TimedBufferBy accepted o bound t entry exit count = TimedWritten o bound t entry exit count
 TimedBufferBy (refused number carried) o bound t entry exit count = (exit ≡ entry) × (count ≡ 0)
 
--- what the code's answers stand for: the number of rows, 10 without a reason, or another refusal
-abbrev pub timed_told : TimedPlan → Answer ℕ
-timed_told (Rows count) = answer count
-timed_told Tight = refusal 10 0
-timed_told (Refused r) = answer_by (refusal_told r) 0
+-- what the code's answers stand for: the number of rows, 10 without a reason where there is no plan, or another refusal
+abbrev pub timed_told : Result (Option ℕ) Refusal → Answer ℕ
+timed_told (Ok (Some count)) = answer count
+timed_told (Ok None) = refusal 10 0
+timed_told (Err r) = answer_by (refusal_told r) 0
 
-abbrev pub timed_count : TimedPlan → ℕ
-timed_count (Rows count) = count
-timed_count Tight = 0
-timed_count (Refused r) = 0
+abbrev pub timed_count : Result (Option ℕ) Refusal → ℕ
+timed_count (Ok (Some count)) = count
+timed_count (Ok None) = 0
+timed_count (Err r) = 0
 
-abbrev pub asked_told : TimedRows → Answer ℕ
-asked_told (Asked rows) = answer rows
-asked_told (AskedRefused r) = answer_by (refusal_told r) 0
+abbrev pub asked_told : Result ℕ Refusal → Answer ℕ
+asked_told (Ok rows) = answer rows
+asked_told (Err r) = answer_by (refusal_told r) 0

@@ -13,9 +13,9 @@ ghost use Rattle.timed.specs.Inside.{Named};
 
 use super::Times;
 use super::judging::accept_timed;
-use order::{Acceptance, Order, Refusal};
+use order::{Order, Refusal};
+use plan::Piece;
 use plan::rows::{apart_among, jobs_whole, piece_at, rows_good};
-use plan::{Checked, Piece};
 
 // Whether a row begins and ends in its job's and its processor's time.
 fn in_times(times: Times, piece: Piece) -> bool
@@ -60,6 +60,7 @@ fn many_apart(rows: &[u32]) -> bool
 }
 
 // Whether the rows are a right plan that keeps the times: the four rules and that of the times, one after the other.
+#[tactic(auto, unfolding(plan::specs::Check::is_right, crate::specs::Check::is_right_timed))]
 fn right_timed(order: Order, bound: i32, times: Times, rows: &[u32]) -> bool
     requires { Accepted (order_of order) × (bound_in_range bound ≡ true) × (length rows.now ≤ 32256) }
     ensures { result ≡ is_right_timed (order_of order) bound (times_of times) rows.now }
@@ -67,29 +68,19 @@ fn right_timed(order: Order, bound: i32, times: Times, rows: &[u32]) -> bool
     if !rows_good(order, bound, rows) {
         return false;
     }
-    if !rows_in_times(times, rows) {
-        return false;
-    }
-    if !many_apart(rows) {
-        return false;
-    }
-    jobs_whole(order, rows)
+    rows_in_times(times, rows) && many_apart(rows) && jobs_whole(order, rows)
 }
 
 // Whether the lent rows are a right plan for the order and the bound that keeps the times: rows in any order, four numbers to a row.
-pub fn check_timed(order: Order, bound: i32, times: Times, rows: &[u32]) -> Checked
+#[tactic(auto, unfolding(crate::specs::Rows::timed_check_rows, crate::specs::Rows::asked_rows, order::specs::Refusals::judge))]
+pub fn check_timed(order: Order, bound: i32, times: Times, rows: &[u32]) -> Result<bool, Refusal>
     ensures { checked_told result
         ≡ answer_by (judge (timed_check_rows (order_of order) bound (times_of times) (length rows.now)))
         (is_right_timed (order_of order) bound (times_of times) rows.now) }
 {
-    if let Acceptance::Refused(refusal) = accept_timed(order, bound, times) {
-        return Checked::Refused(refusal);
-    }
+    accept_timed(order, bound, times)?;
     if 32256 < rows.len() {
-        return Checked::Refused(Refusal::TooManyRows);
+        return Err(Refusal::TooManyRows);
     }
-    if right_timed(order, bound, times, rows) {
-        return Checked::Yes;
-    }
-    Checked::No
+    Ok(right_timed(order, bound, times, rows))
 }

@@ -1,8 +1,6 @@
 // Sessions that arrive later, processors that rest (document 02, §5): the timed planner, its check, and the rows to be lent.
 #![tactic(auto)]
 
-use order::Refusal;
-
 pub mod asking; // rows_timed
 pub mod checking; // check_timed
 mod judging; // refusals 15 and 16
@@ -24,19 +22,4 @@ pub struct Times {
 pub struct Changes {
     pub count: usize,
     pub marks: [u32; 128],
-}
-
-// The number of rows written; that there is no plan; or why it was not judged.
-#[derive(Clone, Copy)]
-pub enum TimedPlan {
-    Rows(u32),
-    Tight,
-    Refused(Refusal),
-}
-
-// How many rows are to be lent, or why this was not judged.
-#[derive(Clone, Copy)]
-pub enum TimedRows {
-    Rows(u32),
-    Refused(Refusal),
 }

@@ -3,7 +3,7 @@
 ghost use Rattle.std.specs.Prelude.{length};
 ghost use Rattle.timed.specs.Making.{Makeable, MadeBy};
 
-use super::{Changes, TimedPlan, Times};
+use super::{Changes, Times};
 use allot::filling::fill_amounts;
 use layout::stretches::lay_plan;
 use table::Table;
@@ -16,7 +16,7 @@ pub fn make_timed(
     times: Times,
     changes: Changes,
     rows: &mut [u32],
-) -> TimedPlan
+) -> Option<u32>
     requires { Makeable t bound times changes (length rows.old) }
     ensures { MadeBy t bound times changes rows.old rows.new result }
 {
@@ -35,8 +35,7 @@ pub fn make_timed(
     if !fill_amounts(
         t, &marks, q, &ready, &until, &opens, &closes, &mut cap, &mut room, &mut slack, &mut w,
     ) {
-        return TimedPlan::Tight;
+        return None;
     }
-    let count = lay_plan(t, &marks, q, &opens, &closes, &w, rows);
-    TimedPlan::Rows(count as u32)
+    Some(lay_plan(t, &marks, q, &opens, &closes, &w, rows) as u32)
 }

@@ -6,27 +6,31 @@ ghost use Rattle.timed.specs.Times.{times_of};
 ghost use Rattle.timed.specs.Rows.{timed_rows};
 ghost use Rattle.timed.specs.Written.{timed_told, timed_count, TimedBufferBy};
 
+use super::Times;
 use super::judging::accept_timed;
 use super::making::make_timed;
 use super::moments::changes_of;
-use super::{TimedPlan, Times};
-use order::{Acceptance, Order, Refusal};
+use order::{Order, Refusal};
 use table::making::table_of;
 
-// A plan that meets the bound and keeps the times, in the lent buffer.
-pub fn plan_timed(order: Order, bound: i32, times: Times, rows: &mut [u32]) -> TimedPlan
+// The number of rows of a plan that meets the bound and keeps the times, in the lent buffer; or that there is none.
+#[tactic(auto, unfolding(crate::specs::Rows::asked_rows, order::specs::Refusals::judge))]
+pub fn plan_timed(
+    order: Order,
+    bound: i32,
+    times: Times,
+    rows: &mut [u32],
+) -> Result<Option<u32>, Refusal>
     ensures result_value { timed_told result
         ≡ answer_by (judge (timed_rows (order_of order) bound (times_of times) (length rows.old))) (timed_count result) }
     ensures timed_buffer_by { TimedBufferBy (judge (timed_rows (order_of order) bound (times_of times) (length rows.old)))
         (order_of order) bound (times_of times) rows.old rows.new (timed_count result) }
 {
-    if let Acceptance::Refused(refusal) = accept_timed(order, bound, times) {
-        return TimedPlan::Refused(refusal);
-    }
+    accept_timed(order, bound, times)?;
     let t = table_of(order);
     let changes = changes_of(t, bound, times);
     if rows.len() / 4 < changes.count * (t.n + t.m - 1) {
-        return TimedPlan::Refused(Refusal::BufferTooShort);
+        return Err(Refusal::BufferTooShort);
     }
-    make_timed(t, bound, times, changes, rows)
+    Ok(make_timed(t, bound, times, changes, rows))
 }

@@ -1,21 +1,21 @@
+use Rattle.std.proofs.Common.{rules, ◌≡◌, Result, Err, length, sym, subst}
+use Rattle.order.specs.Table.{order_of, refusal_told}
+use Rattle.order.specs.declared.Refusal.{Refusal}
+use Rattle.planner.specs.declared.Least.{Least}
 use Rattle.callers.proofs.Answers.{LeastBooks, least-book-refused}
 use Rattle.callers.proofs.Passing.{passes, refuses}
 use Rattle.callers.specs.Counted.{book-least-counted}
-use Rattle.order.specs.Table.{order_of}
-use Rattle.planner.specs.declared.Least.TheVariants.{Refused as LeastRefused}
-use lib.ListN.{length}
 use Rattle.callers.proofs.booking.least_booked_for.Goals as goal
 
-pub returns-in-Refused : goal.returns-in-Refused
-returns-in-Refused c =
+pub returns-in_err-accept_counts_for : goal.returns-in_err-accept_counts_for
+returns-in_err-accept_counts_for c =
     let k = c.accept_counts_for in
     let o = order_of c.args.order in
-    let why = c.in-Refused.refusal in
-    let t = refuses c.args.caller c.args.order k.result k.ensures
-    (LeastBooks o c.args.rows.now c.args.rows.now c.args.book.counts c.args.book.counts
-    (LeastRefused why))
-    (book-least-counted o (length c.args.rows.now) c.args.book.counts) why c.in-Refused.is
-    (least-book-refused o why c.args.rows.now c.args.book.counts) in
+    let why = c.in_err-accept_counts_for.field-0.0 in
+    let is : c.from_residual.result ≡ Err why = search rules in
+    let t = refuses c.args.caller c.args.order k.result k.ensures (LeastBooks o c.args.rows.now c.args.rows.now c.args.book.now.counts c.args.book.now.counts c.from_residual.result)
+    (book-least-counted o (length c.args.rows.now) c.args.book.now.counts) why c.in_err-accept_counts_for.was
+    (subst (λ (r : Result Least Refusal). LeastBooks o c.args.rows.now c.args.rows.now c.args.book.now.counts c.args.book.now.counts r (refusal_told why)) (sym is) (least-book-refused o why c.args.rows.now c.args.book.now.counts)) in
     record { least_value = t.0; least_in = t.1.0; buffer_by = t.1.1.0; counts_value = t.1.1.1 }
 
 pub returns : goal.returns
@@ -23,8 +23,6 @@ returns c =
     let k = c.accept_counts_for in
     let o = order_of c.args.order in
     let d = c.least_booked in
-    let t = passes c.args.caller c.args.order k.result k.ensures
-    (LeastBooks o c.args.rows.now _ c.args.book.counts d.result.book.counts d.result.least)
-    (book-least-counted o (length c.args.rows.now) c.args.book.counts) c.in_default.is
-    (c.least_booked.ensures.least_value, (c.least_booked.ensures.least_in, (c.least_booked.ensures.buffer_by, c.least_booked.ensures.counts_value))) in
+    let t = passes c.args.caller c.args.order k.result k.ensures (LeastBooks o c.args.rows.now _ c.args.book.now.counts _ d.result)
+    (book-least-counted o (length c.args.rows.now) c.args.book.now.counts) c.in_ok-accept_counts_for.was (d.ensures.least_value, (d.ensures.least_in, (d.ensures.buffer_by, d.ensures.counts_value))) in
     record { least_value = t.0; least_in = t.1.0; buffer_by = t.1.1.0; counts_value = t.1.1.1 }

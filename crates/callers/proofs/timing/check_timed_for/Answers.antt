@@ -1,31 +1,30 @@
+use Rattle.std.proofs.Common.{rules, ◌≡◌, Bool, Result, Err, length, sym, subst}
+use Rattle.order.specs.Table.{order_of, refusal_told}
+use Rattle.order.specs.declared.Refusal.{Refusal}
+use mir.Syntax.{w32}
+use mir.ValLaws.{to_z-of_z}
+use Rattle.timed.specs.Times.{times_of}
 use Rattle.callers.proofs.Answers.{TimedChecks, no_value}
 use Rattle.callers.proofs.Passing.{passes_at, refuses-at}
 use Rattle.callers.specs.Counted.{timed-check-counted}
-use Rattle.order.specs.Table.{order_of}
-use Rattle.plan.specs.declared.Checked.TheVariants.{Refused as CheckRefused}
-use Rattle.timed.specs.Times.{times_of}
-use lib.ListN.{length}
-use mir.Syntax.{w32}
-use mir.ValLaws.{to_z-of_z}
 use Rattle.callers.proofs.timing.check_timed_for.Goals as goal
 
-pub returns-in-Refused : goal.returns-in-Refused
-returns-in-Refused c =
+pub returns-in_err-accept_counts_for : goal.returns-in_err-accept_counts_for
+returns-in_err-accept_counts_for c =
     let k = c.accept_counts_for in
     let o = order_of c.args.order in
-    let why = c.in-Refused.refusal in
-    refuses-at c.args.caller c.args.order k.result k.ensures
-    (TimedChecks o (times_of c.args.times) c.args.rows.now (CheckRefused why))
-    (λ z. timed-check-counted o z (times_of c.args.times) (length c.args.rows.now)) c.args.bound why
-    c.in-Refused.is (no_value o why _ _)
+    let why = c.in_err-accept_counts_for.field-0.0 in
+    let is : c.from_residual.result ≡ Err why = search rules in
+    let t = refuses-at c.args.caller c.args.order k.result k.ensures (TimedChecks o (times_of c.args.times) c.args.rows.now c.from_residual.result)
+    (λ z. timed-check-counted o z (times_of c.args.times) (length c.args.rows.now)) c.args.bound why c.in_err-accept_counts_for.was
+    (subst (λ (r : Result Bool Refusal). TimedChecks o (times_of c.args.times) c.args.rows.now r (refusal_told why) c.args.bound) (sym is) (no_value o why _ _)) in
+    t
 
 pub returns : goal.returns
 returns c =
     let k = c.accept_counts_for in
     let o = order_of c.args.order in
     let d = c.check_timed in
-    passes_at c.args.caller c.args.order k.result k.ensures
-    (TimedChecks o (times_of c.args.times) c.args.rows.now d.result)
-    (λ z. timed-check-counted o z (times_of c.args.times) (length c.args.rows.now)) c.args.bound _
-    (to_z-of_z w32 c.args.bound c.ranges.bound)
-    c.in_default.is d.ensures
+    let t = passes_at c.args.caller c.args.order k.result k.ensures (TimedChecks o (times_of c.args.times) c.args.rows.now d.result)
+    (λ z. timed-check-counted o z (times_of c.args.times) (length c.args.rows.now)) c.args.bound _ (to_z-of_z w32 c.args.bound c.ranges.bound) c.in_ok-accept_counts_for.was d.ensures in
+    t

@@ -1,30 +1,13 @@
-use Prim.Native.Nat.{ℕ}
-use native.Mathlib.Omega.{arith}
-use borrow.Author.Count.{below_none, below_more}
-use borrow.Author.Tests.{lt-ltb, le-ltb}
-use lib.Dec.{ltb}
-use lib.ListN.{get_or}
-use Rattle.order.proofs.FindingLaws.{walk-found, walk_none}
-use borrow.Author.Rules.{rules}
+use Rattle.std.proofs.Common.{rules, Bool, refl, ◌∙◌}
+use Rattle.std.specs.Prelude.{ltb}
+use Rattle.order.proofs.FindingLaws.{first-agree}
+use Rattle.estimate.specs.Estimate.{EstimatedJob}
+use Rattle.estimate.specs.Told.{job_between}
 use Rattle.estimate.proofs.accept.first_crossed.Goals as goal
-
-pub loop-j-init : goal.loop-j-init
-loop-j-init c = (search rules, search rules, below_none _)
-
-pub returns-then-high-low : goal.returns-then-high-low
-returns-then-high-low c =
-    let l = c.loop-j in
-    walk-found (λ (j : ℕ). ltb (get_or c.args.highs j 0) (get_or c.args.lows j 0)) c.args.n (λ (j : ℕ). j) l.j l.invariant.2
-    (omega arith)
-    (lt-ltb _ _ c.if-high-low.true)
-
-pub loop-j-preserved : goal.loop-j-preserved
-loop-j-preserved c =
-    let l = c.loop-j in
-    (search rules, search rules, below_more _ _ l.invariant.2 (le-ltb _ _ c.if-high-low.false))
 
 pub returns : goal.returns
 returns c =
-    let l = c.loop-j in
-    walk_none (λ (j : ℕ). ltb (get_or c.args.highs j 0) (get_or c.args.lows j 0)) c.args.n (λ (j : ℕ). j) l.j l.invariant.2
-    (omega arith)
+    let t = c.args.estimate in
+    let bad : EstimatedJob → Bool = λ job. ltb job.high job.low in
+    c.first_number.ensures (λ j. bad (job_between t j)) (λ j b l p. search rules)
+    ∙ first-agree (λ j. bad (job_between t j)) bad t.order.jobs (λ j. j) (job_between t) (λ j. refl)

@@ -1,59 +1,17 @@
--- The refusals in the order of the table, then what the rules say.
-use mathlib.Core.Path.{sym, ap, ◌∙◌}
-use native.Mathlib.Omega.{arith}
-use lib.IntN.{ℤ}
-use mir.ValLaws.{to_z-of_z}
-use mir.Syntax.{w32}
-use Rattle.order.specs.Table.{order_of, acceptance_told}
+use Rattle.std.proofs.Common.{rules, ◌≡◌, false, Err, ap, sym, ◌∙◌}
 use Rattle.order.specs.Refusals.{judge}
-use Rattle.timed.specs.Rows.{asked_rows}
-use Rattle.timed.specs.Check.{is_right_timed}
+use Rattle.order.specs.Table.{order_of, acceptance_told}
+use Rattle.order.proofs.TableLaws.{refused-answer}
+use Rattle.plan.specs.Told.{checked_told}
 use Rattle.timed.specs.Times.{times_of}
-use Rattle.timed.proofs.Answers.{asked-refused, rows-refused, answered}
-use Rattle.timed.proofs.Refusing.{order-good, bound-good}
+use Rattle.timed.specs.Rows.{asked_rows, timed_check_rows}
 use Rattle.timed.proofs.checking.check_timed.Goals as goal
 
-pub returns-in-Refused : goal.returns-in-Refused
-returns-in-Refused c =
-    let o = order_of c.args.order in
-    let t = times_of c.args.times in
-    let r = c.args.rows.now in
-    let z = to_z-of_z w32 c.args.bound c.ranges.bound in
-    let e = c.accept_timed.ensures ∙ ap (λ (x : ℤ). judge (asked_rows o x t)) z in
-    asked-refused o c.args.bound t r _ _ e c.in-Refused.is
-
-pub returns-then-rows-gt32256 : goal.returns-then-rows-gt32256
-returns-then-rows-gt32256 c =
-    let o = order_of c.args.order in
-    let t = times_of c.args.times in
-    let r = c.args.rows.now in
-    let z = to_z-of_z w32 c.args.bound c.ranges.bound in
-    let e = c.accept_timed.ensures ∙ ap (λ (x : ℤ). judge (asked_rows o x t)) z in
-    rows-refused o c.args.bound t r (sym e ∙ ap acceptance_told c.in_default.is) (omega arith)
-
-pub right_timed-requires : goal.right_timed-requires
-right_timed-requires c =
-    let o = order_of c.args.order in
-    let t = times_of c.args.times in
-    let ok = sym c.accept_timed.ensures ∙ ap acceptance_told c.in_default.is in
-    (order-good o _ t ok, bound-good o _ t ok, omega arith)
-
-pub returns-then-right_timed : goal.returns-then-right_timed
-returns-then-right_timed c =
-    let o = order_of c.args.order in
-    let t = times_of c.args.times in
-    let r = c.args.rows.now in
-    let z = to_z-of_z w32 c.args.bound c.ranges.bound in
-    let e = c.accept_timed.ensures ∙ ap (λ (x : ℤ). judge (asked_rows o x t)) z in
-    answered o c.args.bound t r (sym e ∙ ap acceptance_told c.in_default.is) (omega arith) _ _
-    (c.right_timed.ensures ∙ ap (λ (x : ℤ). is_right_timed o x t r) z) c.if-right_timed.true
-
-pub returns : goal.returns
-returns c =
-    let o = order_of c.args.order in
-    let t = times_of c.args.times in
-    let r = c.args.rows.now in
-    let z = to_z-of_z w32 c.args.bound c.ranges.bound in
-    let e = c.accept_timed.ensures ∙ ap (λ (x : ℤ). judge (asked_rows o x t)) z in
-    answered o c.args.bound t r (sym e ∙ ap acceptance_told c.in_default.is) (omega arith) _ _
-    (c.right_timed.ensures ∙ ap (λ (x : ℤ). is_right_timed o x t r) z) c.if-right_timed.false
+pub returns-in_err-accept_timed : goal.returns-in_err-accept_timed
+unfolding timed_check_rows
+returns-in_err-accept_timed c =
+    let e = c.in_err-accept_timed in
+    let asked = asked_rows (order_of c.args.order) c.args.bound (times_of c.args.times) in
+    let is : c.from_residual.result ≡ Err e.field-0.0 = search rules in
+    let told : acceptance_told c.accept_timed.result ≡ judge asked = search rules in
+    ap checked_told is ∙ refused-answer asked _ e.field-0.0 false _ (sym (ap acceptance_told e.was) ∙ told)

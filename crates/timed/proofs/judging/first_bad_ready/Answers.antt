@@ -1,27 +1,12 @@
--- The ready minutes passed so far are in range; one that is not decides.
-use mathlib.Core.Bool.{not}
-use native.Mathlib.Omega.{arith}
-use borrow.Author.Count.{below_none, below_more}
-use borrow.Author.Rules.{rules}
-use Rattle.sums.specs.Lists.{nth}
-use Rattle.timed.specs.Times.{minute_in_range}
-use Rattle.timed.proofs.Findings.{one_found, none_found, minute-high, minute-good}
+use Rattle.std.proofs.Common.{rules, ℕ, Bool, not, suc, refl, ◌∙◌}
+use Rattle.order.proofs.FindingLaws.{first-agree}
+use Rattle.order.proofs.StructLaws.{job-count}
+use Rattle.timed.specs.Times.{times_of, minute_in_range}
 use Rattle.timed.proofs.judging.first_bad_ready.Goals as goal
-
-pub loop-j-init : goal.loop-j-init
-loop-j-init c = (search rules, below_none _)
-
-pub returns-then-minute-gt1000000 : goal.returns-then-minute-gt1000000
-returns-then-minute-gt1000000 c =
-    let l = c.loop-j in
-    one_found (λ j. not (minute_in_range (nth c.args.ready j 0))) c.args.n l.j l.invariant.1 (omega arith)
-    (minute-high _ c.if-minute-gt1000000.true)
-
-pub loop-j-preserved : goal.loop-j-preserved
-loop-j-preserved c =
-    (search rules, below_more _ _ c.loop-j.invariant.1 (minute-good _ c.if-minute-gt1000000.false))
 
 pub returns : goal.returns
 returns c =
-    let l = c.loop-j in
-    none_found (λ j. not (minute_in_range (nth c.args.ready j 0))) c.args.n l.j l.invariant.1 (omega arith)
+    let t = times_of c.args.times in
+    let bad : ℕ → Bool = λ j. not (minute_in_range (t.ready j)) in
+    c.first_number.ensures (λ j. bad (suc j)) (λ j b l p. search rules)
+    ∙ rw (job-count c.args.order) (first-agree (λ j. bad (suc j)) bad c.args.order.jobs (λ j. j) suc (λ j. refl))

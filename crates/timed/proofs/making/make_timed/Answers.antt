@@ -55,20 +55,8 @@ returns-then-not-fill_amounts c =
     let w = c.fill_amounts in
     λ o m. (refl, none_made m e c.ends_at-until.ensures (cut_of _ _ _ w.result w.ensures.answer (not-true _ c.if-not-fill_amounts.true-raw)))
 
-pub slice_bounds-lay_plan-end : goal.slice_bounds-lay_plan-end
-slice_bounds-lay_plan-end c =
-    omega arith
-
-pub slice_bounds-lay_plan-end-2 : goal.slice_bounds-lay_plan-end-2
-slice_bounds-lay_plan-end-2 c =
-    omega arith
-
-pub slice_bounds-lay_plan-end-3 : goal.slice_bounds-lay_plan-end-3
-slice_bounds-lay_plan-end-3 c =
-    omega arith
-
-pub lay_plan-count-requires : goal.lay_plan-count-requires
-lay_plan-count-requires c =
+pub lay_plan-requires : goal.lay_plan-requires
+lay_plan-requires c =
     let long : length c.fill_amounts.new.w ≡ 6272 = search rules in
     let e = c.reach_of.ensures.0 ∙ ap (reach_at last_due) (to_z-of_z w32 c.args.bound c.ranges.bound) in
     let w = c.fill_amounts in
@@ -84,7 +72,7 @@ overflow_cast-result c =
     omega (
       arith,
       plan-few c.requires.1 e c.ends_at-until.ensures w.new.w
-          (amounts-of _ _ _ w.result w.ensures.answer (not-false _ c.if-not-fill_amounts.false-raw)) _ c.lay_plan-count.ensures.0,
+          (amounts-of _ _ _ w.result w.ensures.answer (not-false _ c.if-not-fill_amounts.false-raw)) _ c.lay_plan.ensures.0,
     )
 
 pub returns : goal.returns
@@ -93,7 +81,7 @@ returns c =
     let w = c.fill_amounts in
     let done = not-false _ c.if-not-fill_amounts.false-raw in
     let F = amounts-of _ _ _ w.result w.ensures.answer done in
-    let l = c.lay_plan-count.ensures in
+    let l = c.lay_plan.ensures in
     λ o m. (
       plan-made m e c.ends_at-until.ensures w.new.w F (run_of _ _ _ w.result w.ensures.run_of done) _ _ _ l.0 l.1,
       plan-few m e c.ends_at-until.ensures w.new.w F _ l.0,
