@@ -42,8 +42,7 @@ use Rattle.registers.specs.Memory.{
 use Rattle.registers.specs.PlaceLaws.{kind, nothing-at, zero-from, not-zero}
 use Rattle.registers.specs.MemoryLaws.{alike}
 use Rattle.registers.specs.HeldLaws.{OfJobs, laid-beyond, held_none, held-plan, zero-at, zeros-none}
-use Rattle.registers.specs.declared.Outcome.{Outcome}
-use Rattle.registers.specs.declared.Outcome.TheVariants.{Refused}
+use Rattle.std.specs.Prelude.{Result, Ok, Err}
 use Rattle.registers.specs.declared.Place.{Place}
 use Rattle.registers.specs.declared.Place.TheVariants.{Command, Flag, Number, Allow, Stored, Lateness, Held, Nothing}
 
@@ -127,22 +126,22 @@ module _ (bytes numbers bytes₁ numbers₁ : List ℕ) (m : Moved begun bytes b
   })
 
   -- a command that is concluded
-  module _ (outcome : Outcome) (bytes₂ numbers₂ : List ℕ) (n : Moved (concluded outcome) bytes₁ bytes₂) where
+  module _ (outcome : Result ℤ ℕ) (bytes₂ numbers₂ : List ℕ) (n : Moved (concluded outcome) bytes₁ bytes₂) where
     both-spare : (k : ℕ) → spare_of bytes₂ k ≡ spare_of bytes k
     both-spare k = n.spare k ∙ m.spare k
 
     both-beyond : drop 256 bytes₂ ≡ drop 256 bytes
     both-beyond = n.beyond ∙ m.beyond
 
-    refused_as : (number : ℕ) → outcome ≡ Refused number → numbers₂ ≡ numbers₁ →
+    refused_as : (number : ℕ) → outcome ≡ Err number → numbers₂ ≡ numbers₁ →
         registers_of bytes₂ numbers₂ ≡ refused_with number (begun s)
     refused_as number e same =
-        let moved : Moved (refused_with number) bytes₁ bytes₂ = subst (λ (x : Outcome). Moved (concluded x) bytes₁ bytes₂) e n in
+        let moved : Moved (refused_with number) bytes₁ bytes₂ = subst (λ (x : Result ℤ ℕ). Moved (concluded x) bytes₁ bytes₂) e n in
         ap (block_of bytes₂) (ap rows_held same ∙ no_rows)
         ∙ moved.block []
         ∙ ap (refused_with number) begins
 
-    pub unknown-in : outcome ≡ Refused 0 → numbers₂ ≡ numbers₁ → (v : ℕ) → (v ≡ 1 → ⊥) → (v ≡ 2 → ⊥) → (v ≡ 3 → ⊥) →
+    pub unknown-in : outcome ≡ Err 0 → numbers₂ ≡ numbers₁ → (v : ℕ) → (v ≡ 1 → ⊥) → (v ≡ 2 → ⊥) → (v ≡ 3 → ⊥) →
         WroteIn 0 v bytes numbers bytes₂ numbers₂
     unknown-in e same v not-one not-two not_three = record {
       wrote = rw (ne_eqb v 1 not-one, ne_eqb v 2 not-two, ne_eqb v 3 not_three) (refused_as 0 e same);
@@ -157,7 +156,7 @@ module _ (bytes numbers bytes₁ numbers₁ : List ℕ) (m : Moved begun bytes b
     planned-as : (v : Verdict) (o : Order) (lateness : ℤ) → OutcomeBy v o lateness numbers₁ numbers₂ outcome →
         PlannedBy v s o lateness (registers_of bytes₂ numbers₂)
     planned-as accepted o lateness L =
-        let moved = subst (λ (x : Outcome). Moved (concluded x) bytes₁ bytes₂) L.told n in
+        let moved = subst (λ (x : Result ℤ ℕ). Moved (concluded x) bytes₁ bytes₂) L.told n in
         let held : rows_held numbers₂ ≡ L.plan =
         ap rows_held L.rows_are
         ∙ held-plan L.plan numbers₁ (of-jobs o lateness L.plan L.plan-of) L.few

@@ -10,8 +10,7 @@ use Rattle.plan.specs.Check.{numbers_of, row_at}
 use Rattle.planner.specs.Written.{PlanOf}
 use Rattle.registers.specs.Registers.{Registers, place_of, is_set, bit, finished_with, refused_with, Wrote}
 use Rattle.registers.specs.declared.Flags.{Flags}
-use Rattle.registers.specs.declared.Outcome.{Outcome}
-use Rattle.registers.specs.declared.Outcome.TheVariants.{Done, Refused}
+use Rattle.std.specs.Prelude.{Result, Ok, Err}
 use Rattle.registers.specs.declared.Place.{Place}
 use Rattle.registers.specs.declared.Place.TheVariants.{Command, Flag, Number, Allow, Stored, Lateness, Held, Nothing}
 
@@ -110,20 +109,20 @@ lateness_put bytes n =
     set (set (set (set bytes 12 (n % 256)) 13 (n / 256 % 256)) 14 (n / 65536 % 256)) 15 (n / 16777216 % 256)
 
 -- how a command ended: the plan is in the lent numbers, and they were zeros; or they are as they were
-pub record Laid (o : Order) (lateness : ℤ) (numbers numbers' : List ℕ) (outcome : Outcome) : Type 0 where
+pub record Laid (o : Order) (lateness : ℤ) (numbers numbers' : List ℕ) (outcome : Result ℤ ℕ) : Type 0 where
   pub plan : List Row
   pub plan-of : PlanOf o lateness plan
   pub few : length plan ≤ 180
   pub rows_are : numbers' ≡ numbers_of plan ++ drop (4 * length plan) numbers
-  pub told : outcome ≡ Done lateness
+  pub told : outcome ≡ Ok lateness
 
-abbrev pub OutcomeBy : Verdict → Order → ℤ → (numbers numbers' : List ℕ) → Outcome → Type 0
+abbrev pub OutcomeBy : Verdict → Order → ℤ → (numbers numbers' : List ℕ) → Result ℤ ℕ → Type 0
 OutcomeBy accepted o lateness numbers numbers' outcome = Laid o lateness numbers numbers' outcome
-OutcomeBy (refused number carried) o lateness numbers numbers' outcome = (outcome ≡ Refused number) × (numbers' ≡ numbers)
+OutcomeBy (refused number carried) o lateness numbers numbers' outcome = (outcome ≡ Err number) × (numbers' ≡ numbers)
 
 abbrev pub finished_at : ℤ → Registers → Registers
 finished_at lateness s = finished_with lateness s.rows s
 
-abbrev pub concluded : Outcome → Registers → Registers
-concluded (Done lateness) s = finished_at lateness s
-concluded (Refused number) s = refused_with number s
+abbrev pub concluded : Result ℤ ℕ → Registers → Registers
+concluded (Ok lateness) s = finished_at lateness s
+concluded (Err number) s = refused_with number s

@@ -22,8 +22,7 @@ use Rattle.registers.specs.Registers.{
 }
 use Rattle.registers.specs.Memory.{block_of, stored_by, spare_by, Moved, with_flags, with_allowed, lateness_put, finished_at, concluded}
 use Rattle.registers.specs.declared.Flags.{Flags}
-use Rattle.registers.specs.declared.Outcome.{Outcome}
-use Rattle.registers.specs.declared.Outcome.TheVariants.{Done, Refused}
+use Rattle.std.specs.Prelude.{Result, Ok, Err}
 use Rattle.registers.specs.declared.Place.{Place}
 use Rattle.registers.specs.declared.Place.TheVariants.{Stored}
 
@@ -337,10 +336,10 @@ module _ (xs : List ℕ) (long : 256 ≤ length xs) where
         })
 
 -- a command is over, by how it ended
-module _ (xs ys : List ℕ) (x : Outcome) where
-  pub concluded-done : (z told : ℤ) → x ≡ Done z → told ≡ z → Moved (finished_at told) xs ys → Moved (concluded x) xs ys
+module _ (xs ys : List ℕ) (x : Result ℤ ℕ) where
+  pub concluded-done : (z told : ℤ) → x ≡ Ok z → told ≡ z → Moved (finished_at told) xs ys → Moved (concluded x) xs ys
   concluded-done z told e same m =
-      subst (λ (x : Outcome). Moved (concluded x) xs ys) (sym e) (subst (λ (z : ℤ). Moved (finished_at z) xs ys) same m)
+      subst (λ (x : Result ℤ ℕ). Moved (concluded x) xs ys) (sym e) (subst (λ (z : ℤ). Moved (finished_at z) xs ys) same m)
 
-  pub concluded-refused : (n : ℕ) → x ≡ Refused n → Moved (refused_with n) xs ys → Moved (concluded x) xs ys
-  concluded-refused n e m = subst (λ (x : Outcome). Moved (concluded x) xs ys) (sym e) m
+  pub concluded-refused : (n : ℕ) → x ≡ Err n → Moved (refused_with n) xs ys → Moved (concluded x) xs ys
+  concluded-refused n e m = subst (λ (x : Result ℤ ℕ). Moved (concluded x) xs ys) (sym e) m

@@ -2,7 +2,6 @@
 ghost use Rattle.std.specs.Prelude.{◌≤◌, length};
 ghost use Rattle.registers.specs.Memory.{WroteIn};
 
-use super::Outcome;
 use super::clearing::{clear_bytes, clear_rows};
 use super::outcomes::{begin, conclude};
 use super::planning::{plan_at_bound, plan_at_least};
@@ -27,6 +26,6 @@ pub fn command(bytes: &mut [u8], rows: &mut [u32], value: u8)
             conclude(bytes, outcome);
         }
         3 => clear_bytes(bytes),
-        _ => conclude(bytes, Outcome::Refused(0)),
+        _ => conclude(bytes, Err(0)),
     }
 }

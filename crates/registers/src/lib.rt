@@ -38,10 +38,3 @@ pub struct Flags {
     pub refused: bool,
     pub interrupt: bool,
 }
-
-// How a command ended: at this lateness, or refused with this number.
-#[derive(Clone, Copy)]
-pub enum Outcome {
-    Done(i32),
-    Refused(u8),
-}

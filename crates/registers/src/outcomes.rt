@@ -5,7 +5,7 @@ ghost use Rattle.registers.specs.Memory.{Moved, finished_at, concluded};
 
 use super::bits::{either, flags_in, with_flags};
 use super::numbers::put_lateness;
-use super::{Flags, Outcome};
+use super::Flags;
 use order_file::bytes::to_pattern;
 
 // "Every command first clears bits 0 and 1, bytes 2 and 12 to 15": bit 2 stays.
@@ -54,13 +54,14 @@ fn refuse(bytes: &mut [u8], number: u8)
     bytes[2] = number;
 }
 
+// How a command ended: at this lateness, or refused with this number.
 // "Finished or refused, a command but 3 sets its flag, and bit 2 if allowed."
-pub fn conclude(bytes: &mut [u8], outcome: Outcome)
+pub fn conclude(bytes: &mut [u8], outcome: Result<i32, u8>)
     requires { 256 ≤ length bytes.old }
     ensures { Moved (concluded outcome) bytes.old bytes.new }
 {
     match outcome {
-        Outcome::Done(lateness) => finish(bytes, lateness),
-        Outcome::Refused(number) => refuse(bytes, number),
+        Ok(lateness) => finish(bytes, lateness),
+        Err(number) => refuse(bytes, number),
     }
 }

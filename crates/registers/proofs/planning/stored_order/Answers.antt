@@ -1,14 +1,12 @@
 use lib.ListN.{take, drop}
-use mathlib.Core.Path.{refl, ap}
+use mathlib.Core.Path.{ap}
 use Prim.Native.Nat.{ℕ, ◌+◌, ◌-◌}
 use Rattle.registers.proofs.Planned.{read-long, read_short}
 use Rattle.registers.proofs.planning.stored_order.Goals as goal
 
-pub returns-then-length-gt-MOST_BYTES : goal.returns-then-length-gt-MOST_BYTES
-returns-then-length-gt-MOST_BYTES c =
-    let t = read-long c.args.bytes.now c.requires (rw c.read2-length.ensures.0 at c.if-length-gt-MOST_BYTES.true) _ refl
-    c.no_order-order.ensures in
-    record { result_value = t.0; order_value = t.1 }
+pub returns-then-length-gt-MOST_BYTES-clause-result_value : goal.returns-then-length-gt-MOST_BYTES-clause-result_value
+returns-then-length-gt-MOST_BYTES-clause-result_value c =
+    (read-long c.args.bytes.now c.requires (rw c.read2-length.ensures.0 at c.if-length-gt-MOST_BYTES.true)).0
 
 pub returns : goal.returns
 returns c =
