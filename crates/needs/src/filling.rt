@@ -14,7 +14,7 @@ use super::{Filled, LONGEST};
 fn first_out(lengths: &[u32]) -> Option<usize>
     ensures { result ≡ position (λ (x : ℕ). not (time_in_range x)) lengths.now }
 {
-    lengths.iter().position(|&x| x < 1 || LONGEST < x)
+    lengths.iter().position(|x| !(1..=LONGEST).contains(x))
 }
 
 // The need of each length, in the first places.

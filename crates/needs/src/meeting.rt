@@ -31,7 +31,7 @@ pub fn meets_at(table: &[u32], i: usize, x: u32) -> bool
 {
     let from = table[3 * i];
     let to = table[3 * i + 1];
-    1 <= from && to <= LONGEST && from <= x && x <= to
+    1 <= from && to <= LONGEST && (from..=to).contains(&x)
 }
 
 // The place of the first line that meets a length.

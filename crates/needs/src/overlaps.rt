@@ -11,8 +11,7 @@ fn smaller(a: Option<u32>, b: Option<u32>) -> Option<u32>
 {
     match (a, b) {
         (Some(x), Some(y)) => Some(x.min(y)),
-        (a, None) => a,
-        (None, b) => b,
+        (x, None) | (None, x) => x,
     }
 }
 
