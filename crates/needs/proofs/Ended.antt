@@ -6,8 +6,8 @@ use mathlib.Core.List.{List, [], ◌∷◌, ◌++◌, map, append_assoc, map-app
 use native.Mathlib.Omega.{arith}
 use native.Mathlib.Numerals.{add-one}
 use borrow.Author.Tests.{lt-ltb, le-ltb}
-use lib.ListN.{length, get_or, set, take, drop, length-append, length-drop, length-map}
-use lib.Seq.{set_at, drop-cons, take-suc, take-length, length-take-le}
+use lib.ListN.{length, get_or, set, take, drop, length-map}
+use lib.Seq.{set_at, drop-cons, take-suc, length-take-le}
 use Rattle.std.specs.Prelude.{cond, Option, None, Some}
 use Rattle.std.specs.List.{position, position_from}
 use Rattle.std.proofs.lemmas.Iterator.Adapters.{position_from-zero}
@@ -132,11 +132,6 @@ module _ (f : ℕ → ℕ) (listed entry : List ℕ) where
   size : (k : ℕ) → k ≤ length listed → length (map f (take k listed)) ≡ k
   size k l = length-map (take k listed) f ∙ length-take-le k listed l
 
-  pub filled-length : (k : ℕ) (out : List ℕ) → out ≡ filled_to k → k ≤ length listed → length listed ≤ length entry →
-      length out ≡ length entry
-  filled-length k out e l h =
-      ap length e ∙ length-append (map f (take k listed)) (drop k entry) ∙ omega (arith, size k l, length-drop k entry)
-
   pub next-filled : (k v : ℕ) (out : List ℕ) → out ≡ filled_to k → k < length listed → length listed ≤ length entry →
       v ≡ f (get_or listed k 0) → set out k v ≡ filled_to (k + 1)
   next-filled k v out e l h is =
@@ -148,8 +143,3 @@ module _ (f : ℕ → ℕ) (listed entry : List ℕ) where
       ∙ ap (λ (xs : List ℕ). xs ++ drop (suc k) entry)
       (sym (map-append f (take k listed) (get_or listed k 0 ∷ [])) ∙ ap (map f) (sym (take-suc listed k 0 l)))
       ∙ ap filled_to (sym (add-one k))
-
-  -- all of them
-  pub all-put : (k : ℕ) (out : List ℕ) → out ≡ filled_to k → length listed ≡ k → out ≡ map f listed ++ drop (length listed) entry
-  all-put k out e is =
-      e ∙ ap filled_to (sym is) ∙ ap (λ (xs : List ℕ). map f xs ++ drop (length listed) entry) (take-length listed)

@@ -3,7 +3,7 @@
 use Prim.Native.Nat.{ℕ, zero, suc, ◌+◌, ◌≤◌, ◌<◌, min, max}
 use Rattle.std.specs.Prelude.{◌≡◌, refl, Bool, true, false, ◌&&◌, ◌||◌, List, Option, None, Some, leb, length}
 use Rattle.std.specs.Bool.{then_some}
-use Rattle.std.proofs.Common.{sym, ap, ◌∙◌, true≢false, arith, le-leb, eq-eqb, ne_eqb}
+use Rattle.std.proofs.Common.{sym, ap, ◌∙◌, true≢false, arith, le-leb, ne_eqb}
 use Rattle.std.proofs.Math.Bool.{or-false}
 use Rattle.std.proofs.Math.Decide.{dec_le, dec_lt}
 use Rattle.std.proofs.lemmas.Bool.{lt-leb}
@@ -83,15 +83,7 @@ module _ (table : List ℕ) (n : ℕ) where
     pub most : x ≤ suc longest
     pub met : (y : ℕ) → 1 ≤ y → y < x → unmet (first_lines table n) y ≡ false
 
-  pub start : Climbed 1
-  start = record { from_one = omega arith; most = omega arith; met = λ y h l. absurd (omega arith) }
-
-  -- no line meets x
-  pub at_gap : (x : ℕ) → Climbed x → x ≤ longest → met_by (first_lines table n) x ≡ 0 → SmallestOf (unmet (first_lines table n)) (Some x)
-  at_gap x c l e =
-      (l, record { from_one = c.from_one; most = c.most; before = c.met; here = λ b. eq-eqb (met_by (first_lines table n) x) 0 e })
-
-  -- a line does, and so it meets all up to its end
+  -- a line meets x, and so it meets all up to its end
   module _ (x i : ℕ) (c : Climbed x) (m : FirstMeets table n x i) where
     pub facts : Meets (line_at table i) x
     facts = meets-facts (line_at table i) x m.here
@@ -109,15 +101,6 @@ module _ (table : List ℕ) (n : ℕ) where
       most = omega (arith, facts.to-most);
       met = λ y h k. elim (dec_lt y x) [ yes w ↦ c.met y h w | no w ↦ line-meets y (omega arith) (omega arith) ];
     }
-
-  -- at the top every length is met
-  pub at_top : (x : ℕ) → Climbed x → longest < x → Smallest (unmet (first_lines table n)) (suc longest)
-  at_top x c l = record {
-    from_one = omega arith;
-    most = omega arith;
-    before = λ y h k. c.met y h (omega arith);
-    here = λ b. absurd (omega arith);
-  }
 
 -- two lines: both meet the later of their beginnings, or they have no length in common
 module _ (a b : Line) where
