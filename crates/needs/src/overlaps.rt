@@ -1,4 +1,5 @@
-// Row 18: the smallest length that two lines meet, from the pairs of lines. All serve this crate alone; all but `smaller` have a `requires`.
+// Row 18: the smallest length that two lines meet, from the pairs of lines. All serve this crate alone; all but `smaller` have a
+// `requires`.
 ghost use Rattle.std.specs.Prelude.{◌≡◌, ◌&&◌, ℕ, ◌+◌, ◌*◌, ◌≤◌, length};
 ghost use Rattle.needs.specs.NeedTable.{line_at, meets, met_twice};
 ghost use Rattle.needs.specs.Inside.{first_lines, SmallestOf, smaller};
