@@ -1,7 +1,7 @@
 // The line of a reason: composed, and read back.
 use super::{print, print_changes, stream};
 use order::{Acceptance, Caller};
-use reason::{Reason, Tightness, Why};
+use reason::{Reason, Why};
 use sentence::Composed;
 
 // A reason through composing, in a buffer of the stated length; beyond what is written the buffer keeps its bytes.

@@ -4,7 +4,7 @@ ghost use Rattle.std.specs.Prelude.{◌≤◌, length};
 
 use book::Book;
 use order::Order;
-use reason::{Reason, Tightness, Why};
+use reason::{Reason, Why};
 use timed::Times;
 
 // The descriptor of standard input.

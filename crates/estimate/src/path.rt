@@ -1,6 +1,6 @@
 // The orders on the path from all lows to all highs, each made without walking there, and their least lateness. All serve this crate
-// alone; all but `lesser` have a `requires`.
-ghost use Rattle.std.specs.Prelude.{◌≡◌, ◌≤◌, min};
+// alone and have a `requires`.
+ghost use Rattle.std.specs.Prelude.{◌≡◌, ◌≤◌};
 ghost use Rattle.sums.specs.Sum.{sum};
 ghost use Rattle.order.specs.Refusals.{limits, accepted, judge};
 ghost use Rattle.estimate.specs.Estimate.{path_at, path_length, estimate_rows};
@@ -13,25 +13,14 @@ use order::Order;
 use reason::tell::least_in;
 use table::making::table_of;
 
-fn lesser(a: u32, b: u32) -> u32
-    ensures { result ≡ min a b }
-{
-    if a < b {
-        return a;
-    }
-    b
-}
-
 // How many minutes n jobs go up in all.
 fn minutes_between(lows: [u32; 48], highs: [u32; 48], n: usize) -> u32
     requires { Spans lows highs n }
     ensures { result ≡ sum n (width_at lows highs) }
 {
-    let mut minutes: u32 = 0;
-    let mut j: usize = 0;
-    while j < n {
+    let mut minutes = 0;
+    for j in 0..n {
         minutes += highs[j] - lows[j];
-        j += 1;
     }
     minutes
 }
@@ -43,13 +32,10 @@ fn times_after(lows: [u32; 48], highs: [u32; 48], n: usize, k: u32) -> [u32; 48]
 {
     let mut out = [0u32; 48];
     let mut left = k;
-    let mut j: usize = 0;
-    while j < n {
-        let low = lows[j];
-        let more = lesser(left, highs[j] - low);
-        out[j] = low + more;
+    for j in 0..n {
+        let more = left.min(highs[j] - lows[j]);
+        out[j] = lows[j] + more;
         left -= more;
-        j += 1;
     }
     out
 }

@@ -26,7 +26,7 @@ module _ (f g : ℕ → ℕ) where
   unfolding pairs_to
   none-paired s = refl
 
-  pub paired-length : (s out : List ℕ) (k : ℕ) → out ≡ pairs_to f g k ++ drop (2 * k) s → 2 * k ≤ length s → length out ≡ length s
+  paired-length : (s out : List ℕ) (k : ℕ) → out ≡ pairs_to f g k ++ drop (2 * k) s → 2 * k ≤ length s → length out ≡ length s
   paired-length s out k e h =
       ap length e ∙ length-append (pairs_to f g k) (drop (2 * k) s) ∙ omega (arith, pairs-length f g k, length-drop (2 * k) s)
 

@@ -1,27 +1,13 @@
--- The times of lent lists: what stands beyond a list's end, an array that is filled to its own, and the struct of three arrays.
-use Prim.Native.Nat.{ℕ, zero, suc, ◌+◌, ◌*◌, ◌≤◌}
+-- The times of lent lists: the struct of three arrays.
+use Prim.Native.Nat.{ℕ, ◌+◌, ◌*◌}
 use mathlib.Core.Path.{◌≡◌, refl, ap, ◌∙◌}
-use mathlib.Core.List.{List, [], ◌∷◌}
+use mathlib.Core.List.{List}
 use native.Mathlib.Omega.{arith}
-use native.Mathlib.Nat.{le_of_suc-le-suc}
-use lib.ListN.{length, get_or}
+use lib.ListN.{get_or}
 use Rattle.sums.specs.Lists.{tabulate}
-use Rattle.sums.specs.Places.{tabulate-cong, get_d_tabulate}
-use Rattle.order_file.specs.Inside.{padded_to}
+use Rattle.sums.specs.Places.{tabulate-cong}
 use Rattle.timed.specs.declared.Times.{Times}
 use Rattle.highboyrobin.specs.TimedCalls.{times_from}
-
--- no number stands beyond the end
-pub none-beyond : (xs : List ℕ) (i : ℕ) → length xs ≤ i → 0 ≡ get_or xs i 0
-none-beyond [] i h = refl
-none-beyond (x ∷ xs) zero h = absurd (omega arith)
-none-beyond (x ∷ xs) (suc i) h = none-beyond xs i (le_of_suc-le-suc h)
-
--- an array that is filled to its end
-pub all-padded : {A : Type 0} (k n : ℕ) (d : A) (f : ℕ → A) → n ≡ k → padded_to k n d f ≡ tabulate k f
-unfolding padded_to
-all-padded k n d f e =
-    ap (λ (m : ℕ). tabulate k (λ i. get_or (tabulate m f) i d)) e ∙ tabulate-cong k _ _ (λ i l. get_d_tabulate k f d i l)
 
 -- the numbers at place 0 of the pairs are the first ones
 first-side : (windows : List ℕ) →

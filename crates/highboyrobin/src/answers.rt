@@ -68,47 +68,17 @@ fn put_dues(answer: &mut [i32], dues: [i32; 16])
     requires { 19 ≤ length answer.old }
     ensures { answer.new ≡ take 3 answer.old ++ (dues ++ drop 19 answer.old) }
 {
-    let mut i: usize = 0;
-    while i < 16 {
-        answer[3 + i] = dues[i];
-        i += 1;
-    }
+    answer[3..19].copy_from_slice(&dues);
 }
 
 // The kind of a reason; the job or the count of classes; the job's time. 0 where there is none.
-fn kind_of(told: Option<Reason>) -> u32
-    ensures { result ≡ kind_of told }
+fn numbers_of(told: Option<Reason>) -> (u32, u32, u32)
+    ensures { result ≡ (kind_of told, which_of told, time_of told) }
 {
-    let Some(reason) = told else {
-        return 0;
-    };
-    match reason {
-        Reason::Job(_, _) => 1,
-        Reason::Stairs(_) => 2,
-    }
-}
-
-fn which_of(told: Option<Reason>) -> u32
-    ensures { result ≡ which_of told }
-{
-    let Some(reason) = told else {
-        return 0;
-    };
-    match reason {
-        Reason::Job(job, _) => job,
-        Reason::Stairs(count) => count,
-    }
-}
-
-fn time_of(told: Option<Reason>) -> u32
-    ensures { result ≡ time_of told }
-{
-    let Some(reason) = told else {
-        return 0;
-    };
-    match reason {
-        Reason::Job(_, time) => time,
-        Reason::Stairs(_) => 0,
+    match told {
+        None => (0, 0, 0),
+        Some(Reason::Job(job, time)) => (1, job, time),
+        Some(Reason::Stairs(count)) => (2, count, 0),
     }
 }
 
@@ -117,8 +87,7 @@ pub fn put_reason(answer: &mut [i32], why: Why)
     requires { (which_of why.reason < 2147483648) × (time_of why.reason < 2147483648) × (19 ≤ length answer.old) }
     ensures { answer.new ≡ why_numbers why ++ drop 19 answer.old }
 {
-    let told = why.reason;
-    let dues = why.dues;
-    put_three(answer, kind_of(told), which_of(told), time_of(told));
-    put_dues(answer, dues);
+    let (kind, which, time) = numbers_of(why.reason);
+    put_three(answer, kind, which, time);
+    put_dues(answer, why.dues);
 }

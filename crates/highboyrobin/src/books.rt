@@ -8,12 +8,8 @@ pub fn book_from(lent: &[u32]) -> Book
     requires { 16 ≤ length lent.now }
     ensures { result.counts ≡ take 16 lent.now }
 {
-    let mut counts = [0u32; 16];
-    let mut i: usize = 0;
-    while i < 16 {
-        counts[i] = lent[i];
-        i += 1;
-    }
+    let mut counts = [0; 16];
+    counts.copy_from_slice(&lent[..16]);
     Book { counts }
 }
 
@@ -22,9 +18,5 @@ pub fn put_book(lent: &mut [u32], counts: [u32; 16])
     requires { 16 ≤ length lent.old }
     ensures { lent.new ≡ counts ++ drop 16 lent.old }
 {
-    let mut i: usize = 0;
-    while i < 16 {
-        lent[i] = counts[i];
-        i += 1;
-    }
+    lent[..16].copy_from_slice(&counts);
 }

@@ -20,12 +20,9 @@ fn put_classes(list: &mut [u32], found: Listing)
     ensures { list.new ≡ pairs_to (λ (i : ℕ). get_or found.memories i 0) (λ (i : ℕ). get_or found.procs i 0) found.count
         ++ drop (2 * found.count) list.old }
 {
-    let n = found.count;
-    let mut i: usize = 0;
-    while i < n {
+    for i in 0..found.count {
         list[2 * i] = found.memories[i];
         list[2 * i + 1] = found.procs[i];
-        i += 1;
     }
 }
 

@@ -32,13 +32,7 @@ fn dues_from(numbers: &[i32]) -> [i32; 16]
     requires { 19 ≤ length numbers.now }
     ensures { result ≡ tabulate 16 (λ (i : ℕ). get_or numbers.now (3 + i) (pos 0)) }
 {
-    let mut r = [0i32; 16];
-    let mut i: usize = 0;
-    while i < 16 {
-        r[i] = numbers[3 + i];
-        i += 1;
-    }
-    r
+    std::array::from_fn(|i| numbers[3 + i])
 }
 
 pub fn why_from(numbers: &[i32]) -> Why

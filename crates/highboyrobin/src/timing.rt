@@ -5,7 +5,7 @@ ghost use Rattle.order.specs.Refusals.{limits, judge, order_rows};
 ghost use Rattle.order_file.specs.File.{order_in};
 ghost use Rattle.highboyrobin.specs.TimedCalls.{times_from, timed_call, ReadBy};
 
-use super::lists::{by_job, number_at};
+use super::lists::{by_job, column_of};
 use super::results::{BAD_FILE, SHORT_ANSWER, WRONG_TIMES, result_of};
 use super::{ReadStatus, TimedRead};
 use order::Acceptance;
@@ -14,28 +14,14 @@ use order_file::Trailer;
 use order_file::read::{read_order, read_trailer};
 use timed::Times;
 
-// Of the first 16 pairs, the numbers at this place in each.
-fn side_from(windows: &[u32], side: usize) -> [u32; 16]
-    requires { side ≤ 1 }
-    ensures { result ≡ tabulate 16 (λ (i : ℕ). get_or windows.now (2 * i + side) 0) }
-{
-    let mut out = [0u32; 16];
-    let mut i: usize = 0;
-    while i < 16 {
-        out[i] = number_at(windows, 2 * i + side);
-        i += 1;
-    }
-    out
-}
-
 // The times of lent lists.
 fn times_from(ready: &[u32], windows: &[u32]) -> Times
     ensures { result ≡ times_from ready.now windows.now }
 {
     Times {
         ready: by_job(ready),
-        opens: side_from(windows, 0),
-        closes: side_from(windows, 1),
+        opens: column_of(windows, 2, 0),
+        closes: column_of(windows, 2, 1),
     }
 }
 

@@ -14,7 +14,7 @@ ghost use Rattle.lines.specs.Inside.{refusal_line, planned_line};
 use order::told::{carried_of, number_of};
 use order::{Order, Refusal};
 use planner::{PlanAnswer, Planned};
-use reason::{Reason, Tightness, Why};
+use reason::{Reason, Why};
 use sentence::line::put_line;
 use text::put::{put_bytes, put_number, put_signed};
 

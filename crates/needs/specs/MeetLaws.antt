@@ -1,12 +1,12 @@
 -- Lines and the lengths that they meet: the test as facts, how many lines meet a length, one line more, and whose need is taken.
-use Prim.Native.Nat.{ℕ, zero, suc, ◌+◌, ◌*◌, ◌/◌, ◌≤◌, ◌<◌}
-use Rattle.std.specs.Prelude.{◌≡◌, Bool, false, ◌&&◌, List, ◌∷◌, length, get_or, take}
+use Prim.Native.Nat.{ℕ, zero, suc, ◌+◌, ◌*◌, ◌/◌, ◌≤◌, ◌<◌, min}
+use Rattle.std.specs.Prelude.{◌≡◌, Bool, false, cond, ◌&&◌, List, [], ◌∷◌, length, get_or, take, Option, None, Some, MatchOption}
 use Rattle.std.proofs.Math.Path.{refl, ap}
-use Rattle.std.proofs.Common.{sym, ◌∙◌, inl, inr, le_of_suc-le-suc, take_all}
+use Rattle.std.proofs.Common.{sym, ◌∙◌, inl, inr, le_of_suc-le-suc, take_all, true≢false}
 use Rattle.std.proofs.Math.Bool.{true}
 use Rattle.std.proofs.Math.Decide.{dec_le}
 use native.Mathlib.Omega.{arith}
-use borrow.Author.Tests.{leb-true, le-leb, lt-leb}
+use borrow.Author.Tests.{leb-true, le-leb}
 use Rattle.std.proofs.Math.Dec.{leb}
 use Rattle.sums.specs.Lists.{only, tabulate}
 use Rattle.sums.specs.Places.{length-tabulate, tabulate-cong}
@@ -56,14 +56,22 @@ module _ (line : Line) (x : ℕ) where
   pub not-meets : (Meets line x → ⊥) → meets line x ≡ false
   not-meets h = elim (true-or-false (meets line x)) [ inl e ↦ absurd (h (meets-facts e)) | inr e ↦ e ]
 
-  -- where the line is in range and has begun, its end decides
-  pub end-decides : 1 ≤ line.from → line.to ≤ longest → line.from ≤ x → leb x line.to ≡ meets line x
-  end-decides f t b =
-      elim (dec_le x line.to) [
-        | yes w ↦ le-leb x line.to w
-            ∙ sym (facts-meet (record { from_one = f; begun = b; not-over = w; to-most = t }))
-        | no w ↦ lt-leb x line.to (omega arith) ∙ sym (not-meets (λ m. omega (arith, m.not-over)))
-      ]
+  -- four tests decide
+  pub meets-is : meets line x ≡ (leb 1 line.from && leb line.to longest && leb line.from x && leb x line.to)
+  meets-is = elim (true-or-false (leb 1 line.from && leb line.to longest && leb line.from x && leb x line.to)) [
+    | inl e ↦
+        let a = both_true (leb 1 line.from && leb line.to longest && leb line.from x) (leb x line.to) e in
+        let b = both_true (leb 1 line.from && leb line.to longest) (leb line.from x) a.0 in
+        let c = both_true (leb 1 line.from) (leb line.to longest) b.0 in
+        facts-meet (record {
+          from_one = leb-true 1 line.from c.0;
+          begun = leb-true line.from x b.1;
+          not-over = leb-true x line.to a.1;
+          to-most = leb-true line.to longest c.1;
+        }) ∙ sym e
+    | inr e ↦ not-meets (λ m. absurd (true≢false (sym (true-both _ _ (true-both _ _ (true-both _ _ (le-leb 1 line.from m.from_one)
+        (le-leb line.to longest m.to-most)) (le-leb line.from x m.begun)) (le-leb x line.to m.not-over)) ∙ e))) ∙ sym e
+  ]
 
   -- "a line out of range or running backwards meets no length"
   pub bad-meets-none : good_line line ≡ false → meets line x ≡ false
@@ -77,14 +85,18 @@ take-tabulated (suc k) zero f h = absurd (omega arith)
 take-tabulated (suc k) (suc n) f h = ap (λ (l : List Line). f 0 ∷ l) (take-tabulated k n (λ i. f (suc i)) (le_of_suc-le-suc h))
 
 -- the lines that count are the first 32, or all where there are fewer
-pub counted-most : (table : List ℕ) → most_lines ≤ length table / 3 → counted table ≡ first_lines table most_lines
+pub counted-first : (table : List ℕ) → counted table ≡ first_lines table (min most_lines (length table / 3))
 unfolding counted lines_in
-counted-most table h = take-tabulated most_lines (length table / 3) (line_at table) h
-
-pub counted-all : (table : List ℕ) → length table / 3 ≤ most_lines → counted table ≡ first_lines table (length table / 3)
-unfolding counted lines_in
-counted-all table h =
-    take_all most_lines (tabulate (length table / 3) (line_at table)) (omega (arith, length-tabulate (length table / 3) (line_at table)))
+counted-first table =
+    elim (dec_le most_lines (length table / 3)) [
+      | yes l ↦
+          let is : most_lines ≡ min most_lines (length table / 3) = omega arith in
+          take-tabulated most_lines (length table / 3) (line_at table) l ∙ ap (first_lines table) is
+      | no l ↦
+          let is : length table / 3 ≡ min most_lines (length table / 3) = omega arith in
+          take_all most_lines (tabulate (length table / 3) (line_at table)) (omega (arith, length-tabulate (length table / 3) (line_at table)))
+          ∙ ap (first_lines table) is
+    ]
 
 -- lists that have the same first numbers have the same first lines
 pub same_lines : (xs ys : List ℕ) (n : ℕ) → ((k : ℕ) → k < 3 * n → get_or xs k 0 ≡ get_or ys k 0) → first_lines xs n ≡ first_lines ys n
@@ -130,6 +142,14 @@ module _ (table : List ℕ) where
         sum-const n 0,
       )
 
+-- what looking through the lines comes to
+pub first-line : (table : List ℕ) (n x : ℕ) (r : Option ℕ) →
+    MatchOption r ((k : ℕ) → 0 ≤ k → k < n → meets (line_at table k) x ≡ false)
+    (λ i. (0 ≤ i) × (i < n) × (meets (line_at table i) x ≡ true) × ((k : ℕ) → 0 ≤ k → k < i → meets (line_at table k) x ≡ false)) →
+    MatchOption r (met_by (first_lines table n) x ≡ 0) (FirstMeets table n x)
+first-line table n x None h = met-nowhere table n x (λ k l. h k (omega arith) l)
+first-line table n x (Some i) h = record { one_of = h.1; before = λ k l. h.3 k (omega arith) l; here = h.2 }
+
 -- the need is that of the first line that meets the length; 0 where none does
 need-at : (n i x : ℕ) (f : ℕ → Line) → i < n → ((k : ℕ) → k < i → meets (f k) x ≡ false) → meets (f i) x ≡ true →
     need_for (tabulate n f) x ≡ (f i).need
@@ -139,17 +159,19 @@ need-at (suc n) zero x f l before here = rw here
 need-at (suc n) (suc i) x f l before here =
     rw (before 0 (omega arith)) (need-at n i x (λ k. f (suc k)) (le_of_suc-le-suc l) (λ k b. before (suc k) (omega arith)) here)
 
-need-nowhere : (n x : ℕ) (f : ℕ → Line) → ((k : ℕ) → k < n → meets (f k) x ≡ false) → need_for (tabulate n f) x ≡ 0
-unfolding need_for
-need-nowhere zero x f h = refl
-need-nowhere (suc n) x f h = rw (h 0 (omega arith)) (need-nowhere n x (λ k. f (suc k)) (λ k l. h (suc k) (omega arith)))
+need-nowhere : (lines : List Line) (x : ℕ) → met_by lines x ≡ 0 → need_for lines x ≡ 0
+unfolding met_by need_for
+need-nowhere [] x e = refl
+need-nowhere (line ∷ lines) x e = go (meets line x) e (need-nowhere lines x)
+  where
+    go : (b : Bool) → only b 1 + met_by lines x ≡ 0 → (met_by lines x ≡ 0 → need_for lines x ≡ 0) →
+        cond b line.need (need_for lines x) ≡ 0
+    go true e later = absurd (omega arith)
+    go false e later = later (omega arith)
 
-module _ (table : List ℕ) (n x i : ℕ) (m : FirstMeets table n x i) where
-  pub need-of : i < n → (line_at table i).need ≡ need_for (first_lines table n) x
-  need-of l = sym (need-at n i x (line_at table) l m.before (m.here l))
+module _ (table : List ℕ) (n x : ℕ) where
+  pub need-of : (i : ℕ) → FirstMeets table n x i → (line_at table i).need ≡ need_for (first_lines table n) x
+  need-of i m = sym (need-at n i x (line_at table) m.one_of m.before m.here)
 
-  pub no-need : n ≤ i → 0 ≡ need_for (first_lines table n) x
-  no-need l = sym (need-nowhere n x (line_at table) (λ k b. m.before k (omega arith)))
-
-  pub none-meets : n ≤ i → met_by (first_lines table n) x ≡ 0
-  none-meets l = met-nowhere table n x (λ k b. m.before k (omega arith))
+  pub no-need : met_by (first_lines table n) x ≡ 0 → 0 ≡ need_for (first_lines table n) x
+  no-need e = sym (need-nowhere (first_lines table n) x e)

@@ -1,8 +1,9 @@
 -- The smallest length that passes a test is what a row of the table carries; climbing from line to line finds it for 17, and pair
 -- after pair of lines for 18.
 use Prim.Native.Nat.{ℕ, zero, suc, ◌+◌, ◌≤◌, ◌<◌, min, max}
-use Rattle.std.specs.Prelude.{◌≡◌, refl, Bool, true, false, ◌&&◌, ◌||◌, List, leb, length}
-use Rattle.std.proofs.Common.{sym, ap, ◌∙◌, true≢false, arith, le-leb, eq-eqb, ne_eqb}
+use Rattle.std.specs.Prelude.{◌≡◌, refl, Bool, true, false, ◌&&◌, ◌||◌, List, Option, None, Some, leb, length}
+use Rattle.std.specs.Bool.{then_some}
+use Rattle.std.proofs.Common.{sym, ap, ◌∙◌, true≢false, arith, le-leb, ne_eqb}
 use Rattle.std.proofs.Math.Bool.{or-false}
 use Rattle.std.proofs.Math.Decide.{dec_le, dec_lt}
 use Rattle.std.proofs.lemmas.Bool.{lt-leb}
@@ -11,8 +12,8 @@ use Rattle.sums.specs.Places.{length-tabulate}
 use Rattle.order.specs.Refusals.{clear, holds, first}
 use Rattle.order.proofs.RefusalLaws.{first-tabulate, none-tabulate, both_true, true-both}
 use Rattle.needs.specs.NeedTable.{Line, line_at, meets, met_by, longest, every_length, unmet, met_twice}
-use Rattle.needs.specs.Inside.{first_lines, FirstMeets, Smallest}
-use Rattle.needs.specs.MeetLaws.{Meets, meets-facts, facts-meet, met-none, met-more, met_at, none-meets}
+use Rattle.needs.specs.Inside.{first_lines, FirstMeets, Smallest, SmallestOf, smaller}
+use Rattle.needs.specs.MeetLaws.{Meets, meets-facts, facts-meet, met-none, met-more, met_at}
 
 -- what a row of the table finds
 module _ (test : ℕ → Bool) where
@@ -64,6 +65,17 @@ smallest-either f g a b r s t e = record {
   ];
 }
 
+-- the same, where there may be none
+pub same-of : (f g : ℕ → Bool) (r : Option ℕ) → ((x : ℕ) → f x ≡ g x) → SmallestOf f r → SmallestOf g r
+same-of f g None e s = smallest-same f g (suc longest) e s
+same-of f g (Some r) e s = (s.0, smallest-same f g r e s.1)
+
+pub either-of : (f g : ℕ → Bool) (a b : Option ℕ) → SmallestOf f a → SmallestOf g b → SmallestOf (λ x. f x || g x) (smaller a b)
+either-of f g None None s t = smallest-either f g (suc longest) (suc longest) (suc longest) s t (omega arith)
+either-of f g None (Some y) s t = (t.0, smallest-either f g (suc longest) y y s t.1 (omega (arith, t.0)))
+either-of f g (Some x) None s t = (s.0, smallest-either f g x (suc longest) x s.1 t (omega (arith, s.0)))
+either-of f g (Some x) (Some y) s t = (omega (arith, s.0), smallest-either f g x y (min x y) s.1 t.1 refl)
+
 -- climbing: every length before x is met
 module _ (table : List ℕ) (n : ℕ) where
   pub record Climbed (x : ℕ) : Type 0 where
@@ -71,40 +83,24 @@ module _ (table : List ℕ) (n : ℕ) where
     pub most : x ≤ suc longest
     pub met : (y : ℕ) → 1 ≤ y → y < x → unmet (first_lines table n) y ≡ false
 
-  pub start : Climbed 1
-  start = record { from_one = omega arith; most = omega arith; met = λ y h l. absurd (omega arith) }
-
+  -- a line meets x, and so it meets all up to its end
   module _ (x i : ℕ) (c : Climbed x) (m : FirstMeets table n x i) where
-    -- no line meets x
-    pub at_gap : n ≤ i → Smallest (unmet (first_lines table n)) x
-    at_gap l = record {
-      from_one = c.from_one;
-      most = c.most;
-      before = c.met;
-      here = λ b. eq-eqb (met_by (first_lines table n) x) 0 (none-meets table n x i m l);
-    }
+    pub facts : Meets (line_at table i) x
+    facts = meets-facts (line_at table i) x m.here
 
-    -- a line does, and so it meets all up to its end
-    pub facts : i < n → Meets (line_at table i) x
-    facts l = meets-facts (line_at table i) x (m.here l)
-
-    line-meets : i < n → (y : ℕ) → x ≤ y → y ≤ (line_at table i).to → unmet (first_lines table n) y ≡ false
-    line-meets l y h k =
-        let f = facts l in
-        let met = met_at table n i y l (facts-meet (line_at table i) y
+    line-meets : (y : ℕ) → x ≤ y → y ≤ (line_at table i).to → unmet (first_lines table n) y ≡ false
+    line-meets y h k =
+        let f = facts in
+        let met = met_at table n i y m.one_of (facts-meet (line_at table i) y
         (record { from_one = f.from_one; begun = omega (arith, f.begun); not-over = k; to-most = f.to-most })) in
         ne_eqb (met_by (first_lines table n) y) 0 (λ e. omega arith)
 
-    pub climb : i < n → Climbed ((line_at table i).to + 1)
-    climb l = record {
+    pub climb : Climbed ((line_at table i).to + 1)
+    climb = record {
       from_one = omega arith;
-      most = omega (arith, (facts l).to-most);
-      met = λ y h k. elim (dec_lt y x) [ yes w ↦ c.met y h w | no w ↦ line-meets l y (omega arith) (omega arith) ];
+      most = omega (arith, facts.to-most);
+      met = λ y h k. elim (dec_lt y x) [ yes w ↦ c.met y h w | no w ↦ line-meets y (omega arith) (omega arith) ];
     }
-
-  -- at the top every length is met
-  pub at_top : (x : ℕ) → Climbed x → longest < x → Smallest (unmet (first_lines table n)) x
-  at_top x c l = record { from_one = c.from_one; most = c.most; before = c.met; here = λ b. absurd (omega arith) }
 
 -- two lines: both meet the later of their beginnings, or they have no length in common
 module _ (a b : Line) where
@@ -151,6 +147,15 @@ module _ (a b : Line) where
 
   pub second-apart : (x : ℕ) → x ≡ max a.from b.from → meets b x ≡ false → Smallest both (longest + 1)
   second-apart x e f = both-apart x e (λ m. true≢false (sym (facts-meet b x m.1) ∙ f))
+
+  -- the later beginning, where both meet it
+  pub both-of : (x : ℕ) (t : Bool) (r : Option ℕ) → x ≡ max a.from b.from → t ≡ both x → r ≡ then_some t x → SmallestOf both r
+  both-of x t r e is made = rw made (rw is (go (meets a x) refl (meets b x) refl))
+    where
+      go : (s : Bool) → meets a x ≡ s → (t : Bool) → meets b x ≡ t → SmallestOf both (then_some (s && t) x)
+      go true f true g = let p = meets-facts a x f in (omega (arith, p.not-over, p.to-most), both-begun x e f g)
+      go true f false g = second-apart x e g
+      go false f t g = first-apart x e f
 
 -- what one more line adds: with none before it, beside one of them, and beside all
 pub none_yet : (a b : Bool) (m : ℕ) → m ≡ 0 → a ≡ (a || (b && leb 1 m))

@@ -1,7 +1,6 @@
 // The needs of listed lengths, filled in from a maker's table. `put_needs` serves `fill_needs` alone and has a `requires`.
-ghost use Rattle.std.specs.Prelude.{◌≡◌, not, ◌++◌, map, ℕ, ◌*◌, ◌≤◌, length, drop};
+ghost use Rattle.std.specs.Prelude.{◌≡◌, not, ◌++◌, map, ℕ, ◌*◌, ◌≤◌, length, drop, position};
 ghost use Rattle.order.specs.Refusals.{judge, answer_by, left_by, first, time_in_range};
-ghost use Rattle.order.specs.Table.{finding_of};
 ghost use Rattle.needs.specs.NeedTable.{need_for, need_rows, needs_of};
 ghost use Rattle.needs.specs.Inside.{first_lines};
 ghost use Rattle.needs.specs.Told.{filled_told};
@@ -11,23 +10,11 @@ use super::meeting::{line_count, lines_of, need_for};
 use super::overlaps::first_twice;
 use super::{Filled, LONGEST};
 
-// The first place in the list, counted from 1, whose length is not in range, or 0.
-fn first_out(lengths: &[u32]) -> usize
-    ensures { finding_of result ≡ first (λ (x : ℕ). not (time_in_range x)) lengths.now }
+// The first place in the list whose length is not in range.
+fn first_out(lengths: &[u32]) -> Option<usize>
+    ensures { result ≡ position (λ (x : ℕ). not (time_in_range x)) lengths.now }
 {
-    let n = lengths.len();
-    let mut k: usize = 0;
-    while k < n {
-        let x = lengths[k];
-        k += 1;
-        if x < 1 {
-            return k;
-        }
-        if LONGEST < x {
-            return k;
-        }
-    }
-    0
+    lengths.iter().position(|x| !(1..=LONGEST).contains(x))
 }
 
 // The need of each length, in the first places.
@@ -36,11 +23,8 @@ fn put_needs(table: &[u32], n: usize, lengths: &[u32], needs: &mut [u32])
     ensures { needs.new ≡ map (need_for (first_lines table.now n)) lengths.now
         ++ drop (length lengths.now) needs.old }
 {
-    let listed = lengths.len();
-    let mut k: usize = 0;
-    while k < listed {
-        needs[k] = need_for(table, n, lengths[k]);
-        k += 1;
+    for (k, &x) in lengths.iter().enumerate() {
+        needs[k] = need_for(table, n, x);
     }
 }
 
@@ -54,17 +38,14 @@ pub fn fill_needs(table: &[u32], lengths: &[u32], needs: &mut [u32]) -> Filled
 {
     let n = line_count(table);
     let lines = lines_of(table, n);
-    let gap = first_unmet(&lines, n);
-    if gap <= LONGEST {
+    if let Some(gap) = first_unmet(&lines, n) {
         return Filled::NoLine(gap);
     }
-    let twice = first_twice(&lines, n);
-    if twice <= LONGEST {
+    if let Some(twice) = first_twice(&lines, n) {
         return Filled::TwoLines(twice);
     }
-    let place = first_out(lengths);
-    if 0 < place {
-        return Filled::LengthOutOfRange(place);
+    if let Some(k) = first_out(lengths) {
+        return Filled::LengthOutOfRange(k + 1);
     }
     if needs.len() < lengths.len() {
         return Filled::BufferTooShort;

@@ -1,6 +1,7 @@
 // The lines of a lent table, and which of them meets a length. All serve this crate alone; all but `line_count` have a `requires`.
 ghost use Rattle.std.specs.Prelude.{◌≡◌, ◌+◌, ◌*◌, ◌≤◌, length};
-ghost use Rattle.needs.specs.NeedTable.{line_at, meets, counted, need_for};
+ghost use Rattle.std.specs.Option.{MatchOption};
+ghost use Rattle.needs.specs.NeedTable.{line_at, meets, counted, met_by, need_for};
 ghost use Rattle.needs.specs.Inside.{first_lines, FirstMeets};
 
 use super::{LONGEST, MOST_LINES};
@@ -10,11 +11,7 @@ pub fn line_count(table: &[u32]) -> usize
     ensures { (counted table.now ≡ first_lines table.now result) × (3 * result ≤ length table.now)
         × (result ≤ 32) }
 {
-    let lines = table.len() / 3;
-    if MOST_LINES < lines {
-        return MOST_LINES;
-    }
-    lines
+    MOST_LINES.min(table.len() / 3)
 }
 
 // The first n lines, copied: there is room for 32, three numbers each.
@@ -23,11 +20,7 @@ pub fn lines_of(table: &[u32], n: usize) -> [u32; 96]
     ensures { first_lines result n ≡ first_lines table.now n }
 {
     let mut lines = [0u32; 96];
-    let mut i: usize = 0;
-    while i < 3 * n {
-        lines[i] = table[i];
-        i += 1;
-    }
+    lines[..3 * n].copy_from_slice(&table[..3 * n]);
     lines
 }
 
@@ -38,31 +31,15 @@ pub fn meets_at(table: &[u32], i: usize, x: u32) -> bool
 {
     let from = table[3 * i];
     let to = table[3 * i + 1];
-    if from < 1 {
-        return false;
-    }
-    if LONGEST < to {
-        return false;
-    }
-    if x < from {
-        return false;
-    }
-    x <= to
+    1 <= from && to <= LONGEST && (from..=to).contains(&x)
 }
 
-// The place of the first line that meets a length; n where none does.
-pub fn line_for(table: &[u32], n: usize, x: u32) -> usize
+// The place of the first line that meets a length.
+pub fn line_for(table: &[u32], n: usize, x: u32) -> Option<usize>
     requires { 3 * n ≤ length table.now }
-    ensures { FirstMeets table.now n x result }
+    ensures { MatchOption result (met_by (first_lines table.now n) x ≡ 0) (FirstMeets table.now n x) }
 {
-    let mut i: usize = 0;
-    while i < n {
-        if meets_at(table, i, x) {
-            return i;
-        }
-        i += 1;
-    }
-    n
+    (0..n).find(|&i| meets_at(table, i, x))
 }
 
 // The need of a length; 0 where no line meets it.
@@ -70,9 +47,8 @@ pub fn need_for(table: &[u32], n: usize, x: u32) -> u32
     requires { 3 * n ≤ length table.now }
     ensures { result ≡ need_for (first_lines table.now n) x }
 {
-    let i = line_for(table, n, x);
-    if n <= i {
-        return 0;
+    match line_for(table, n, x) {
+        Some(i) => table[3 * i + 2],
+        None => 0,
     }
-    table[3 * i + 2]
 }

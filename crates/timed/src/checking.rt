@@ -38,15 +38,7 @@ fn rows_in_times(times: Times, rows: &[u32]) -> bool
     requires { (length rows.now ≤ 32256) × Ranged rows.now }
     ensures { result ≡ every (in_times (times_of times)) (rows_of rows.now) }
 {
-    let n = rows.len() / 4;
-    let mut i: usize = 0;
-    while i < n {
-        if !in_times(times, piece_at(rows, i)) {
-            return false;
-        }
-        i += 1;
-    }
-    true
+    (0..rows.len() / 4).all(|i| in_times(times, piece_at(rows, i)))
 }
 
 // Whether no two rows overlap that share a job or a processor.

@@ -11,17 +11,14 @@ ghost use Rattle.timed.specs.Leads.{most_bound, Below, Small, WindowsPut};
 use super::{Changes, Times};
 use table::Table;
 use table::distinct::put_distinct;
-use table::lead::less;
 
 // The leads of n minutes, from a place on.
 fn put_minutes(out: &mut [u32], at: usize, minutes: &[u32], n: usize)
     requires { (n ≤ 48) × (at ≤ 128) × (at + n ≤ length out.old) × (n ≤ length minutes.now) × Below n minutes.now }
     ensures { Put out.old out.new at n (λ i. 11000001 - get_or minutes.now i 0) }
 {
-    let mut i: usize = 0;
-    while i < n {
-        out[at + i] = 11000001 - minutes[i];
-        i += 1;
+    for (i, minute) in minutes[..n].iter().enumerate() {
+        out[at + i] = 11000001 - minute;
     }
 }
 
@@ -49,10 +46,8 @@ fn put_ends(out: &mut [u32], at: usize, leads: [u32; 48], n: usize, shift: u32)
     requires { (n ≤ 48) × (at ≤ 128) × (at + n ≤ length out.old) × (shift ≤ 20000000) × Small n leads }
     ensures { Put out.old out.new at n (λ i. get_or leads i 0 + shift) }
 {
-    let mut i: usize = 0;
-    while i < n {
-        out[at + i] = leads[i] + shift;
-        i += 1;
+    for (i, lead) in leads[..n].iter().enumerate() {
+        out[at + i] = lead + shift;
     }
 }
 
@@ -60,13 +55,7 @@ fn put_ends(out: &mut [u32], at: usize, leads: [u32; 48], n: usize, shift: u32)
 fn to_minutes(leads: [u32; 128]) -> [u32; 128]
     ensures { RowOf (λ (i : ℕ). 11000001 - get_or leads i 0) 128 result }
 {
-    let mut out = [0u32; 128];
-    let mut i: usize = 0;
-    while i < 128 {
-        out[i] = less(11000001, leads[i]);
-        i += 1;
-    }
-    out
+    std::array::from_fn(|i| 11000001u32.saturating_sub(leads[i]))
 }
 
 // All of them, distinct, upwards.

@@ -1,15 +1,8 @@
-use Prim.Native.Nat.{◌-◌, ◌≤◌}
-use mathlib.Core.Path.{◌≡◌}
+use Rattle.std.proofs.Common.{◌≡◌, ◌-◌}
 use Rattle.sums.specs.Sum.{sum}
-use Rattle.estimate.specs.Inside.{width_at, Spans, array_after}
+use Rattle.estimate.specs.Inside.{width_at, array_after}
 use Rattle.estimate.proofs.path.times_after.Given as goal
 
 abbrev pub invariant-loop-j : goal.invariant-loop-j
 invariant-loop-j l =
-    (l.j ≤ l.n)
-    × (l.left ≡ l.k - sum l.j (width_at l.lows l.highs))
-    × (l.out ≡ array_after l.lows l.highs l.j l.k)
-    × Spans l.lows l.highs l.n
-
-abbrev pub decreases-loop-j : goal.decreases-loop-j
-decreases-loop-j l = l.n - l.j
+    (l.left ≡ l.k - sum l.j (width_at l.lows l.highs)) × (l.out ≡ array_after l.lows l.highs l.j l.k)

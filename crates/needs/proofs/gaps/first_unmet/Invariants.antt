@@ -1,4 +1,4 @@
-use Prim.Native.Nat.{◌-◌}
+use Rattle.std.proofs.Common.{◌-◌}
 use Rattle.needs.specs.SmallestLaws.{Climbed}
 use Rattle.needs.proofs.gaps.first_unmet.Given as goal
 

@@ -1,9 +1,6 @@
-use Rattle.needs.specs.MeetLaws.{counted-most, counted-all}
-use native.Mathlib.Omega.{arith}
+use Rattle.std.proofs.Common.{arith}
+use Rattle.needs.specs.MeetLaws.{counted-first}
 use Rattle.needs.proofs.meeting.line_count.Goals as goal
 
-pub returns-then-lines-gt-MOST_LINES : goal.returns-then-lines-gt-MOST_LINES
-returns-then-lines-gt-MOST_LINES c = (counted-most c.args.table.now (omega (arith, c.if-lines-gt-MOST_LINES.true)), omega (arith, c.if-lines-gt-MOST_LINES.true), omega arith)
-
 pub returns : goal.returns
-returns c = (counted-all c.args.table.now (omega (arith, c.if-lines-gt-MOST_LINES.false)), omega arith, omega (arith, c.if-lines-gt-MOST_LINES.false))
+returns c = (rw c.min.ensures (counted-first c.args.table.now), omega (arith, c.min.ensures), omega (arith, c.min.ensures))

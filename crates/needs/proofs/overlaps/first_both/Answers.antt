@@ -1,19 +1,11 @@
-use mathlib.Core.Path.{sym, ◌∙◌}
-use borrow.Author.Tests.{not-true, not-false}
-use Rattle.needs.specs.SmallestLaws.{both-begun, first-apart, second-apart}
+use Rattle.std.proofs.Common.{rules}
+use Rattle.needs.specs.NeedTable.{line_at}
+use Rattle.needs.specs.SmallestLaws.{both-of}
 use Rattle.needs.proofs.overlaps.first_both.Goals as goal
-
-pub returns-then-not-meets_at : goal.returns-then-not-meets_at
-returns-then-not-meets_at c =
-    first-apart _ _ _ c.larger-x.ensures (sym c.meets_at.ensures ∙ not-true _ c.if-not-meets_at.true-raw)
-
-pub returns-then-not-meets_at-2 : goal.returns-then-not-meets_at-2
-returns-then-not-meets_at-2 c =
-    second-apart _ _ _ c.larger-x.ensures
-    (sym c.meets_at-2.ensures ∙ not-true _ c.if-not-meets_at-2.true-raw)
+use Rattle.needs.proofs.overlaps.first_both.Goals.{then-meets_at, else-meets_at}
 
 pub returns : goal.returns
 returns c =
-    both-begun _ _ _ c.larger-x.ensures
-    (sym c.meets_at.ensures ∙ not-false _ c.if-not-meets_at.false-raw)
-    (sym c.meets_at-2.ensures ∙ not-false _ c.if-not-meets_at-2.false-raw)
+    let s = c.args in
+    both-of (line_at s.table.now s.i) (line_at s.table.now s.k) _ c.if-meets_at.then_some _ c.max-x.ensures
+    (elim c.if-meets_at.branch [ then-meets_at w ↦ search rules | else-meets_at w ↦ search rules ]) c.then_some.ensures
