@@ -1,5 +1,5 @@
 -- What the answers of the code say of the text that is written.
-use Rattle.std.specs.Prelude.{Some}
+use Rattle.std.specs.Prelude.{Some, Result, Ok, Err}
 use Prim.Native.Nat.{ℕ, ◌-◌, ◌*◌, ◌≤◌, ◌<◌}
 use mathlib.Core.Path.{◌≡◌, refl, sym, ap, ◌∙◌, subst}
 use mathlib.Core.Bool.{true, false}
@@ -47,10 +47,8 @@ use Rattle.planner.specs.AnswerLaws.{
   planned-rows,
 }
 use Rattle.planner.specs.declared.Least.{Least}
-use Rattle.planner.specs.declared.Least.TheVariants.{At, Refused as LeastRefused}
-use Rattle.planner.specs.declared.PlanAnswer.{PlanAnswer}
-use Rattle.planner.specs.declared.Planned.{Planned}
-use Rattle.planner.specs.declared.Planned.TheVariants.{Rows, Tight, Refused}
+use Rattle.planner.specs.declared.NoPlan.{NoPlan}
+use Rattle.planner.specs.declared.NoPlan.TheVariants.{Refused, TooTight}
 use Rattle.sentence.specs.Handed.{handed}
 use Rattle.sentence.specs.Line.{composed}
 use Rattle.lines.specs.Lines.{refused_line, plan_lines, meets_line, tight_line, bound_line}
@@ -109,16 +107,16 @@ written-room {rows = rows} w =
     )
 
 -- at the least lateness
-module _ (o : Order) (rows rows' : List ℕ) (l : Least) (t : LeastTold o rows rows' l) (size : length rows ≡ rows_lent) where
+module _ (o : Order) (rows rows' : List ℕ) (l : Result Least Refusal) (t : LeastTold o rows rows' l) (size : length rows ≡ rows_lent) where
   same_rows : judge (least_rows o (length rows)) ≡ judge (least_rows o rows_lent)
   same_rows = ap (λ (n : ℕ). judge (least_rows o n)) size
 
-  pub least-told : (why : Refusal) → l ≡ LeastRefused why → judge (least_rows o rows_lent) ≡ refusal_told why
+  pub least-told : (why : Refusal) → l ≡ Err why → judge (least_rows o rows_lent) ≡ refusal_told why
   least-told why e = sym same_rows ∙ (least-refused o rows rows' l t why e).0
 
-  pub least-written : (z : ℤ) (count : ℕ) → l ≡ At z count →
-      (judge (least_rows o rows_lent) ≡ accepted) × (z ≡ least_lateness o) × Written o (least_lateness o) rows rows' count
-  least-written z count e = let h = least_at o rows rows' l t z count e in (sym same_rows ∙ h.0, h.1, h.2)
+  pub least-written : (k : Least) → l ≡ Ok k →
+      (judge (least_rows o rows_lent) ≡ accepted) × (k.lateness ≡ least_lateness o) × Written o (least_lateness o) rows rows' k.rows
+  least-written k e = let h = least_at o rows rows' l t k e in (sym same_rows ∙ h.0, h.1, h.2)
 
 pub plan-text : (o : Order) (rows rows' : List ℕ) (z : ℤ) (count : ℕ) → z ≡ least_lateness o →
     Written o (least_lateness o) rows rows' count → PlanText o (plan_lines z (tabulate count (row_at rows')))
@@ -137,7 +135,7 @@ pub plan-order-text : (v : Verdict) (o : Order) (text : List ℕ) → v ≡ acce
 plan-order-text v o text e h = subst (λ (v : Verdict). PlanOrderText v o text) (sym e) h
 
 -- at a bound
-module _ (o : Order) (bound : ℤ) (rows rows' : List ℕ) (a : PlanAnswer) (t : PlanTold o bound rows rows' a.planned)
+module _ (o : Order) (bound : ℤ) (rows rows' : List ℕ) (a : Result ℕ NoPlan) (t : PlanTold o bound rows rows' a)
     (size : length rows ≡ rows_lent) where
   abbrev v : Verdict
   v = judge (plan_rows o bound rows_lent)
@@ -156,15 +154,15 @@ module _ (o : Order) (bound : ℤ) (rows rows' : List ℕ) (a : PlanAnswer) (t :
   text-by w f e h = sym (ap (λ (x : Verdict). bound_line o bound x reason) e ∙ ap (bound_line o bound w) h)
 
   -- of a bound that is met
-  pub met-text : (count : ℕ) → a.planned ≡ Rows count → (meets_line ≡ text) × (false ≡ is_refused v)
+  pub met-text : (count : ℕ) → a ≡ Ok count → (meets_line ≡ text) × (false ≡ is_refused v)
   met-text count e =
-      let w : v ≡ accepted = sym same-plan-rows ∙ (planned-rows o bound rows rows' a.planned t count e).0 in
+      let w : v ≡ accepted = sym same-plan-rows ∙ (planned-rows o bound rows rows' a t count e).0 in
       (text-by accepted reason w refl, accepted-false v w)
 
   -- of one that is not judged
-  pub unjudged-text : (why : Refusal) → a.planned ≡ Refused why → (refusal_line why ≡ text) × (true ≡ is_refused v)
+  pub unjudged-text : (why : Refusal) → a ≡ Err (Refused why) → (refusal_line why ≡ text) × (true ≡ is_refused v)
   unjudged-text why e =
-      let w : v ≡ refusal_told why = sym same-plan-rows ∙ (planned-refused o bound rows rows' a.planned t why e).0 in
+      let w : v ≡ refusal_told why = sym same-plan-rows ∙ (planned-refused o bound rows rows' a t why e).0 in
       let q = refused-told why in (
         ap (λ (x : Verdict). refused_line (number_by x) (carried_by x)) q.2
             ∙ text-by (refused q.0 q.1) nothing (w ∙ q.2)
@@ -173,20 +171,20 @@ module _ (o : Order) (bound : ℤ) (rows rows' : List ℕ) (a : PlanAnswer) (t :
       )
 
   -- of one that is too tight
-  module _ (code : CodeReason) (e : a.planned ≡ Tight code) where
+  module _ (code : CodeReason) (dues : List ℤ) (e : a ≡ Err (TooTight code dues)) where
     pub tight-verdict : v ≡ refused 10 0
-    tight-verdict = sym same-plan-rows ∙ (planned-tight o bound rows rows' a.planned t code e).0
+    tight-verdict = sym same-plan-rows ∙ (planned-tight o bound rows rows' a t code dues e).0
 
     abbrev why : Why
-    why = record { reason = Some code; dues = a.dues }
+    why = record { reason = Some code; dues = dues }
 
     why-as : why_in a ≡ why
-    why-as = ap (λ (p : Planned). why_in (record { planned = p; dues = a.dues })) e
+    why-as = ap why_in e
 
     pub tight-text : ReasonTold o reason a →
-        (tight_line (reason_told code a.dues) ++ (composed o bound (handed o why) ++ line_end) ≡ text) × (true ≡ is_refused v)
+        (tight_line (reason_told code dues) ++ (composed o bound (handed o why) ++ line_end) ≡ text) × (true ≡ is_refused v)
     tight-text r =
-        let told : Reason = reason_told code a.dues in
+        let told : Reason = reason_told code dues in
         let carried : reason ≡ found told = sym r.0 ∙ ap why_told why-as in
         let is : reason_of o bound ≡ found told
         = sym (ap (λ (x : Verdict). reason_carried x (reason_of o bound)) tight-verdict) ∙ carried in

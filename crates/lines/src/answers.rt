@@ -13,7 +13,7 @@ ghost use Rattle.lines.specs.Inside.{refusal_line, planned_line};
 
 use order::told::{carried_of, number_of};
 use order::{Order, Refusal};
-use planner::{PlanAnswer, Planned};
+use planner::NoPlan;
 use reason::{Reason, Why};
 use sentence::line::put_line;
 use text::put::{put_bytes, put_number, put_signed};
@@ -80,16 +80,14 @@ fn put_tight(out: &mut [u8], at: usize, reason: Reason, dues: [i32; 16]) -> usiz
     }
 }
 
-pub fn put_planned(out: &mut [u8], at: usize, answer: PlanAnswer) -> usize
+pub fn put_planned(out: &mut [u8], at: usize, answer: Result<u32, NoPlan>) -> usize
     requires { at + 205 ≤ length out.old }
-    ensures { Put out.old at (planned_line answer.planned answer.dues) out.new result × (result ≤ at + 205) }
+    ensures { Put out.old at (planned_line answer) out.new result × (result ≤ at + 205) }
 {
-    let planned = answer.planned;
-    let dues = answer.dues;
-    match planned {
-        Planned::Rows(_) => put_bytes(out, at, b"meets\n"),
-        Planned::Tight(reason) => put_tight(out, at, reason, dues),
-        Planned::Refused(refusal) => put_refused(out, at, refusal),
+    match answer {
+        Ok(_) => put_bytes(out, at, b"meets\n"),
+        Err(NoPlan::TooTight(reason, dues)) => put_tight(out, at, reason, dues),
+        Err(NoPlan::Refused(refusal)) => put_refused(out, at, refusal),
     }
 }
 

@@ -1,20 +1,21 @@
 // What each program writes for the bytes that it reads, whole. Each function serves the programs and has a `requires`: room for
 // the longest output.
-ghost use Rattle.std.specs.Prelude.{◌≤◌, length};
+ghost use Rattle.std.specs.Prelude.{◌≡◌, true, ◌≤◌, length};
 ghost use Rattle.order.specs.Refusals.{Accepted};
 ghost use Rattle.order.specs.Table.{order_of};
+ghost use Rattle.text.specs.Text.{Put};
 ghost use Rattle.lines.specs.Programs.{PlanOrderOutput, TryBoundOutput};
-ghost use Rattle.lines.specs.Inside.{LeastOutput, BoundOutput};
+ghost use Rattle.lines.specs.Inside.{refusal_line, LeastOutput, BoundOutput};
 
 use super::Output;
 use super::answers::{put_reason, put_refused};
 use super::plans::put_plan;
-use order::{Acceptance, Order, Refusal};
+use order::{Order, Refusal};
 use order_file::bytes::{read4, to_signed};
 use order_file::read::read_order;
+use planner::NoPlan;
 use planner::bound::plan_at;
 use planner::lateness::least_lateness;
-use planner::{Least, Planned};
 use text::put::put_bytes;
 
 // Of an accepted order.
@@ -23,16 +24,23 @@ fn least_output(order: Order, out: &mut [u8]) -> Output
     ensures { LeastOutput (order_of order) out.old out.new result × (result.length ≤ 151233) }
 {
     let mut rows = [0u32; 12096];
-    let least = least_lateness(order, &mut rows);
-    match least {
-        Least::Refused(refusal) => Output {
-            length: put_refused(out, 0, refusal),
-            refused: true,
-        },
-        Least::At(lateness, count) => Output {
-            length: put_plan(out, lateness, &rows, count),
+    match least_lateness(order, &mut rows) {
+        Ok(least) => Output {
+            length: put_plan(out, least.lateness, &rows, least.rows),
             refused: false,
         },
+        Err(refusal) => refused_output(refusal, out),
+    }
+}
+
+// Of a refusal.
+fn refused_output(refusal: Refusal, out: &mut [u8]) -> Output
+    requires { 30 ≤ length out.old }
+    ensures { Put out.old 0 (refusal_line refusal) out.new result.length × (result.length ≤ 30) × (result.refused ≡ true) }
+{
+    Output {
+        length: put_refused(out, 0, refusal),
+        refused: true,
     }
 }
 
@@ -41,15 +49,10 @@ pub fn plan_output(file: &[u8], out: &mut [u8]) -> Output
     requires { 151233 ≤ length out.old }
     ensures { PlanOrderOutput file.now out.old out.new result × (result.length ≤ 151233) }
 {
-    let got = read_order(file);
-    let status = got.status;
-    if let Acceptance::Refused(refusal) = status {
-        return Output {
-            length: put_refused(out, 0, refusal),
-            refused: true,
-        };
+    match read_order(file) {
+        Ok(order) => least_output(order, out),
+        Err(refusal) => refused_output(refusal, out),
     }
-    least_output(got.order, out)
 }
 
 // Of an order at a bound.
@@ -58,22 +61,16 @@ fn bound_output(order: Order, bound: i32, out: &mut [u8]) -> Output
     ensures { BoundOutput (order_of order) bound out.old out.new result × (result.length ≤ 804) }
 {
     let mut rows = [0u32; 12096];
-    let answer = plan_at(order, bound, &mut rows);
-    let planned = answer.planned;
-    let dues = answer.dues;
-    match planned {
-        Planned::Rows(_) => Output {
+    match plan_at(order, bound, &mut rows) {
+        Ok(_) => Output {
             length: put_bytes(out, 0, b"meets\n"),
             refused: false,
         },
-        Planned::Tight(reason) => Output {
+        Err(NoPlan::TooTight(reason, dues)) => Output {
             length: put_reason(out, order, bound, reason, dues),
             refused: true,
         },
-        Planned::Refused(refusal) => Output {
-            length: put_refused(out, 0, refusal),
-            refused: true,
-        },
+        Err(NoPlan::Refused(refusal)) => refused_output(refusal, out),
     }
 }
 
@@ -83,19 +80,11 @@ pub fn tried_output(input: &[u8], out: &mut [u8]) -> Output
     ensures { TryBoundOutput input.now out.old out.new result × (result.length ≤ 804) }
 {
     if input.len() < 4 {
-        return Output {
-            length: put_refused(out, 0, Refusal::BadFile),
-            refused: true,
-        };
+        return refused_output(Refusal::BadFile, out);
     }
     let bound = to_signed(read4(input, 0));
-    let got = read_order(&input[4..]);
-    let status = got.status;
-    if let Acceptance::Refused(refusal) = status {
-        return Output {
-            length: put_refused(out, 0, refusal),
-            refused: true,
-        };
+    match read_order(&input[4..]) {
+        Ok(order) => bound_output(order, bound, out),
+        Err(refusal) => refused_output(refusal, out),
     }
-    bound_output(got.order, bound, out)
 }

@@ -1,3 +1,4 @@
+use mathlib.Core.Path.{◌∙◌}
 use native.Mathlib.Omega.{arith}
 use Rattle.profile.specs.Least.{least_lateness}
 use Rattle.profile.proofs.LeastRange.{least-in-range}
@@ -21,28 +22,28 @@ use Rattle.lines.proofs.programs.least_output.Goals as goal
 pub put_plan-requires : goal.put_plan-requires
 put_plan-requires c =
     let o = order_of c.args.order in
-    let l = c.least_lateness-least in
-    let w = (least-written o blank _ _ (l.ensures.result_value, l.ensures.buffer_by) blank-size _ _ c.in-At.is).2 in
+    let l = c.least_lateness in
+    let w = (least-written o blank _ _ (l.ensures.result_value, l.ensures.buffer_by) blank-size _ c.in-Ok.is).2 in
     (written-few c.requires.0 w, written-room w, omega arith)
 
-pub returns-in-Refused : goal.returns-in-Refused
-returns-in-Refused c =
+pub returns-in-Err : goal.returns-in-Err
+returns-in-Err c =
     let o = order_of c.args.order in
-    let l = c.least_lateness-least in
-    let why = c.in-Refused.refusal in
+    let l = c.least_lateness in
+    let why = c.in-Err.refusal in
     let v = least-told o blank _ _ (l.ensures.result_value, l.ensures.buffer_by) blank-size why
-    c.in-Refused.is in
-    let q = c.put_refused.ensures in (
-      record { text = _; text-is = refused-text _ o why v; put = q.0; told = refused-true _ why v },
-      omega (arith, q.1),
+    c.in-Err.is in
+    let q = c.refused_output.ensures in (
+      record { text = _; text-is = refused-text _ o why v; put = q.0; told = q.1.1 ∙ refused-true _ why v },
+      omega (arith, q.1.0),
     )
 
-pub returns-in-At : goal.returns-in-At
-returns-in-At c =
+pub returns-in-Ok : goal.returns-in-Ok
+returns-in-Ok c =
     let o = order_of c.args.order in
-    let l = c.least_lateness-least in
-    let h = least-written o blank _ _ (l.ensures.result_value, l.ensures.buffer_by) blank-size _ _
-    c.in-At.is in
+    let l = c.least_lateness in
+    let h = least-written o blank _ _ (l.ensures.result_value, l.ensures.buffer_by) blank-size _
+    c.in-Ok.is in
     let q = c.put_plan.ensures in (
       record {
         text = _;
