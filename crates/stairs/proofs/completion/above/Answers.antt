@@ -11,9 +11,6 @@ use Rattle.stairs.proofs.completion.above.Goals as goal
 pub loop-d-init : goal.loop-d-init
 loop-d-init c = (refl, sym (most-none _), record { at = λ e h. absurd (omega arith) })
 
-pub overflow_add-w : goal.overflow_add-w
-overflow_add-w c = omega (arith, c.requires.by_index c.loop-d.d (omega arith))
-
 pub loop-d-preserved : goal.loop-d-preserved
 loop-d-preserved c =
     let l = c.loop-d in
@@ -27,6 +24,3 @@ loop-d-preserved c =
             c.max-top.result (search rules) l.invariant.2.at e;
       },
     )
-
-pub returns : goal.returns
-returns c = record { at = λ e h. c.loop-d.invariant.2.at e (omega arith) }

@@ -12,23 +12,16 @@ loop-i-init c = (
   greedy-start _ _ _ _ c.requires.room_bound,
 )
 
-pub least-top-requires : goal.least-top-requires
-least-top-requires c =
-    let l = c.loop-i in record {
-      top_bound = search rules;
-      by_index = λ e h. omega (
-        arith,
-        c.requires.k_bound.2.at l.i e (omega arith) (omega arith),
-        completed-le c.args.t.now c.args.c.now (suc c.args.k) (suc c.args.d) c.args.k (suc l.i)
-            (c.args.k - l.i) e c.requires.k_bound.2 c.requires.k_bound.3 (omega arith) (omega arith) (omega arith) (omega arith)
-            (omega arith),
-      );
-    }
-
-pub overflow_add-acc : goal.overflow_add-acc
-overflow_add-acc c =
+pub least-top-requires-clause-by_index : goal.least-top-requires-clause-by_index
+least-top-requires-clause-by_index c =
     let l = c.loop-i in
-    omega (arith, c.requires.k_bound.2.at l.i c.least-top.result (omega arith) (omega (arith, c.least-top.ensures.within)))
+    λ e h. omega (
+      arith,
+      c.requires.k_bound.2.at l.i e (omega arith) (omega arith),
+      completed-le c.args.t.now c.args.c.now (suc c.args.k) (suc c.args.d) c.args.k (suc l.i)
+          (c.args.k - l.i) e c.requires.k_bound.2 c.requires.k_bound.3 (omega arith) (omega arith) (omega arith) (omega arith)
+          (omega arith),
+    )
 
 pub loop-i-preserved : goal.loop-i-preserved
 loop-i-preserved c =

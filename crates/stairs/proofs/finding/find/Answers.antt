@@ -4,7 +4,7 @@ use native.Mathlib.Omega.{arith}
 use borrow.Author.Rules.{rules}
 use Rattle.stairs.specs.Tables.{cell, room_of}
 use Rattle.stairs.specs.CompletionLaws.{first-zero, overfull-zero, overfull-none}
-use Rattle.stairs.proofs.Ranking.{find-more, find-can, find-hit, find_none}
+use Rattle.stairs.proofs.Ranking.{find-more, find-hit, find_none}
 use Rattle.stairs.proofs.Rows.{completed-le}
 use Rattle.stairs.proofs.finding.find.Goals as goal
 
@@ -25,16 +25,6 @@ overflow_add-t c =
           c.requires.3 c.completions-c.ensures (omega arith) (omega arith) (omega arith)
           (omega arith) (omega arith),
     )
-
-pub complete-requires : goal.complete-requires
-complete-requires c =
-    let l = c.loop-k in
-    let l2 = c.loop-d in
-    let m = c.completions-c in record {
-      k_bound = (search rules, search rules, c.requires.3, record { at = λ i x e p b h. m.ensures.at i x e p b (omega arith) });
-      room_bound = find-can c.args.t.now c.args.rooms.now c.args.s c.args.q l.k l2.d m.result m.ensures (omega arith)
-          (omega arith) l.invariant l2.invariant.1 (omega arith);
-    }
 
 pub loop-d-preserved : goal.loop-d-preserved
 loop-d-preserved c =
