@@ -1,4 +1,4 @@
-mod Dues
+mod StdWords
 mod ClassByClass
 mod LateFirst
 mod Tells

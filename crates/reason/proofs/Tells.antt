@@ -5,6 +5,7 @@ use mathlib.Core.List.{List, [], ◌∷◌, map}
 use native.Mathlib.Omega.{arith}
 use native.Mathlib.Decide.{dec_lt}
 use borrow.Author.Tests.{lt-ltb, le-ltb}
+use Rattle.std.specs.Prelude.{Some, None}
 use lib.IntN.{ℤ, pos}
 use lib.ListN.{length, get_or, replicate}
 use Rattle.sums.specs.Lists.{nth, tabulate}
@@ -20,9 +21,8 @@ use Rattle.table.specs.Tabled.{Fine}
 use Rattle.order.specs.Lead.{due_at, last_due}
 use Rattle.table.specs.declared.Table.{Table}
 use Rattle.stairs.specs.PlacesLaws.{ranking-falls, pad-below}
-use Rattle.stairs.specs.Tables.{stop_at}
-use Rattle.stairs.specs.declared.Outcome.TheVariants.{Places, Nothing as Nowhere}
-use Rattle.stairs.specs.declared.Stop.{Stop}
+use Rattle.stairs.specs.Tables.{staircase_of}
+use Rattle.stairs.specs.declared.Staircase.{Staircase}
 use Rattle.reason.specs.Told.{sixteen}
 use Rattle.reason.specs.Asked.{first_of, late, due_or, told_at, told_by, told_from, told_of}
 use Rattle.reason.specs.declared.Reason.TheVariants.{Job, Stairs}
@@ -49,26 +49,25 @@ due-or-map grid ds i l =
       | no h ↦ rw (le-ltb i (length ds) (omega arith)) (sym (map-beyond (λ d. due_at last_due (get_or grid d 0)) ds i (omega arith)))
     ]
 
--- where a profile was found
-pub record Hit (t : Table) (reach : ℕ) (w : Stop) (k : ℕ) : Type 0 where
+-- the profile that was found
+pub record Hit (t : Table) (reach : ℕ) (w : Staircase) : Type 0 where
   pub ds : List ℕ
   pub is : first_of t reach ≡ found ds
-  pub count : length ds ≡ k
+  pub count : length ds ≡ w.count
   pub at : w.at ≡ pad 16 ds
-  pub few : k ≤ 16
-  pub below : (i : ℕ) → i < k → get_or w.at i 0 < 48
+  pub few : w.count ≤ 16
+  pub below : (i : ℕ) → i < w.count → get_or w.at i 0 < 48
 
-pub hit-of : (t : Table) (reach : ℕ) → Fine t → (w : Stop) (k : ℕ) → w ≡ stop_at (first_of t reach) → w.outcome ≡ Places k →
-    Hit t reach w k
-unfolding stop_at first_of first_overfull_at
-hit-of t reach fine w k e r = go (first_of t reach) refl e
+pub hit-of : (t : Table) (reach : ℕ) → Fine t → (w : Staircase) → Some w ≡ staircase_of (first_of t reach) → Hit t reach w
+unfolding staircase_of first_of first_overfull_at
+hit-of t reach fine w e = go (first_of t reach) refl e
   where
-    go : (f : FoundPlaces) → first_of t reach ≡ f → w ≡ stop_at f → Hit t reach w k
-    go nothing g e = let z : ◌≡◌ {A = ℕ} 0 1 = cc (ap (λ (v : Stop). v.outcome) e) in absurd (omega arith)
+    go : (f : FoundPlaces) → first_of t reach ≡ f → Some w ≡ staircase_of f → Hit t reach w
+    go nothing g e = let z : ◌≡◌ {A = ℕ} 0 1 = cc in absurd (omega arith)
     go (found ds) g e =
         let q = ranking-falls _ t.s t.q ds g in
-        let n : length ds ≡ k = cc (ap (λ (v : Stop). v.outcome) e) in
-        let a : w.at ≡ pad 16 ds = ap (λ (v : Stop). v.at) e in
+        let n : length ds ≡ w.count = cc in
+        let a : w.at ≡ pad 16 ds = cc in
         record {
           ds = ds;
           is = g;
@@ -120,27 +119,27 @@ module _ (t : Table) (reach at : ℕ) (fine : Fine t) (l : at ≤ t.n)
         none (suc i) h = absurd (omega arith)
 
     -- a profile was found
-    pub tell-stairs : (w : Stop) (k : ℕ) → Hit t reach w k → (r : List ℤ) →
-        (length r ≡ 16) × ((i : ℕ) → i < 16 → get_or r i (pos 0) ≡ due_or t.grid w.at k i) →
-        record { tightness = Tight (Stairs k); dues = r } ≡ told_of t reach
-    tell-stairs w k x r f =
+    pub tell-stairs : (w : Staircase) → Hit t reach w → (r : List ℤ) →
+        (length r ≡ 16) × ((i : ℕ) → i < 16 → get_or r i (pos 0) ≡ due_or t.grid w.at w.count i) →
+        record { tightness = Tight (Stairs w.count); dues = r } ≡ told_of t reach
+    tell-stairs w x r f =
         let d : r ≡ sixteen (map (λ d. due_at last_due (get_or t.grid d 0)) x.ds)
         = sym (ap (λ (n : ℕ). tabulate n (λ i. get_or r i (pos 0))) (sym f.0) ∙ tabulate-get_or r (pos 0))
         ∙ tabulate-cong 16 (λ i. get_or r i (pos 0)) (λ i. get_or (map (λ d. due_at last_due (get_or t.grid d 0)) x.ds) i (pos 0))
         (λ i l.
         f.1 i l ∙ (rw (x.at, ← x.count) (due-or-map t.grid x.ds i (omega (arith, x.count, x.few))))) in
-        ap (λ (l : List ℤ). record { tightness = Tight (Stairs k); dues = l }) d
+        ap (λ (l : List ℤ). record { tightness = Tight (Stairs w.count); dues = l }) d
         ∙ (ap (λ (n : ℕ). record { tightness = Tight (Stairs n); dues = sixteen (map (λ d. due_at last_due (get_or t.grid d 0)) x.ds) })
         (sym x.count)
         ∙ (ap (told_at t) (sym x.is) ∙ by-profile))
 
     -- none was
-    pub tell-nothing : (w : Stop) → w ≡ stop_at (first_of t reach) → w.outcome ≡ Nowhere →
+    pub tell-nothing : None ≡ staircase_of (first_of t reach) →
         record { tightness = Met; dues = replicate 16 (pos 0) } ≡ told_of t reach
-    unfolding stop_at
-    tell-nothing w q r = go (first_of t reach) refl q
+    unfolding staircase_of
+    tell-nothing q = go (first_of t reach) refl q
       where
-        go : (f : FoundPlaces) → first_of t reach ≡ f → w ≡ stop_at f →
+        go : (f : FoundPlaces) → first_of t reach ≡ f → None ≡ staircase_of f →
             record { tightness = Met; dues = replicate 16 (pos 0) } ≡ told_of t reach
         go nothing g q = ap (told_at t) (sym g) ∙ by-profile
-        go (found ds) g q = let z : ◌≡◌ {A = ℕ} 0 1 = cc (ap (λ (v : Stop). v.outcome) q) in absurd (omega arith)
+        go (found ds) g q = let z : ◌≡◌ {A = ℕ} 0 1 = cc in absurd (omega arith)

@@ -1,46 +1,25 @@
-use borrow.Author.Rules.{rules}
-use native.Mathlib.Omega.{arith}
-use native.Mathlib.Numerals.{add-one}
-use Prim.Native.Nat.{ℕ}
-use mathlib.Core.Path.{◌≡◌, subst}
-use borrow.Author.Tests.{lt-ltb}
-use Rattle.reason.proofs.LateFirst.{late-not, LeastLate, late-none, late-found, late-passed, late-place, late-first}
+use Rattle.std.proofs.Common.{rules, tests, true, ℕ, suc, ◌<◌, ◌≤◌, ◌≡◌, get_or, Some}
+use Rattle.std.specs.List.{filter}
+use Rattle.std.specs.Option.{MatchOption, IfSome, IfNone, option_map}
+use Rattle.std.specs.Iterator.Runs.{AllItems}
+use Rattle.std.proofs.iter.runs.Sources.{ranges}
+use Rattle.reason.specs.Asked.{late_at}
+use Rattle.reason.proofs.StdWords.{kept}
+use Rattle.reason.proofs.LateFirst.{first-late, late-first}
 use Rattle.reason.proofs.tell.first_late.Goals as goal
-
-pub loop-k-init : goal.loop-k-init
-loop-k-init c = (search rules, late-none c.args.o c.args.reach)
-
-pub overflow_add-enough : goal.overflow_add-enough
-overflow_add-enough c =
-    let k = c.loop-k.k in
-    omega (arith, c.requires.times k (omega arith), c.requires.leads k (omega arith))
-
-pub loop-k-preserved-then-number-first : goal.loop-k-preserved-then-number-first
-loop-k-preserved-then-number-first c =
-    let l = c.loop-k in (
-      search rules,
-      late-found c.args.o c.args.reach l.k l.place l.first l.invariant.1 (lt-ltb _ _ c.if-reach-enough.true) c.if-number-first.true
-          _ (add-one l.k),
-    )
-
-pub loop-k-preserved-else-number-first : goal.loop-k-preserved-else-number-first
-loop-k-preserved-else-number-first c =
-    let l = c.loop-k in
-    (search rules, late-passed c.args.o c.args.reach l.k l.place l.first l.invariant.1 (λ h. c.if-number-first.false))
-
-pub loop-k-preserved : goal.loop-k-preserved
-loop-k-preserved c =
-    let l = c.loop-k in (
-      search rules,
-      late-passed c.args.o c.args.reach l.k l.place l.first l.invariant.1
-          (λ h. absurd (late-not _ _ c.if-reach-enough.false h)),
-    )
 
 pub returns : goal.returns
 returns c =
-    let l = c.loop-k in
-    let e : l.k ≡ c.args.o.n = omega arith in
-    let L = subst (λ (k : ℕ). LeastLate c.args.o c.args.reach k l.place l.first) e l.invariant.1 in (
-      late-place c.args.o c.args.reach c.requires l.place l.first L,
-      late-first c.args.o c.args.reach c.requires l.place l.first L,
-    )
+    let o = c.args.o in
+    let reach = c.args.reach in
+    let place = c.min_by_key.result in
+    let p = c.min_by_key.ensures.runs.0 in
+    let q = c.filter.ensures.runs p p.seen c.min_by_key.ensures.runs.1 in
+    let none : IfNone place (p.len ≡ 0) = search (rules, ranges) in
+    let is : IfSome place (λ k. (k < o.n) × (late_at o reach k ≡ true)) = search (rules, ranges) in
+    let least : IfSome place (λ k. AllItems p (λ j. get_or o.by_need k 0 ≤ get_or o.by_need j 0)) = search (rules, ranges) in
+    let items : p.items ≡ filter (late_at o reach) q.0.items = q.2.4 (late_at o reach) (λ x r f h. search (rules, tests)) in
+    let all : (j : ℕ) → j < o.n → (j < q.0.len) × (option_map (λ y. y) (q.0.at j) ≡ Some j) = λ j l. search (rules, ranges) in
+    let told : MatchOption place (c.map_or.result ≡ 0) (λ k. c.map_or.result ≡ suc k) = search (rules, ranges) in
+    late-first o reach c.requires place
+    (first-late o reach p place none is least (λ j l h. kept p q.0 (late_at o reach) items j j (all j l).0 (all j l).1 h)) c.map_or.result told

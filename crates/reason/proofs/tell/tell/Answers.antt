@@ -22,25 +22,18 @@ returns-then-place-gt0 c =
 
 pub dues_of-requires : goal.dues_of-requires
 dues_of-requires c =
-    let w = c.first_overfull-stop in
-    let x = hit-of c.args.o c.args.reach c.requires.fine w.result c.in-Places.k w.ensures
-    c.in-Places.is in
-    (x.few, x.below, λ d h. c.requires.fine.grid d)
+    let x = hit-of c.args.o c.args.reach c.requires.fine c.in-Some.stairs c.in-Some.ensures in
+    (x.below, λ d h. c.requires.fine.grid d)
 
-pub returns-in-Places : goal.returns-in-Places
-returns-in-Places c =
+pub returns-in-Some : goal.returns-in-Some
+returns-in-Some c =
     let l = c.first_late-place in
-    let w = c.first_overfull-stop in
-    let k = c.in-Places.k in
+    let stairs = c.in-Some.stairs in
     tell-stairs c.args.o c.args.reach l.result c.requires.fine l.ensures.0 l.ensures.1
-    c.if-place-gt0.false w.result k
-    (hit-of c.args.o c.args.reach c.requires.fine w.result k w.ensures c.in-Places.is)
-    c.dues_of.result c.dues_of.ensures
+    c.if-place-gt0.false stairs (hit-of c.args.o c.args.reach c.requires.fine stairs c.in-Some.ensures) c.dues_of.result c.dues_of.ensures
 
-pub returns-in-Nothing : goal.returns-in-Nothing
-returns-in-Nothing c =
+pub returns-in-None : goal.returns-in-None
+returns-in-None c =
     let l = c.first_late-place in
-    let w = c.first_overfull-stop in
     tell-nothing c.args.o c.args.reach l.result c.requires.fine l.ensures.0 l.ensures.1
-    c.if-place-gt0.false w.result w.ensures
-    c.in-Nothing.is
+    c.if-place-gt0.false c.in-None.ensures

@@ -1,4 +1,3 @@
-use Prim.Native.Nat.{◌-◌, ◌≤◌}
 use mathlib.Core.Path.{◌≡◌}
 use lib.ListN.{length}
 use Rattle.reason.proofs.ClassByClass.{Filling}
@@ -6,7 +5,4 @@ use Rattle.reason.proofs.weight.owed_table.Given as goal
 
 abbrev pub invariant-loop-k : goal.invariant-loop-k
 invariant-loop-k l =
-    (l.k ≤ l.t.n) × (length l.r ≡ 16) × (length l.row ≡ 48) × Filling l.t l.k l.r l.row l.class
-
-abbrev pub decreases-loop-k : goal.decreases-loop-k
-decreases-loop-k l = l.t.n - l.k
+    (length l.r ≡ 16) × (length l.row ≡ 48) × Filling l.t l.k l.r l.row l.class
