@@ -25,11 +25,6 @@ pub heaviest-requires : goal.heaviest-requires
 heaviest-requires c =
     (omega (arith, c.requires.classed), c.requires.dues, c.requires.some-due, small-table _ _ c.requires c.table-t.ensures)
 
-pub div_ceil-requires : goal.div_ceil-requires
-div_ceil-requires c =
-    let l = c.loop-k in
-    omega (arith, l.invariant.0, procs-suc c.args.o l.k, procs-pos c.args.o c.requires l.k (omega arith))
-
 pub loop-k-preserved : goal.loop-k-preserved
 loop-k-preserved c =
     let l = c.loop-k in

@@ -5,7 +5,8 @@ use Rattle.std.specs.Prelude.{pos}
 use Rattle.reason.proofs.tell.dues_of.Goals as goal
 
 pub returns : goal.returns
-returns c =
-    let stairs = c.args.stairs.now in
-    let made = c.from_fn.ensures.items in
-    (made.long, λ i l. from_fn-at _ _ (due_or c.args.grid.now stairs.at stairs.count) _ (λ j y q b k. search (rules, tests)) made i (pos 0) l)
+returns c = (
+  c.from_fn.ensures.items.long,
+  λ i l. from_fn-at _ _ (due_or c.args.grid.now c.args.stairs.now.at c.args.stairs.now.count) _ (λ j y q b k. search (rules, tests))
+      c.from_fn.ensures.items i (pos 0) l,
+)

@@ -1,19 +1,5 @@
-use Prim.Native.Nat.{◌≤◌}
-use native.Mathlib.Omega.{arith}
 use Rattle.reason.proofs.Tells.{hit-of, tell-late, tell-stairs, tell-nothing}
 use Rattle.reason.proofs.tell.tell.Goals as goal
-
-pub offset_bounds-o-k : goal.offset_bounds-o-k
-offset_bounds-o-k c = let within : c.first_late-place.result ≤ 48 = omega (arith, c.first_late-place.ensures.0, c.requires.fine.jobs) in omega (arith, within)
-
-pub bounds-o-k : goal.bounds-o-k
-bounds-o-k c = let within : c.first_late-place.result ≤ 48 = omega (arith, c.first_late-place.ensures.0, c.requires.fine.jobs) in omega (arith, within)
-
-pub offset_bounds-o-k-then-place-gt0 : goal.offset_bounds-o-k-then-place-gt0
-offset_bounds-o-k-then-place-gt0 c = let within : c.first_late-place.result ≤ 48 = omega (arith, c.first_late-place.ensures.0, c.requires.fine.jobs) in omega (arith, within)
-
-pub bounds-o-k-then-place-gt0 : goal.bounds-o-k-then-place-gt0
-bounds-o-k-then-place-gt0 c = let within : c.first_late-place.result ≤ 48 = omega (arith, c.first_late-place.ensures.0, c.requires.fine.jobs) in omega (arith, within)
 
 pub returns-then-place-gt0 : goal.returns-then-place-gt0
 returns-then-place-gt0 c =

@@ -8,15 +8,6 @@ use Rattle.reason.proofs.weight.owed_table.Goals.{then-class-next, else-class-ne
 pub loop-k-init : goal.loop-k-init
 loop-k-init c = (search rules, search rules, filling-none c.args.t c.requires)
 
-pub overflow_sub-r : goal.overflow_sub-r
-overflow_sub-r c = let filled : Filling c.args.t c.loop-k.k c.loop-k.r c.loop-k.row c.loop-k.class = c.loop-k.invariant.2 in omega (arith, filled.some)
-
-pub offset_bounds-r-class : goal.offset_bounds-r-class
-offset_bounds-r-class c = let filled : Filling c.args.t c.loop-k.k c.loop-k.r c.loop-k.row c.loop-k.class = c.loop-k.invariant.2 in omega (arith, filled.few)
-
-pub bounds-r-class : goal.bounds-r-class
-bounds-r-class c = let filled : Filling c.args.t c.loop-k.k c.loop-k.r c.loop-k.row c.loop-k.class = c.loop-k.invariant.2 in omega (arith, filled.some, filled.few)
-
 pub add_job-requires : goal.add_job-requires
 add_job-requires c =
     let filled : Filling c.args.t c.loop-k.k c.loop-k.r c.loop-k.row c.loop-k.class = c.loop-k.invariant.2 in
@@ -37,15 +28,6 @@ loop-k-preserved c =
       search rules,
       filling-more c.args.t c.requires l.k _ _ _ b.filling _ b.same c.add_job.ensures,
     )
-
-pub overflow_sub-r-2 : goal.overflow_sub-r-2
-overflow_sub-r-2 c = let last : Filling c.args.t c.loop-k.k c.loop-k.r c.loop-k.row c.loop-k.class = c.loop-k.invariant.2 in omega (arith, last.some)
-
-pub offset_bounds-r-class-2 : goal.offset_bounds-r-class-2
-offset_bounds-r-class-2 c = let last : Filling c.args.t c.loop-k.k c.loop-k.r c.loop-k.row c.loop-k.class = c.loop-k.invariant.2 in omega (arith, last.few)
-
-pub bounds-r-class-2 : goal.bounds-r-class-2
-bounds-r-class-2 c = let last : Filling c.args.t c.loop-k.k c.loop-k.r c.loop-k.row c.loop-k.class = c.loop-k.invariant.2 in omega (arith, last.some, last.few)
 
 pub returns : goal.returns
 returns c =
