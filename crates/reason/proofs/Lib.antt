@@ -1,4 +1,4 @@
 mod StdWords
-mod ClassByClass
+mod JobByJob
 mod LateFirst
 mod Tells

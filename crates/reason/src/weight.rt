@@ -24,26 +24,17 @@ fn add_job(row: &mut [u32; 48], time: u32, lead: u32, grid: &[u32; 48])
     }
 }
 
-// Document 01's minutes owed by the jobs of each class: 16 classes by 48 due times, filled once, job by job. The jobs of a class lie
-// together, so a class's row is put down when the next class begins.
+// Document 01's minutes owed by the jobs of each class: 16 classes by 48 due times, filled once, job by job.
 pub fn owed_table(t: Table) -> [[u32; 48]; 16]
     requires { Fine t }
     ensures { (i : ℕ) → i < 16 → RowOf (minutes_at t (suc i)) 48 (get_or result i []) }
 {
-    let mut r = [[0u32; 48]; 16];
-    let mut row = [0u32; 48];
-    let mut class: usize = 1;
+    let mut rows = [[0u32; 48]; 16];
     for k in 0..t.n {
-        let next = t.classes[k] as usize;
-        if class < next {
-            r[class - 1] = row;
-            row = [0u32; 48];
-            class = next;
-        }
-        add_job(&mut row, t.times[k], t.leads[k], &t.grid);
+        let class = t.classes[k] as usize;
+        add_job(&mut rows[class - 1], t.times[k], t.leads[k], &t.grid);
     }
-    r[class - 1] = row;
-    r
+    rows
 }
 
 // A class's processors times each lead, on top of what it owes.
