@@ -21,11 +21,11 @@ pub fn least_reach(o: Table) -> u32
     ensures { (result ≡ least_reach_of o) × (result ≤ 640000000) }
 {
     let t = table(o);
-    let mut r = latest(o);
-    let mut m: u32 = 0;
+    let mut reach = latest(o);
+    let mut procs: u32 = 0;
     for k in 0..o.s {
-        m += o.procs[k];
-        r = r.max(heaviest(&t, k, o.q).div_ceil(m));
+        procs += o.procs[k];
+        reach = reach.max(heaviest(&t, k, o.q).div_ceil(procs));
     }
-    r
+    reach
 }

@@ -18,10 +18,10 @@ pub fn rooms_at(o: Table, reach: u32) -> [u32; 16]
     ensures { RowOf (λ k. procs_to o (suc k) * reach) 16 result }
 {
     let mut rooms = [0u32; 16];
-    let mut m: u32 = 0;
+    let mut procs: u32 = 0;
     for (k, room) in rooms.iter_mut().enumerate() {
-        m += o.procs[k];
-        *room = m * reach;
+        procs += o.procs[k];
+        *room = procs * reach;
     }
     rooms
 }

@@ -12,13 +12,13 @@ pub fn above(w: &[u32; 48], rest: &[u32; 48], q: usize) -> [u32; 48]
     requires by_index { (e : ℕ) → e < q → (get_or w.now e 0 ≤ 40000000) × (get_or rest.now e 0 ≤ 1000000000) }
     ensures { RowOf (λ e. most (suc e) (λ x. get_or w.now x 0 + get_or rest.now x 0)) q result }
 {
-    let mut r = [0u32; 48];
+    let mut row = [0u32; 48];
     let mut top: u32 = 0;
     for d in 0..q {
         top = top.max(w[d] + rest[d]);
-        r[d] = top;
+        row[d] = top;
     }
-    r
+    row
 }
 
 // The best completions of the last 0 to k of k + 1 classes.

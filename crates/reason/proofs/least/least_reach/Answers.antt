@@ -13,10 +13,10 @@ use Rattle.reason.proofs.StdWords.{ceiling-is}
 use Rattle.reason.proofs.least.least_reach.Goals as goal
 
 pub loop-k-init : goal.loop-k-init
-loop-k-init c = (sym (procs-none _), omega (arith, c.latest-r.ensures.0, most-none (λ k. least_for c.args.o (suc k))))
+loop-k-init c = (sym (procs-none _), omega (arith, c.latest-reach.ensures.0, most-none (λ k. least_for c.args.o (suc k))))
 
-pub overflow_add-m : goal.overflow_add-m
-overflow_add-m c =
+pub overflow_add-procs : goal.overflow_add-procs
+overflow_add-procs c =
     let l = c.loop-k in
     let b : l.k < 16 = omega (arith, c.requires.classed) in
     omega (arith, l.invariant.0, procs-le c.args.o c.requires l.k (omega arith), c.requires.procs l.k b)
@@ -29,7 +29,7 @@ pub loop-k-preserved : goal.loop-k-preserved
 loop-k-preserved c =
     let l = c.loop-k in
     let o = c.args.o in
-    let m : l.m + get_or o.procs l.k 0 ≡ procs_to o (suc l.k) = omega (arith, l.invariant.0, procs-suc o l.k) in
+    let m : l.procs + get_or o.procs l.k 0 ≡ procs_to o (suc l.k) = omega (arith, l.invariant.0, procs-suc o l.k) in
     let w = c.table-t in
     let b : c.heaviest.result ≡ best (weight o) (suc l.k) o.q
     = c.heaviest.ensures.0
@@ -37,8 +37,8 @@ loop-k-preserved c =
     (λ x d h p. (w.ensures x (omega (arith, c.requires.classed))).at d (omega (arith, c.requires.dues))) in
     let d : c.div_ceil.result ≡ least_for o (suc l.k) = c.div_ceil.ensures ∙ ceiling-is _ _ (omega (arith, m, procs-pos o c.requires l.k (omega arith))) ∙ rw (m, b) in
     let f : ℕ → ℕ = λ k. least_for o (suc k) in
-    let e : c.max-r.result ≡ max (latest_of o) (most (suc l.k) f) =
-    omega (arith, c.max-r.ensures, l.invariant.1, d, most-suc l.k f) in
+    let e : c.max-reach.result ≡ max (latest_of o) (most (suc l.k) f) =
+    omega (arith, c.max-reach.ensures, l.invariant.1, d, most-suc l.k f) in
     (rw add-one m, rw add-one e)
 
 pub returns : goal.returns
@@ -46,6 +46,6 @@ unfolding least_reach_of
 returns c =
     let o = c.args.o in
     let e : c.loop-k.k ≡ o.s = omega arith in
-    let r : c.loop-k.r ≡ least_reach_of o
+    let r : c.loop-k.reach ≡ least_reach_of o
     = c.loop-k.invariant.1 ∙ ap (λ (x : ℕ). max (latest_of o) (most x (λ k. least_for o (suc k)))) e in
     (r, omega (arith, r, reach-most o c.requires))

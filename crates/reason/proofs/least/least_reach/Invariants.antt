@@ -6,4 +6,4 @@ use Rattle.reason.proofs.least.least_reach.Given as goal
 
 -- the least reach for the jobs and the first k class counts
 abbrev pub invariant-loop-k : goal.invariant-loop-k
-invariant-loop-k l = (l.m ≡ procs_to l.o l.k) × (l.r ≡ max (latest_of l.o) (most l.k (λ k. least_for l.o (suc k))))
+invariant-loop-k l = (l.procs ≡ procs_to l.o l.k) × (l.reach ≡ max (latest_of l.o) (most l.k (λ k. least_for l.o (suc k))))

@@ -14,15 +14,15 @@ use Rattle.reason.proofs.overfull.rooms_at.Goals as goal
 pub loop-k-init : goal.loop-k-init
 loop-k-init c = (refl, sym (procs-none _), record { at = λ k h. absurd (omega arith) })
 
-pub overflow_add-m : goal.overflow_add-m
-overflow_add-m c =
+pub overflow_add-procs : goal.overflow_add-procs
+overflow_add-procs c =
     let l = c.loop-k in
     omega (arith, l.invariant.1, procs-le c.args.o c.requires.fine l.k (omega arith), c.requires.fine.procs l.k (omega arith))
 
 pub overflow_mul-room : goal.overflow_mul-room
 overflow_mul-room c =
     let l = c.loop-k in
-    let m : l.m + get_or c.args.o.procs l.k 0 ≤ 256 =
+    let m : l.procs + get_or c.args.o.procs l.k 0 ≤ 256 =
     omega (
       arith,
       l.invariant.1,
@@ -30,13 +30,13 @@ overflow_mul-room c =
       procs-le c.args.o c.requires.fine (suc l.k)
           (omega arith),
     ) in
-    let p : (l.m + get_or c.args.o.procs l.k 0) * c.args.reach ≤ 256 * most_reach = mul-le-mul m c.requires.reach_le_most_reach in
+    let p : (l.procs + get_or c.args.o.procs l.k 0) * c.args.reach ≤ 256 * most_reach = mul-le-mul m c.requires.reach_le_most_reach in
     omega (arith, p)
 
 pub loop-k-preserved : goal.loop-k-preserved
 loop-k-preserved c =
     let l = c.loop-k in
-    let e : l.m + get_or c.args.o.procs l.k 0 ≡ procs_to c.args.o (suc l.k) =
+    let e : l.procs + get_or c.args.o.procs l.k 0 ≡ procs_to c.args.o (suc l.k) =
     omega (arith, l.invariant.1, procs-suc c.args.o l.k) in (
       search rules,
       rw add-one e,

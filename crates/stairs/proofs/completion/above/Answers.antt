@@ -20,7 +20,7 @@ loop-d-preserved c =
       search rules,
       rw add-one e,
       record {
-        at = fill-at (λ (k v : ℕ). v ≡ most (suc k) f) 0 l.r l.d
+        at = fill-at (λ (k v : ℕ). v ≡ most (suc k) f) 0 l.row l.d
             c.max-top.result (search rules) l.invariant.2.at e;
       },
     )
