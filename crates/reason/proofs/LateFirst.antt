@@ -15,21 +15,16 @@ use Rattle.table.specs.Held.{beside, by_number}
 use Rattle.table.specs.HeldLaws.{value-at}
 use Rattle.table.specs.Tabled.{Fine}
 use Rattle.table.specs.declared.Table.{Table}
-use Rattle.reason.specs.Asked.{late, late_at}
+use Rattle.reason.specs.Asked.{late, late_at, FirstLate}
 
 module _ (t : Table) (reach : ℕ) where
   abbrev number : ℕ → ℕ
   number = beside t.by_need
 
-  -- the place of the late job with the smallest number, where a job is late
-  abbrev pub FirstLate : Option ℕ → Type 0
-  FirstLate place = MatchOption place ((j : ℕ) → j < t.n → ¬ (late_at t reach j ≡ true))
-      (λ k. (k < t.n) × (late_at t reach k ≡ true) × ((j : ℕ) → j < t.n → late_at t reach j ≡ true → number k ≤ number j))
-
   -- found among the items that a run of calls gives, of which each late job is one
   pub first-late : {S : Type 0} {steps : S → Option ℕ → S → Type 0} (p : Run steps) (place : Option ℕ) → IfNone place (p.len ≡ 0) →
       IfSome place (λ k. (k < t.n) × (late_at t reach k ≡ true)) → IfSome place (λ k. AllItems p (λ j. number k ≤ number j)) →
-      ((j : ℕ) → j < t.n → late_at t reach j ≡ true → (i : ℕ) × (i < p.len) × (option_map (λ y. y) (p.at i) ≡ Some j)) → FirstLate place
+      ((j : ℕ) → j < t.n → late_at t reach j ≡ true → (i : ℕ) × (i < p.len) × (option_map (λ y. y) (p.at i) ≡ Some j)) → FirstLate t reach place
   first-late p None empty is least among = λ j l h. omega (arith, empty, (among j l h).1)
   first-late p (Some k) empty is least among = (is.0, is.1, λ j l h. let a = among j l h in at j (p.at a.0) a.2 (least a.0))
     where
@@ -57,7 +52,7 @@ module _ (t : Table) (reach : ℕ) where
         ap (late (by_number t) reach) e ∙ late_is r.0 r.1 ∙ not-true (late_at t reach r.0) (h r.0 r.1 r.2)
 
     -- the place is told from 1 on, and 0 where there is none
-    pub late-first : (place : Option ℕ) → FirstLate place → (at : ℕ) → MatchOption place (at ≡ 0) (λ k. at ≡ suc k) →
+    pub late-first : (place : Option ℕ) → FirstLate t reach place → (at : ℕ) → MatchOption place (at ≡ 0) (λ k. at ≡ suc k) →
         (at ≤ t.n) × (finding_of (nth t.by_need at 0) ≡ first (late (by_number t) reach) (tabulate t.n (λ j. j)))
     late-first None none at e =
         rw e (omega arith, sym (none-tabulate (late (by_number t) reach) t.n (λ j. j) (λ j l. not-late j l (λ i b n. none i b))))

@@ -1,5 +1,5 @@
 -- What is told, from what the parts find.
-use Prim.Native.Nat.{ℕ, zero, suc, ◌-◌, ◌≤◌, ◌<◌}
+use Prim.Native.Nat.{ℕ, zero, suc, ◌≤◌, ◌<◌}
 use mathlib.Core.Path.{◌≡◌, refl, sym, ap, ◌∙◌}
 use mathlib.Core.List.{List, [], ◌∷◌, map}
 use native.Mathlib.Omega.{arith}
@@ -8,9 +8,9 @@ use borrow.Author.Tests.{lt-ltb, le-ltb}
 use Rattle.std.specs.Prelude.{Some, None}
 use lib.IntN.{ℤ, pos}
 use lib.ListN.{length, get_or, replicate}
-use Rattle.sums.specs.Lists.{nth, tabulate}
+use Rattle.sums.specs.Lists.{tabulate}
 use Rattle.sums.specs.Places.{tabulate-cong, tabulate-get_or}
-use Rattle.order.specs.Refusals.{Finding, clear, first}
+use Rattle.order.specs.Refusals.{Finding}
 use Rattle.order.specs.Table.{finding_of}
 use Rattle.profile.specs.Search.{nothing, found}
 use Rattle.stairs.specs.Places.{FoundPlaces, first_overfull_at}
@@ -24,7 +24,8 @@ use Rattle.stairs.specs.PlacesLaws.{ranking-falls, pad-below}
 use Rattle.stairs.specs.Tables.{staircase_of}
 use Rattle.stairs.specs.declared.Staircase.{Staircase}
 use Rattle.reason.specs.Told.{sixteen}
-use Rattle.reason.specs.Asked.{first_of, late, due_or, told_at, told_by, told_from, told_of}
+use Rattle.reason.specs.Asked.{first_of, FirstLate, due_or, told_at, told_by, told_from, told_of}
+use Rattle.reason.proofs.LateFirst.{late-first}
 use Rattle.reason.specs.declared.Reason.TheVariants.{Job, Stairs}
 use Rattle.reason.specs.declared.Tightness.TheVariants.{Tight, Met}
 
@@ -83,40 +84,24 @@ hit-of t reach fine w e = go (first_of t reach) refl e
               ));
         }
 
--- the place of the first late job, from 1 on, or 0
-module _ (t : Table) (reach at : ℕ) (fine : Fine t) (l : at ≤ t.n)
-    (e : finding_of (nth t.by_need at 0) ≡ first (late (by_number t) reach) (tabulate t.n (λ j. j))) where
+module _ (t : Table) (reach : ℕ) (fine : Fine t) where
   -- a job was found
-  pub tell-late : 0 < at →
-      record { tightness = Tight (Job (get_or t.by_need (at - 1) 0) (get_or t.times (at - 1) 0)); dues = replicate 16 (pos 0) }
-      ≡ told_of t reach
+  pub tell-late : (k : ℕ) → FirstLate t reach (Some k) →
+      record { tightness = Tight (Job (get_or t.by_need k 0) (get_or t.times k 0)); dues = replicate 16 (pos 0) } ≡ told_of t reach
   unfolding told_from
-  tell-late h = go at h l ∙ ap (λ (f : Finding). told_by (by_number t) t f (first_of t reach)) e
+  tell-late k h =
+      number (get_or t.by_need k 0) (get_or t.times k 0) (fine.numbers.are k h.0).0 (value-at t.by_need t.n fine.numbers t.times k h.0)
+      ∙ ap (λ (f : Finding). told_by (by_number t) t f (first_of t reach)) (late-first t reach fine (Some k) h (suc k) refl).1
     where
       number : (x v : ℕ) → 1 ≤ x → value_of t.by_need t.n t.times x ≡ v →
           record { tightness = Tight (Job x v); dues = sixteen [] } ≡ told_by (by_number t) t (finding_of x) (first_of t reach)
       number zero v b q = absurd (omega arith)
       number (suc x) v b q = rw q refl
 
-      go : (at : ℕ) → 0 < at → at ≤ t.n →
-          record { tightness = Tight (Job (get_or t.by_need (at - 1) 0) (get_or t.times (at - 1) 0)); dues = replicate 16 (pos 0) }
-          ≡ told_by (by_number t) t (finding_of (nth t.by_need at 0)) (first_of t reach)
-      go zero h l = absurd (omega arith)
-      go (suc i) h l =
-          let z : suc i - 1 ≡ i = omega arith in
-          rw z (number (get_or t.by_need i 0) (get_or t.times i 0) (fine.numbers.are i l).0
-          (value-at t.by_need t.n fine.numbers t.times i l))
-
-  module _ (h : at ≤ 0) where
+  module _ (h : FirstLate t reach None) where
     by-profile : told_at t (first_of t reach) ≡ told_of t reach
     unfolding told_from
-    by-profile =
-        let z : finding_of (nth t.by_need at 0) ≡ clear = none at h in
-        ap (λ (f : Finding). told_by (by_number t) t f (first_of t reach)) (sym z ∙ e)
-      where
-        none : (at : ℕ) → at ≤ 0 → finding_of (nth t.by_need at 0) ≡ clear
-        none zero h = refl
-        none (suc i) h = absurd (omega arith)
+    by-profile = ap (λ (f : Finding). told_by (by_number t) t f (first_of t reach)) (late-first t reach fine None h 0 refl).1
 
     -- a profile was found
     pub tell-stairs : (w : Staircase) → Hit t reach w → (r : List ℤ) →

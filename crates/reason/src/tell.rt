@@ -5,7 +5,7 @@ ghost use Rattle.order.specs.Lead.{bound_at, last_due, most_reach};
 ghost use Rattle.order.specs.Refusals.{Accepted, bound_in_range, first};
 ghost use Rattle.order.specs.Table.{order_of, finding_of};
 ghost use Rattle.profile.specs.Search.{reason_of};
-ghost use Rattle.reason.specs.Asked.{late, due_or, told_of, least_reach_of};
+ghost use Rattle.reason.specs.Asked.{late, FirstLate, due_or, told_of, least_reach_of};
 ghost use Rattle.table.specs.Held.{by_number};
 ghost use Rattle.table.specs.Tabled.{Fine};
 ghost use Rattle.reason.specs.Told.{why_of, why_told};
@@ -19,16 +19,23 @@ use table::Table;
 use table::lead::{bound_of, due_of, reach_of};
 use table::making::table_of;
 
-// The place, from 1 on, of the first job in input order whose time exceeds its end, or 0: of the jobs that are late the one with the
-// smallest number, wherever it lies.
-pub fn first_late(o: Table, reach: u32) -> u32
+// The place of the first job in input order whose time exceeds its end: of the jobs that are late the one with the smallest
+// number, wherever it lies.
+fn late_place(o: Table, reach: u32) -> Option<usize>
     requires { Fine o }
-    ensures { (result ≤ o.n) × (finding_of (nth o.by_need result 0) ≡ first (late (by_number o) reach) (tabulate o.n (λ j. j))) }
+    ensures { FirstLate o reach result }
 {
     (0..o.n)
         .filter(|&k| reach < o.times[k] + o.leads[k])
         .min_by_key(|&k| o.by_need[k])
-        .map_or(0, |k| (k + 1) as u32)
+}
+
+// The same from 1 on, and 0 where no job is late.
+pub fn first_late(o: Table, reach: u32) -> u32
+    requires { Fine o }
+    ensures { (result ≤ o.n) × (finding_of (nth o.by_need result 0) ≡ first (late (by_number o) reach) (tabulate o.n (λ j. j))) }
+{
+    late_place(o, reach).map_or(0, |k| (k + 1) as u32)
 }
 
 // The due times of a staircase's places, and 0 beyond.
@@ -51,12 +58,9 @@ pub fn tell(o: Table, reach: u32) -> Why
     requires reach_le_most_reach { reach ≤ most_reach }
     ensures { result ≡ told_of o reach }
 {
-    let place = first_late(o, reach);
-    if 0 < place {
-        let k = (place - 1) as usize;
-        let number = o.by_need[k];
+    if let Some(k) = late_place(o, reach) {
         return Why {
-            tightness: Tightness::Tight(Reason::Job(number, o.times[k])),
+            tightness: Tightness::Tight(Reason::Job(o.by_need[k], o.times[k])),
             dues: [0i32; 16],
         };
     }
