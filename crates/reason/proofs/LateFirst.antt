@@ -24,11 +24,13 @@ module _ (t : Table) (reach : ℕ) where
   -- found among the items that a run of calls gives, of which each late job is one
   pub first-late : {S : Type 0} {steps : S → Option ℕ → S → Type 0} (p : Run steps) (place : Option ℕ) → IfNone place (p.len ≡ 0) →
       IfSome place (λ k. (k < t.n) × (late_at t reach k ≡ true)) → IfSome place (λ k. AllItems p (λ j. number k ≤ number j)) →
-      ((j : ℕ) → j < t.n → late_at t reach j ≡ true → (i : ℕ) × (i < p.len) × (option_map (λ y. y) (p.at i) ≡ Some j)) → FirstLate t reach place
+      ((j : ℕ) → j < t.n → late_at t reach j ≡ true → (i : ℕ) × (i < p.len) × (option_map (λ y. y) (p.at i) ≡ Some j)) →
+      FirstLate t reach place
   first-late p None empty is least among = λ j l h. omega (arith, empty, (among j l h).1)
   first-late p (Some k) empty is least among = (is.0, is.1, λ j l h. let a = among j l h in at j (p.at a.0) a.2 (least a.0))
     where
-      at : (j : ℕ) (item : Option ℕ) → option_map (λ y. y) item ≡ Some j → IfSome item (λ j. number k ≤ number j) → number k ≤ number j
+      at : (j : ℕ) (item : Option ℕ) → option_map (λ y. y) item ≡ Some j → IfSome item (λ j. number k ≤ number j) →
+          number k ≤ number j
       at j None e h = let z : ◌≡◌ {A = ℕ} 0 1 = cc in absurd (omega arith)
       at j (Some x) e h = let same : x ≡ j = cc in rw (← same) h
 

@@ -37,7 +37,8 @@ filter-keeps test (x ∷ xs) (suc j) l e = at (test x) refl (filter-keeps test x
 
 -- what a run of q gives and passes the test is given by p
 pub kept : {S T : Type 0} {steps : S → Option ℕ → S → Type 0} {source : T → Option ℕ → T → Type 0} (p : Run steps) (q : Run source)
-    (test : ℕ → Bool) → p.items ≡ filter test q.items → (j x : ℕ) → j < q.len → option_map (λ y. y) (q.at j) ≡ Some x → test x ≡ true →
+    (test : ℕ → Bool) → p.items ≡ filter test q.items →
+    (j x : ℕ) → j < q.len → option_map (λ y. y) (q.at j) ≡ Some x → test x ≡ true →
     (k : ℕ) × (k < p.len) × (option_map (λ y. y) (p.at k) ≡ Some x)
 kept p q test e j x l is passes =
     let same : get_or q.items j 0 ≡ x = cc (q.reads j 0 l) in

@@ -40,8 +40,10 @@ pub fn first_late(o: Table, reach: u32) -> u32
 
 // The due times of a staircase's places, and 0 beyond.
 pub fn dues_of(grid: &[u32; 48], stairs: &Staircase) -> [i32; 16]
-    requires { ((i : ℕ) → i < stairs.now.count → get_or stairs.now.at i 0 < 48) × ((d : ℕ) → d < 48 → get_or grid.now d 0 ≤ 2000000) }
-    ensures { (length result ≡ 16) × ((i : ℕ) → i < 16 → get_or result i (pos 0) ≡ due_or grid.now stairs.now.at stairs.now.count i) }
+    requires { ((i : ℕ) → i < stairs.now.count → get_or stairs.now.at i 0 < 48)
+        × ((d : ℕ) → d < 48 → get_or grid.now d 0 ≤ 2000000) }
+    ensures { (length result ≡ 16)
+        × ((i : ℕ) → i < 16 → get_or result i (pos 0) ≡ due_or grid.now stairs.now.at stairs.now.count i) }
 {
     std::array::from_fn(|i| {
         if i < stairs.count as usize {

@@ -35,7 +35,8 @@ loop-k-preserved c =
     = c.heaviest.ensures.0
     ∙ best-cong (cell w.result) (weight o) (suc l.k) o.q
     (λ x d h p. (w.ensures x (omega (arith, c.requires.classed))).at d (omega (arith, c.requires.dues))) in
-    let d : c.div_ceil.result ≡ least_for o (suc l.k) = c.div_ceil.ensures ∙ ceiling-is _ _ (omega (arith, m, procs-pos o c.requires l.k (omega arith))) ∙ rw (m, b) in
+    let some : 0 < l.procs + get_or o.procs l.k 0 = omega (arith, m, procs-pos o c.requires l.k (omega arith)) in
+    let d : c.div_ceil.result ≡ least_for o (suc l.k) = c.div_ceil.ensures ∙ ceiling-is _ _ some ∙ rw (m, b) in
     let f : ℕ → ℕ = λ k. least_for o (suc k) in
     let e : c.max-reach.result ≡ max (latest_of o) (most (suc l.k) f) =
     omega (arith, c.max-reach.ensures, l.invariant.1, d, most-suc l.k f) in

@@ -16,7 +16,12 @@ weigh_row-requires c =
     let w = c.owed_table-t in (
       c.requires.procs l.i (omega arith),
       λ d h. (
-        omega (arith, ap (λ (r : List ℕ). get_or r d 0) (l.invariant.2 l.i (omega arith)), (w.ensures l.i (omega arith)).at d h, minutes-le c.args.o c.requires (suc l.i) d),
+        omega (
+          arith,
+          ap (λ (r : List ℕ). get_or r d 0) (l.invariant.2 l.i (omega arith)),
+          (w.ensures l.i (omega arith)).at d h,
+          minutes-le c.args.o c.requires (suc l.i) d,
+        ),
         c.requires.grid d,
       ),
     )
