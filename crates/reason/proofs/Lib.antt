@@ -1,4 +1,4 @@
-mod Dues
-mod ClassByClass
+mod StdWords
+mod JobByJob
 mod LateFirst
 mod Tells

@@ -1,16 +1,17 @@
 -- What is told, from what the parts find.
 use Rattle.std.specs.Prelude.{None, Some}
-use Prim.Native.Nat.{ℕ, zero, suc, ◌-◌, ◌≤◌, ◌<◌}
+use Prim.Native.Nat.{ℕ, zero, suc, ◌≤◌, ◌<◌}
 use mathlib.Core.Path.{◌≡◌, refl, sym, ap, ◌∙◌}
 use mathlib.Core.List.{List, [], ◌∷◌, map}
 use native.Mathlib.Omega.{arith}
 use native.Mathlib.Decide.{dec_lt}
 use borrow.Author.Tests.{lt-ltb, le-ltb}
+use Rattle.std.specs.Prelude.{Some, None}
 use lib.IntN.{ℤ, pos}
 use lib.ListN.{length, get_or, replicate}
-use Rattle.sums.specs.Lists.{nth, tabulate}
+use Rattle.sums.specs.Lists.{tabulate}
 use Rattle.sums.specs.Places.{tabulate-cong, tabulate-get_or}
-use Rattle.order.specs.Refusals.{Finding, clear, first}
+use Rattle.order.specs.Refusals.{Finding}
 use Rattle.order.specs.Table.{finding_of}
 use Rattle.profile.specs.Search.{nothing, found}
 use Rattle.stairs.specs.Places.{FoundPlaces, first_overfull_at}
@@ -21,11 +22,11 @@ use Rattle.table.specs.Tabled.{Fine}
 use Rattle.order.specs.Lead.{due_at, last_due}
 use Rattle.table.specs.declared.Table.{Table}
 use Rattle.stairs.specs.PlacesLaws.{ranking-falls, pad-below}
-use Rattle.stairs.specs.Tables.{stop_at}
-use Rattle.stairs.specs.declared.Outcome.TheVariants.{Places, Nothing as Nowhere}
-use Rattle.stairs.specs.declared.Stop.{Stop}
+use Rattle.stairs.specs.Tables.{staircase_of}
+use Rattle.stairs.specs.declared.Staircase.{Staircase}
 use Rattle.reason.specs.Told.{sixteen}
-use Rattle.reason.specs.Asked.{first_of, late, due_or, told_at, told_by, told_from, told_of}
+use Rattle.reason.specs.Asked.{first_of, FirstLate, due_or, told_at, told_by, told_from, told_of}
+use Rattle.reason.proofs.LateFirst.{late-first}
 use Rattle.reason.specs.declared.Reason.TheVariants.{Job, Stairs}
 
 module _ (f : ℕ → ℤ) where
@@ -49,26 +50,25 @@ due-or-map grid ds i l =
       | no h ↦ rw (le-ltb i (length ds) (omega arith)) (sym (map-beyond (λ d. due_at last_due (get_or grid d 0)) ds i (omega arith)))
     ]
 
--- where a profile was found
-pub record Hit (t : Table) (reach : ℕ) (w : Stop) (k : ℕ) : Type 0 where
+-- the profile that was found
+pub record Hit (t : Table) (reach : ℕ) (w : Staircase) : Type 0 where
   pub ds : List ℕ
   pub is : first_of t reach ≡ found ds
-  pub count : length ds ≡ k
+  pub count : length ds ≡ w.count
   pub at : w.at ≡ pad 16 ds
-  pub few : k ≤ 16
-  pub below : (i : ℕ) → i < k → get_or w.at i 0 < 48
+  pub few : w.count ≤ 16
+  pub below : (i : ℕ) → i < w.count → get_or w.at i 0 < 48
 
-pub hit-of : (t : Table) (reach : ℕ) → Fine t → (w : Stop) (k : ℕ) → w ≡ stop_at (first_of t reach) → w.outcome ≡ Places k →
-    Hit t reach w k
-unfolding stop_at first_of first_overfull_at
-hit-of t reach fine w k e r = go (first_of t reach) refl e
+pub hit-of : (t : Table) (reach : ℕ) → Fine t → (w : Staircase) → Some w ≡ staircase_of (first_of t reach) → Hit t reach w
+unfolding staircase_of first_of first_overfull_at
+hit-of t reach fine w e = go (first_of t reach) refl e
   where
-    go : (f : FoundPlaces) → first_of t reach ≡ f → w ≡ stop_at f → Hit t reach w k
-    go nothing g e = let z : ◌≡◌ {A = ℕ} 0 1 = cc (ap (λ (v : Stop). v.outcome) e) in absurd (omega arith)
+    go : (f : FoundPlaces) → first_of t reach ≡ f → Some w ≡ staircase_of f → Hit t reach w
+    go nothing g e = let z : ◌≡◌ {A = ℕ} 0 1 = cc in absurd (omega arith)
     go (found ds) g e =
         let q = ranking-falls _ t.s t.q ds g in
-        let n : length ds ≡ k = cc (ap (λ (v : Stop). v.outcome) e) in
-        let a : w.at ≡ pad 16 ds = ap (λ (v : Stop). v.at) e in
+        let n : length ds ≡ w.count = cc in
+        let a : w.at ≡ pad 16 ds = cc in
         record {
           ds = ds;
           is = g;
@@ -84,63 +84,47 @@ hit-of t reach fine w k e r = go (first_of t reach) refl e
               ));
         }
 
--- the place of the first late job, from 1 on, or 0
-module _ (t : Table) (reach at : ℕ) (fine : Fine t) (l : at ≤ t.n)
-    (e : finding_of (nth t.by_need at 0) ≡ first (late (by_number t) reach) (tabulate t.n (λ j. j))) where
+module _ (t : Table) (reach : ℕ) (fine : Fine t) where
   -- a job was found
-  pub tell-late : 0 < at →
-      record { reason = Some (Job (get_or t.by_need (at - 1) 0) (get_or t.times (at - 1) 0)); dues = replicate 16 (pos 0) }
-      ≡ told_of t reach
+  pub tell-late : (k : ℕ) → FirstLate t reach (Some k) →
+      record { reason = Some (Job (get_or t.by_need k 0) (get_or t.times k 0)); dues = replicate 16 (pos 0) } ≡ told_of t reach
   unfolding told_from
-  tell-late h = go at h l ∙ ap (λ (f : Finding). told_by (by_number t) t f (first_of t reach)) e
+  tell-late k h =
+      number (get_or t.by_need k 0) (get_or t.times k 0) (fine.numbers.are k h.0).0 (value-at t.by_need t.n fine.numbers t.times k h.0)
+      ∙ ap (λ (f : Finding). told_by (by_number t) t f (first_of t reach)) (late-first t reach fine (Some k) h (suc k) refl).1
     where
       number : (x v : ℕ) → 1 ≤ x → value_of t.by_need t.n t.times x ≡ v →
           record { reason = Some (Job x v); dues = sixteen [] } ≡ told_by (by_number t) t (finding_of x) (first_of t reach)
       number zero v b q = absurd (omega arith)
       number (suc x) v b q = rw q refl
 
-      go : (at : ℕ) → 0 < at → at ≤ t.n →
-          record { reason = Some (Job (get_or t.by_need (at - 1) 0) (get_or t.times (at - 1) 0)); dues = replicate 16 (pos 0) }
-          ≡ told_by (by_number t) t (finding_of (nth t.by_need at 0)) (first_of t reach)
-      go zero h l = absurd (omega arith)
-      go (suc i) h l =
-          let z : suc i - 1 ≡ i = omega arith in
-          rw z (number (get_or t.by_need i 0) (get_or t.times i 0) (fine.numbers.are i l).0
-          (value-at t.by_need t.n fine.numbers t.times i l))
-
-  module _ (h : at ≤ 0) where
+  module _ (h : FirstLate t reach None) where
     by-profile : told_at t (first_of t reach) ≡ told_of t reach
     unfolding told_from
-    by-profile =
-        let z : finding_of (nth t.by_need at 0) ≡ clear = none at h in
-        ap (λ (f : Finding). told_by (by_number t) t f (first_of t reach)) (sym z ∙ e)
-      where
-        none : (at : ℕ) → at ≤ 0 → finding_of (nth t.by_need at 0) ≡ clear
-        none zero h = refl
-        none (suc i) h = absurd (omega arith)
+    by-profile = ap (λ (f : Finding). told_by (by_number t) t f (first_of t reach)) (late-first t reach fine None h 0 refl).1
 
     -- a profile was found
-    pub tell-stairs : (w : Stop) (k : ℕ) → Hit t reach w k → (r : List ℤ) →
-        (length r ≡ 16) × ((i : ℕ) → i < 16 → get_or r i (pos 0) ≡ due_or t.grid w.at k i) →
-        record { reason = Some (Stairs k); dues = r } ≡ told_of t reach
-    tell-stairs w k x r f =
+    pub tell-stairs : (w : Staircase) → Hit t reach w → (r : List ℤ) →
+        (length r ≡ 16) × ((i : ℕ) → i < 16 → get_or r i (pos 0) ≡ due_or t.grid w.at w.count i) →
+        record { reason = Some (Stairs w.count); dues = r } ≡ told_of t reach
+    tell-stairs w x r f =
         let d : r ≡ sixteen (map (λ d. due_at last_due (get_or t.grid d 0)) x.ds)
         = sym (ap (λ (n : ℕ). tabulate n (λ i. get_or r i (pos 0))) (sym f.0) ∙ tabulate-get_or r (pos 0))
         ∙ tabulate-cong 16 (λ i. get_or r i (pos 0)) (λ i. get_or (map (λ d. due_at last_due (get_or t.grid d 0)) x.ds) i (pos 0))
         (λ i l.
         f.1 i l ∙ (rw (x.at, ← x.count) (due-or-map t.grid x.ds i (omega (arith, x.count, x.few))))) in
-        ap (λ (l : List ℤ). record { reason = Some (Stairs k); dues = l }) d
+        ap (λ (l : List ℤ). record { reason = Some (Stairs w.count); dues = l }) d
         ∙ (ap (λ (n : ℕ). record { reason = Some (Stairs n); dues = sixteen (map (λ d. due_at last_due (get_or t.grid d 0)) x.ds) })
         (sym x.count)
         ∙ (ap (told_at t) (sym x.is) ∙ by-profile))
 
     -- none was
-    pub tell-nothing : (w : Stop) → w ≡ stop_at (first_of t reach) → w.outcome ≡ Nowhere →
+    pub tell-nothing : None ≡ staircase_of (first_of t reach) →
         record { reason = None; dues = replicate 16 (pos 0) } ≡ told_of t reach
-    unfolding stop_at
-    tell-nothing w q r = go (first_of t reach) refl q
+    unfolding staircase_of
+    tell-nothing q = go (first_of t reach) refl q
       where
-        go : (f : FoundPlaces) → first_of t reach ≡ f → w ≡ stop_at f →
+        go : (f : FoundPlaces) → first_of t reach ≡ f → None ≡ staircase_of f →
             record { reason = None; dues = replicate 16 (pos 0) } ≡ told_of t reach
         go nothing g q = ap (told_at t) (sym g) ∙ by-profile
-        go (found ds) g q = let z : ◌≡◌ {A = ℕ} 0 1 = cc (ap (λ (v : Stop). v.outcome) q) in absurd (omega arith)
+        go (found ds) g q = let z : ◌≡◌ {A = ℕ} 0 1 = cc in absurd (omega arith)

@@ -1,13 +1,13 @@
 -- What is asked of a table: what a class weighs at a due time, the first overfull profile at a reach, the least reach, what is told.
 use Rattle.std.specs.Prelude.{None, Some}
-use Rattle.std.specs.Prelude.{ℕ, suc, ◌+◌, ◌-◌, ◌*◌, max, pred, Bool, cond, List, [], map, ltb, eqb, ℤ, pos, length, get_or}
+use Rattle.std.specs.Prelude.{ℕ, suc, ◌+◌, ◌-◌, ◌*◌, ◌<◌, ◌≤◌, ◌≡◌, max, pred, Bool, true, cond, Option, MatchOption, List, [], map, ltb, eqb, ℤ, pos, length, get_or}
 use Rattle.sums.specs.Sum.{sum}
 use Rattle.sums.specs.Lists.{only, tabulate}
 use Rattle.order.specs.Refusals.{Finding, clear, holds, first}
 use Rattle.profile.specs.Search.{nothing, found}
 use Rattle.order.specs.Lead.{lead}
 use Rattle.sums.specs.Most.{most, ceiling}
-use Rattle.table.specs.Held.{Reading, by_number, by_place}
+use Rattle.table.specs.Held.{Reading, beside, by_number, by_place}
 use Rattle.table.specs.declared.Table.{Table}
 use Rattle.stairs.specs.Places.{FoundPlaces, first_overfull_at, best}
 use Rattle.order.specs.Lead.{due_at, last_due}
@@ -64,6 +64,12 @@ late r reach j = ltb reach (r.time j + r.lead j)
 
 abbrev pub late_at : Table → ℕ → ℕ → Bool
 late_at t reach k = late (by_place t) reach k
+
+-- the place of the late job with the smallest number, or none where no job is late
+abbrev pub FirstLate : Table → ℕ → Option ℕ → Type 0
+FirstLate t reach place = MatchOption place ((j : ℕ) → j < t.n → ¬ (late_at t reach j ≡ true))
+    (λ k. (k < t.n) × (late_at t reach k ≡ true)
+    × ((j : ℕ) → j < t.n → late_at t reach j ≡ true → beside t.by_need k ≤ beside t.by_need j))
 
 -- the i-th of k due times, and 0 beyond
 abbrev pub due_or : List ℕ → List ℕ → ℕ → ℕ → ℤ

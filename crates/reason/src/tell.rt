@@ -5,7 +5,7 @@ ghost use Rattle.order.specs.Lead.{bound_at, last_due, most_reach};
 ghost use Rattle.order.specs.Refusals.{Accepted, bound_in_range, first};
 ghost use Rattle.order.specs.Table.{order_of, finding_of};
 ghost use Rattle.profile.specs.Search.{reason_of};
-ghost use Rattle.reason.specs.Asked.{late, due_or, told_of, least_reach_of};
+ghost use Rattle.reason.specs.Asked.{late, FirstLate, due_or, told_of, least_reach_of};
 ghost use Rattle.table.specs.Held.{by_number};
 ghost use Rattle.table.specs.Tabled.{Fine};
 ghost use Rattle.reason.specs.Told.{why_of, why_told};
@@ -14,50 +14,44 @@ use super::least::least_reach;
 use super::overfull::first_overfull;
 use super::{Reason, Why};
 use order::Order;
-use stairs::Outcome;
+use stairs::Staircase;
 use table::Table;
 use table::lead::{bound_of, due_of, reach_of};
 use table::making::table_of;
 
-// The place, from 1 on, of the first job in input order whose time exceeds its end, or 0: of the jobs that are late the one with the
-// smallest number, wherever it lies.
+// The place of the first job in input order whose time exceeds its end: of the jobs that are late the one with the smallest
+// number, wherever it lies.
+fn late_place(o: Table, reach: u32) -> Option<usize>
+    requires { Fine o }
+    ensures { FirstLate o reach result }
+{
+    (0..o.n)
+        .filter(|&k| reach < o.times[k] + o.leads[k])
+        .min_by_key(|&k| o.by_need[k])
+}
+
+// The same from 1 on, and 0 where no job is late.
 pub fn first_late(o: Table, reach: u32) -> u32
     requires { Fine o }
     ensures { (result ≤ o.n) × (finding_of (nth o.by_need result 0) ≡ first (late (by_number o) reach) (tabulate o.n (λ j. j))) }
 {
-    let n = o.n;
-    let mut place: u32 = 0;
-    let mut first: u32 = 49;
-    let mut k: usize = 0;
-    while k < n {
-        let enough = o.times[k] + o.leads[k];
-        let number = o.by_need[k];
-        k += 1;
-        if reach < enough {
-            if number < first {
-                place = k as u32;
-                first = number;
-            }
-        }
-    }
-    place
+    late_place(o, reach).map_or(0, |k| (k + 1) as u32)
 }
 
-// The due times of k places, and 0 beyond.
-pub fn dues_of(grid: [u32; 48], at: [u32; 16], k: u32) -> [i32; 16]
-    requires { (k ≤ 16) × ((i : ℕ) → i < k → get_or at i 0 < 48) × ((d : ℕ) → d < 48 → get_or grid d 0 ≤ 2000000) }
-    ensures { (length result ≡ 16) × ((i : ℕ) → i < 16 → get_or result i (pos 0) ≡ due_or grid at k i) }
+// The due times of a staircase's places, and 0 beyond.
+pub fn dues_of(grid: &[u32; 48], stairs: &Staircase) -> [i32; 16]
+    requires { ((i : ℕ) → i < stairs.now.count → get_or stairs.now.at i 0 < 48)
+        × ((d : ℕ) → d < 48 → get_or grid.now d 0 ≤ 2000000) }
+    ensures { (length result ≡ 16)
+        × ((i : ℕ) → i < 16 → get_or result i (pos 0) ≡ due_or grid.now stairs.now.at stairs.now.count i) }
 {
-    let count = k as usize;
-    let mut r = [0i32; 16];
-    let mut i: usize = 0;
-    while i < count {
-        let d = at[i] as usize;
-        let g = grid[d];
-        r[i] = due_of(g);
-        i += 1;
-    }
-    r
+    std::array::from_fn(|i| {
+        if i < stairs.count as usize {
+            due_of(grid[stairs.at[i] as usize])
+        } else {
+            0
+        }
+    })
 }
 
 // Why a reach is too small, or that it is not.
@@ -66,25 +60,18 @@ pub fn tell(o: Table, reach: u32) -> Why
     requires reach_le_most_reach { reach ≤ most_reach }
     ensures { result ≡ told_of o reach }
 {
-    let place = first_late(o, reach);
-    if 0 < place {
-        let k = (place - 1) as usize;
-        let number = o.by_need[k];
+    if let Some(k) = late_place(o, reach) {
         return Why {
-            reason: Some(Reason::Job(number, o.times[k])),
+            reason: Some(Reason::Job(o.by_need[k], o.times[k])),
             dues: [0i32; 16],
         };
     }
-    let stop = first_overfull(o, reach);
-    let outcome = stop.outcome;
-    let at = stop.at;
-    let grid = o.grid;
-    match outcome {
-        Outcome::Places(k) => Why {
-            reason: Some(Reason::Stairs(k)),
-            dues: dues_of(grid, at, k),
+    match first_overfull(o, reach) {
+        Some(stairs) => Why {
+            reason: Some(Reason::Stairs(stairs.count)),
+            dues: dues_of(&o.grid, &stairs),
         },
-        Outcome::Nothing => Why {
+        None => Why {
             reason: None,
             dues: [0i32; 16],
         },

@@ -1,11 +1,10 @@
 -- What the tables hold: for the contracts of the functions that fill and read them.
-use Rattle.std.specs.Prelude.{ℕ, zero, suc, ◌+◌, ◌<◌, ◌≤◌, pred, ◌≡◌, List, [], ◌∷◌, ltb, length, get_or}
+use Rattle.std.specs.Prelude.{ℕ, zero, suc, ◌+◌, ◌<◌, ◌≤◌, pred, ◌≡◌, List, [], ◌∷◌, ltb, length, get_or, Option, Some, None}
 use Rattle.profile.specs.Search.{nothing, found, first_such}
 use Rattle.sums.specs.Most.{most}
 use Rattle.sums.specs.Arrays.{pad}
 use Rattle.stairs.specs.Places.{profiles, value, FoundPlaces}
-use Rattle.stairs.specs.declared.Outcome.TheVariants.{Places, Nothing}
-use Rattle.stairs.specs.declared.Stop.{Stop}
+use Rattle.stairs.specs.declared.Staircase.{Staircase}
 
 -- the best completion: the heaviest profile of m classes from i on, with places below b
 unfoldable pub comp : (ℕ → ℕ → ℕ) → ℕ → ℕ → ℕ → ℕ
@@ -43,7 +42,7 @@ pub record Least (f : ℕ → ℕ) (room top r : ℕ) : Type 0 where
 abbrev pub room_of : List ℕ → ℕ → ℕ
 room_of rooms k = get_or rooms (pred k) 0
 
--- where the search stops: the count of classes, with the places beside it
-unfoldable pub stop_at : FoundPlaces → Stop
-stop_at nothing = record { outcome = Nothing; at = pad 16 [] }
-stop_at (found ds) = record { outcome = Places (length ds); at = pad 16 ds }
+-- what the search tells of what it finds: the count of classes, with the places beside it
+unfoldable pub staircase_of : FoundPlaces → Option Staircase
+staircase_of nothing = None
+staircase_of (found ds) = Some (record { count = length ds; at = pad 16 ds })

@@ -5,16 +5,9 @@
 pub mod completion; // the best completions, and the heaviest staircase
 pub mod finding; // the first overfull staircase
 
-// Whether a staircase was found, and its class count.
+// A staircase: its class count, and the places of its due times; 0 beyond.
 #[derive(Clone, Copy)]
-pub enum Outcome {
-    Places(u32),
-    Nothing,
-}
-
-// Where the search stops, with the places of the staircase's due times beside it; 0 beyond.
-#[derive(Clone, Copy)]
-pub struct Stop {
-    pub outcome: Outcome,
+pub struct Staircase {
+    pub count: u32,
     pub at: [u32; 16],
 }

@@ -1,4 +1,4 @@
-use Prim.Native.Nat.{suc, ◌-◌, ◌≤◌, max}
+use Prim.Native.Nat.{suc, max}
 use mathlib.Core.Path.{◌≡◌}
 use Rattle.sums.specs.Most.{most}
 use Rattle.reason.specs.Asked.{procs_to, latest_of, least_for}
@@ -6,7 +6,4 @@ use Rattle.reason.proofs.least.least_reach.Given as goal
 
 -- the least reach for the jobs and the first k class counts
 abbrev pub invariant-loop-k : goal.invariant-loop-k
-invariant-loop-k l = (l.k ≤ l.o.s) × (l.m ≡ procs_to l.o l.k) × (l.r ≡ max (latest_of l.o) (most l.k (λ k. least_for l.o (suc k))))
-
-abbrev pub decreases-loop-k : goal.decreases-loop-k
-decreases-loop-k l = l.o.s - l.k
+invariant-loop-k l = (l.procs ≡ procs_to l.o l.k) × (l.reach ≡ max (latest_of l.o) (most l.k (λ k. least_for l.o (suc k))))

@@ -1,7 +1,7 @@
 use Prim.Native.Nat.{◌*◌}
 use mathlib.Core.Path.{ap, ◌∙◌}
 use native.Mathlib.Omega.{arith}
-use Rattle.stairs.specs.Tables.{cell, room_of, stop_at}
+use Rattle.stairs.specs.Tables.{cell, room_of, staircase_of}
 use Rattle.stairs.specs.CompletionLaws.{overfull-cong}
 use Rattle.reason.specs.Asked.{weight, procs_to, first_of}
 use Rattle.reason.specs.WeightLaws.{small-table}
@@ -15,7 +15,7 @@ pub returns : goal.returns
 unfolding first_of
 returns c =
     c.find.ensures
-    ∙ ap stop_at (overfull-cong (cell c.table.result) (weight c.args.o)
+    ∙ ap staircase_of (overfull-cong (cell c.table.result) (weight c.args.o)
     (room_of c.rooms_at.result) (λ k. procs_to c.args.o k * c.args.reach) c.args.o.s c.args.o.q
     (λ x d h l. (c.table.ensures x (omega (arith, c.requires.fine.classed))).at d
     (omega (arith, c.requires.fine.dues)))

@@ -1,62 +1,20 @@
 use borrow.Author.Rules.{rules}
 use native.Mathlib.Omega.{arith}
-use mathlib.Core.Logic.{inl, inr}
-use Rattle.reason.proofs.ClassByClass.{Filling, Begun, filling-none, filling-small, filling-begun, filling-more, filling-all}
+use Rattle.reason.proofs.JobByJob.{filled-none, filled-small, filled-more, filled-all}
 use Rattle.reason.proofs.weight.owed_table.Goals as goal
-use Rattle.reason.proofs.weight.owed_table.Goals.{then-class-next, else-class-next}
 
 pub loop-k-init : goal.loop-k-init
-loop-k-init c = (omega arith, search rules, search rules, filling-none c.args.t c.requires)
-
-pub overflow_sub-r : goal.overflow_sub-r
-overflow_sub-r c = let filled : Filling c.args.t c.loop-k.k c.loop-k.r c.loop-k.row c.loop-k.class = c.loop-k.invariant.3 in omega (arith, filled.some)
-
-pub offset_bounds-r-class : goal.offset_bounds-r-class
-offset_bounds-r-class c = let filled : Filling c.args.t c.loop-k.k c.loop-k.r c.loop-k.row c.loop-k.class = c.loop-k.invariant.3 in omega (arith, filled.few)
-
-pub bounds-r-class : goal.bounds-r-class
-bounds-r-class c = let filled : Filling c.args.t c.loop-k.k c.loop-k.r c.loop-k.row c.loop-k.class = c.loop-k.invariant.3 in omega (arith, filled.some, filled.few)
-
-pub slice_bounds-add_job-end : goal.slice_bounds-add_job-end
-slice_bounds-add_job-end c =
-    let filled : Filling c.args.t c.loop-k.k c.loop-k.r c.loop-k.row c.loop-k.class = c.loop-k.invariant.3 in
-    let begun : Begun c.args.t c.loop-k.k c.if-class-next.r c.if-class-next.row c.if-class-next.class = let l = c.loop-k in filling-begun c.args.t c.requires l.k l.r l.row l.class filled l.invariant.1 l.invariant.2 (omega arith) c.if-class-next.r c.if-class-next.row c.if-class-next.class (elim c.if-class-next.branch [ then-class-next w ↦ inl (w.if-class-next.true, w.r-is, w.row-is, w.class-is) | else-class-next w ↦ inr (w.if-class-next.false, w.r-is, w.row-is, w.class-is) ]) in omega (arith, begun.wide)
+loop-k-init c = (search rules, filled-none c.args.t)
 
 pub add_job-requires : goal.add_job-requires
 add_job-requires c =
-    let filled : Filling c.args.t c.loop-k.k c.loop-k.r c.loop-k.row c.loop-k.class = c.loop-k.invariant.3 in
-    let begun : Begun c.args.t c.loop-k.k c.if-class-next.r c.if-class-next.row c.if-class-next.class = let l = c.loop-k in filling-begun c.args.t c.requires l.k l.r l.row l.class filled l.invariant.1 l.invariant.2 (omega arith) c.if-class-next.r c.if-class-next.row c.if-class-next.class (elim c.if-class-next.branch [ then-class-next w ↦ inl (w.if-class-next.true, w.r-is, w.row-is, w.class-is) | else-class-next w ↦ inr (w.if-class-next.false, w.r-is, w.row-is, w.class-is) ]) in
     let l = c.loop-k in
-    let b = begun in (
-      b.wide,
-      search rules,
-      c.requires.times l.k (omega arith),
-      λ d h. filling-small c.args.t c.requires l.k _ _ _ b.filling (omega arith) d h,
-    )
+    (c.requires.times l.k (omega arith), filled-small c.args.t c.requires l.k l.rows l.invariant.1 (omega arith))
 
 pub loop-k-preserved : goal.loop-k-preserved
 loop-k-preserved c =
-    let filled : Filling c.args.t c.loop-k.k c.loop-k.r c.loop-k.row c.loop-k.class = c.loop-k.invariant.3 in
-    let begun : Begun c.args.t c.loop-k.k c.if-class-next.r c.if-class-next.row c.if-class-next.class = let l = c.loop-k in filling-begun c.args.t c.requires l.k l.r l.row l.class filled l.invariant.1 l.invariant.2 (omega arith) c.if-class-next.r c.if-class-next.row c.if-class-next.class (elim c.if-class-next.branch [ then-class-next w ↦ inl (w.if-class-next.true, w.r-is, w.row-is, w.class-is) | else-class-next w ↦ inr (w.if-class-next.false, w.r-is, w.row-is, w.class-is) ]) in
     let l = c.loop-k in
-    let b = begun in (
-      search rules,
-      b.size,
-      search rules,
-      filling-more c.args.t c.requires l.k _ _ _ b.filling _ b.same c.add_job.ensures,
-    )
-
-pub overflow_sub-r-2 : goal.overflow_sub-r-2
-overflow_sub-r-2 c = let last : Filling c.args.t c.loop-k.k c.loop-k.r c.loop-k.row c.loop-k.class = c.loop-k.invariant.3 in omega (arith, last.some)
-
-pub offset_bounds-r-class-2 : goal.offset_bounds-r-class-2
-offset_bounds-r-class-2 c = let last : Filling c.args.t c.loop-k.k c.loop-k.r c.loop-k.row c.loop-k.class = c.loop-k.invariant.3 in omega (arith, last.few)
-
-pub bounds-r-class-2 : goal.bounds-r-class-2
-bounds-r-class-2 c = let last : Filling c.args.t c.loop-k.k c.loop-k.r c.loop-k.row c.loop-k.class = c.loop-k.invariant.3 in omega (arith, last.some, last.few)
+    (search rules, filled-more c.args.t c.requires l.k l.rows l.invariant.1 (omega arith) l.invariant.0 _ c.add_job.ensures)
 
 pub returns : goal.returns
-returns c =
-    let last : Filling c.args.t c.loop-k.k c.loop-k.r c.loop-k.row c.loop-k.class = c.loop-k.invariant.3 in
-    let l = c.loop-k in
-    filling-all c.args.t c.requires l.k l.r l.row l.class last l.invariant.1 (omega arith)
+returns c = filled-all c.args.t c.loop-k.k c.loop-k.rows c.loop-k.invariant.1 (omega arith)

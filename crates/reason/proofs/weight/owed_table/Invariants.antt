@@ -1,12 +1,7 @@
-use Prim.Native.Nat.{◌-◌, ◌≤◌}
 use mathlib.Core.Path.{◌≡◌}
 use lib.ListN.{length}
-use Rattle.reason.proofs.ClassByClass.{Filling}
+use Rattle.reason.proofs.JobByJob.{Filled}
 use Rattle.reason.proofs.weight.owed_table.Given as goal
 
 abbrev pub invariant-loop-k : goal.invariant-loop-k
-invariant-loop-k l =
-    (l.k ≤ l.t.n) × (length l.r ≡ 16) × (length l.row ≡ 48) × Filling l.t l.k l.r l.row l.class
-
-abbrev pub decreases-loop-k : goal.decreases-loop-k
-decreases-loop-k l = l.t.n - l.k
+invariant-loop-k l = (length l.rows ≡ 16) × Filled l.t l.k l.rows

@@ -1,4 +1,4 @@
-use Prim.Native.Nat.{ℕ, ◌-◌, ◌<◌, ◌≤◌}
+use Prim.Native.Nat.{ℕ, ◌<◌, ◌≤◌}
 use mathlib.Core.Path.{◌≡◌}
 use mathlib.Core.List.{[]}
 use lib.ListN.{length, get_or}
@@ -6,9 +6,8 @@ use Rattle.sums.specs.Arrays.{RowOf}
 use Rattle.reason.specs.Asked.{weight}
 use Rattle.reason.proofs.weight.table.Given as goal
 
--- the rows of the first i classes stand in the table
+-- the first i classes are weighed, and the others are as they were
 abbrev pub invariant-loop-i : goal.invariant-loop-i
-invariant-loop-i l = (l.i ≤ 16) × (length l.t ≡ 16) × ((k : ℕ) → k < l.i → RowOf (weight l.o k) 48 (get_or l.t k []))
-
-abbrev pub decreases-loop-i : goal.decreases-loop-i
-decreases-loop-i l = 16 - l.i
+invariant-loop-i l =
+    (length l.row-items ≡ 16) × ((k : ℕ) → k < l.i → RowOf (weight l.o k) 48 (get_or l.row-items k []))
+    × ((k : ℕ) → l.i ≤ k → get_or l.row-items k [] ≡ get_or l.initial.row-items k [])

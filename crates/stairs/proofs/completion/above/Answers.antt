@@ -9,25 +9,18 @@ use Rattle.sums.specs.Arrays.{fill-at}
 use Rattle.stairs.proofs.completion.above.Goals as goal
 
 pub loop-d-init : goal.loop-d-init
-loop-d-init c = (search rules, refl, sym (most-none _), record { at = λ e h. absurd (omega arith) })
-
-pub overflow_add-w : goal.overflow_add-w
-overflow_add-w c = omega (arith, c.requires.by_index c.loop-d.d (omega arith))
+loop-d-init c = (refl, sym (most-none _), record { at = λ e h. absurd (omega arith) })
 
 pub loop-d-preserved : goal.loop-d-preserved
 loop-d-preserved c =
     let l = c.loop-d in
     let a = c.args in
-    let f : ℕ → ℕ = λ x. get_or a.w x 0 + get_or a.rest x 0 in
-    let e : c.larger-top.result ≡ most (suc l.d) f = omega (arith, c.larger-top.ensures, l.invariant.2, most-suc l.d f) in (
-      search rules,
+    let f : ℕ → ℕ = λ x. get_or a.w.now x 0 + get_or a.rest.now x 0 in
+    let e : c.max-top.result ≡ most (suc l.d) f = omega (arith, c.max-top.ensures, l.invariant.1, most-suc l.d f) in (
       search rules,
       rw add-one e,
       record {
-        at = fill-at (λ (k v : ℕ). v ≡ most (suc k) f) 0 l.r l.d
-            c.larger-top.result (search rules) l.invariant.3.at e;
+        at = fill-at (λ (k v : ℕ). v ≡ most (suc k) f) 0 l.row l.d
+            c.max-top.result (search rules) l.invariant.2.at e;
       },
     )
-
-pub returns : goal.returns
-returns c = record { at = λ e h. c.loop-d.invariant.3.at e (omega arith) }

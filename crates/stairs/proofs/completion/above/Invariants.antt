@@ -1,4 +1,4 @@
-use Prim.Native.Nat.{suc, ◌+◌, ◌-◌, ◌≤◌}
+use Prim.Native.Nat.{suc, ◌+◌}
 use mathlib.Core.Path.{◌≡◌}
 use lib.ListN.{length, get_or}
 use Rattle.sums.specs.Most.{most}
@@ -8,8 +8,5 @@ use Rattle.stairs.proofs.completion.above.Given as goal
 -- the best so far, and the row up to d
 abbrev pub invariant-loop-d : goal.invariant-loop-d
 invariant-loop-d l =
-    (l.d ≤ l.q) × (length l.r ≡ 48) × (l.top ≡ most l.d (λ x. get_or l.w x 0 + get_or l.rest x 0))
-    × RowOf (λ e. most (suc e) (λ x. get_or l.w x 0 + get_or l.rest x 0)) l.d l.r
-
-abbrev pub decreases-loop-d : goal.decreases-loop-d
-decreases-loop-d l = l.q - l.d
+    (length l.row ≡ 48) × (l.top ≡ most l.d (λ x. get_or l.w x 0 + get_or l.rest x 0))
+    × RowOf (λ e. most (suc e) (λ x. get_or l.w x 0 + get_or l.rest x 0)) l.d l.row

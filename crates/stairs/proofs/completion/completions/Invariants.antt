@@ -1,4 +1,4 @@
-use Prim.Native.Nat.{suc, ◌-◌, ◌≤◌}
+use Prim.Native.Nat.{suc}
 use mathlib.Core.Path.{◌≡◌}
 use lib.ListN.{length}
 use Rattle.stairs.specs.Tables.{Completed}
@@ -6,7 +6,4 @@ use Rattle.stairs.proofs.completion.completions.Given as goal
 
 -- the completions of up to m classes stand in the table
 abbrev pub invariant-loop-m : goal.invariant-loop-m
-invariant-loop-m l = (l.m ≤ l.k) × (length l.c ≡ 16) × Completed l.t (suc l.k) l.q l.m l.c
-
-abbrev pub decreases-loop-m : goal.decreases-loop-m
-decreases-loop-m l = l.k - l.m
+invariant-loop-m l = (length l.c ≡ 16) × Completed l.t (suc l.k) l.q l.m l.c

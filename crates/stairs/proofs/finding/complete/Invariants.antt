@@ -1,4 +1,4 @@
-use Prim.Native.Nat.{suc, ◌+◌, ◌-◌, ◌*◌, ◌<◌, ◌≤◌}
+use Prim.Native.Nat.{suc, ◌*◌, ◌≤◌}
 use Rattle.stairs.specs.Tables.{first_from, put, cell}
 use Rattle.stairs.proofs.Greedy.{Greedy}
 use Rattle.stairs.proofs.finding.complete.Given as goal
@@ -6,8 +6,5 @@ use Rattle.stairs.proofs.finding.complete.Given as goal
 -- the classes below i are settled greedily
 abbrev pub invariant-loop-i : goal.invariant-loop-i
 invariant-loop-i l =
-    (1 ≤ l.i) × (l.i ≤ l.k + 1) × (l.top < l.q) × (l.acc ≤ l.i * 40000000)
-    × Greedy (cell l.t) l.room (put l.d (first_from (cell l.t) l.room (cell l.t 0 l.d) 1 l.k (suc l.d))) (suc l.k) l.i l.top l.acc l.out
-
-abbrev pub decreases-loop-i : goal.decreases-loop-i
-decreases-loop-i l = l.k + 1 - l.i
+    (l.top ≤ l.d) × (l.acc ≤ l.i * 40000000)
+    × Greedy (cell l.t) l.room (put l.d (first_from (cell l.t) l.room (cell l.t 0 l.d) 1 l.k (suc l.d))) (suc l.k) l.i l.top l.acc l.at

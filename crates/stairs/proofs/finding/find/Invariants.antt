@@ -1,4 +1,4 @@
-use Prim.Native.Nat.{suc, ◌-◌, ◌<◌, ◌≤◌}
+use Prim.Native.Nat.{suc, ◌<◌}
 use mathlib.Core.Path.{◌≡◌}
 use lib.ListN.{get_or}
 use Rattle.profile.specs.Search.{nothing}
@@ -8,20 +8,8 @@ use Rattle.stairs.proofs.finding.find.Given as goal
 
 -- no profile of k + 1 classes that begins below d is overfull
 abbrev pub invariant-loop-d : goal.invariant-loop-d
-invariant-loop-d l = (l.k < l.s) × (l.d ≤ l.q) × (first_from (cell l.t) (get_or l.rooms l.k 0) 0 0 (suc l.k) l.d ≡ nothing)
-
-abbrev pub decreases-loop-d : goal.decreases-loop-d
-decreases-loop-d l = l.q - l.d
+invariant-loop-d l = (l.k < l.s) × (first_from (cell l.t) (get_or l.rooms l.k 0) 0 0 (suc l.k) l.d ≡ nothing)
 
 -- no profile of at most k classes is overfull
 abbrev pub invariant-loop-k : goal.invariant-loop-k
-invariant-loop-k l = (l.k ≤ l.s) × (first_overfull_at (cell l.t) (room_of l.rooms) l.k l.q ≡ nothing)
-
-abbrev pub decreases-loop-k : goal.decreases-loop-k
-decreases-loop-k l = l.s - l.k
-
-abbrev pub invariant-search : goal.invariant-search
-invariant-search l = Unit {0}
-
-abbrev pub decreases-search : goal.decreases-search
-decreases-search l = 0
+invariant-loop-k l = first_overfull_at (cell l.t) (room_of l.rooms) l.k l.q ≡ nothing
