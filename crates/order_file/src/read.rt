@@ -61,46 +61,18 @@ pub fn read_trailer(file: &[u8]) -> Trailer
     })
 }
 
-// The memories of a processor list, 0 beyond its end.
-fn memories(list: &[u8], n: usize) -> [u32; 16]
-    requires { (n ≤ 16) × (4 * n ≤ length list.now) }
-    ensures { result ≡ padded_to 16 n 0 (λ (i : ℕ). number4 list.now (4 * i)) }
+// A column of a list of n parts, `width` bytes a part: the number at `first` in each, 0 beyond the last.
+fn column<const PLACES: usize>(list: &[u8], n: usize, width: usize, first: usize) -> [u32; PLACES]
+    requires { (n ≤ PLACES) × (first + 4 ≤ width) × (width * n ≤ length list.now) }
+    ensures { result ≡ padded_to PLACES n 0 (λ (i : ℕ). number4 list.now (width * i + first)) }
 {
-    let mut out = [0u32; 16];
-    let mut i: usize = 0;
-    while i < n {
-        out[i] = read4(list, 4 * i);
-        i += 1;
-    }
-    out
-}
-
-// The times, the needs or the makers of a job list: the numbers at `first` in each job, 0 beyond its end.
-fn column(list: &[u8], n: usize, first: usize) -> [u32; 48]
-    requires { (n ≤ 48) × (first ≤ 12) × (job_width * n ≤ length list.now) }
-    ensures { result ≡ padded_to 48 n 0 (λ (j : ℕ). number4 list.now (job_width * j + first)) }
-{
-    let mut out = [0u32; 48];
-    let mut j: usize = 0;
-    while j < n {
-        out[j] = read4(list, JOB_WIDTH * j + first);
-        j += 1;
-    }
-    out
-}
-
-// The due times of a job list, 0 beyond its end.
-fn dues(list: &[u8], n: usize) -> [i32; 48]
-    requires { (n ≤ 48) × (job_width * n ≤ length list.now) }
-    ensures { result ≡ padded_to 48 n (pos 0) (λ (j : ℕ). signed (number4 list.now (job_width * j + 4))) }
-{
-    let mut out = [0i32; 48];
-    let mut j: usize = 0;
-    while j < n {
-        out[j] = to_signed(read4(list, JOB_WIDTH * j + 4));
-        j += 1;
-    }
-    out
+    std::array::from_fn(|i| {
+        if i < n {
+            read4(list, width * i + first)
+        } else {
+            0
+        }
+    })
 }
 
 // The order of two lists, each a part of the file that begins where the trailer points.
@@ -121,12 +93,12 @@ fn read_lists(
     let job_list = &file[jobs_at..jobs_end];
     Order {
         processors: processors as u32,
-        memories: memories(processor_list, processors),
+        memories: column(processor_list, processors, 4, 0),
         jobs: jobs as u32,
-        times: column(job_list, jobs, 0),
-        dues: dues(job_list, jobs),
-        needs: column(job_list, jobs, 8),
-        makers: column(job_list, jobs, 12),
+        times: column(job_list, jobs, JOB_WIDTH, 0),
+        dues: column(job_list, jobs, JOB_WIDTH, 4).map(to_signed),
+        needs: column(job_list, jobs, JOB_WIDTH, 8),
+        makers: column(job_list, jobs, JOB_WIDTH, 12),
     }
 }
 

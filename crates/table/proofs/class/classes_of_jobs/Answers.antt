@@ -15,23 +15,11 @@ use Rattle.table.specs.Held.{number_at}
 use Rattle.table.proofs.NeedsFall.{job-number, job-need, class-listed, class-fits}
 use Rattle.table.proofs.class.classes_of_jobs.Goals as goal
 
-pub loop-k-init : goal.loop-k-init
-loop-k-init c = (search rules, record { at = λ k h. absurd (omega arith) }, omega arith, λ i j h l b. absurd (omega arith))
-
-pub offset_bounds-by_need-k : goal.offset_bounds-by_need-k
-offset_bounds-by_need-k c = omega (arith, (few-jobs c.args.order c.requires.0))
-
 pub bounds-by_need-k : goal.bounds-by_need-k
 bounds-by_need-k c = omega (arith, (few-jobs c.args.order c.requires.0))
 
 pub overflow_sub-need : goal.overflow_sub-need
 overflow_sub-need c = omega (arith, (job-number c.args.order (few-jobs c.args.order c.requires.0) c.args.by_need c.requires.1 c.loop-k.k (omega arith)))
-
-pub overflow_cast-need : goal.overflow_cast-need
-overflow_cast-need c = omega (arith, (job-number c.args.order (few-jobs c.args.order c.requires.0) c.args.by_need c.requires.1 c.loop-k.k (omega arith)))
-
-pub offset_bounds-order-by_need : goal.offset_bounds-order-by_need
-offset_bounds-order-by_need c = omega (arith, (job-number c.args.order (few-jobs c.args.order c.requires.0) c.args.by_need c.requires.1 c.loop-k.k (omega arith)), (few-jobs c.args.order c.requires.0))
 
 pub bounds-order-by_need : goal.bounds-order-by_need
 bounds-order-by_need c = omega (arith, (job-number c.args.order (few-jobs c.args.order c.requires.0) c.args.by_need c.requires.1 c.loop-k.k (omega arith)), (few-jobs c.args.order c.requires.0))
@@ -69,6 +57,3 @@ loop-k-preserved c =
       λ i j h q b. class-fits o accept.few-processors c.args.classes c.requires.2 l.k c.class_for-class.result e i j h
           (omega arith) (omega arith),
     )
-
-pub returns : goal.returns
-returns c = record { at = λ k h. c.loop-k.invariant.1.at k (omega arith) }
