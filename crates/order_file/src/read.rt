@@ -19,15 +19,9 @@ fn lists_agree(processors: usize, jobs: usize, processors_at: usize, jobs_at: us
     requires { (processors < 65536) × (jobs < 65536) }
     ensures { result ≡ lists_agree processors jobs processors_at jobs_at }
 {
-    if processors_at == 0 {
-        if jobs_at == 4 * processors {
-            return true;
-        }
-    }
-    if jobs_at == 0 {
-        return processors_at == JOB_WIDTH * jobs;
-    }
-    false
+    let processors_first = processors_at == 0 && jobs_at == 4 * processors;
+    let jobs_first = jobs_at == 0 && processors_at == JOB_WIDTH * jobs;
+    processors_first || jobs_first
 }
 
 // The trailer of a file, where the lists and it agree.

@@ -1,5 +1,5 @@
 -- `put_processors`: the invariant is that the buffer begins with the first i processors and goes on as it was.
-use Rattle.std.proofs.Common.{◌≡◌, ◌<◌, arith, get_or, get_or-take}
+use Rattle.std.proofs.Common.{◌<◌, arith, get_or, get_or-take}
 use Rattle.order_file.proofs.Growing.{no-processor, one-processor-more}
 use Rattle.order_file.proofs.write.put_processors.Goals as goal
 
@@ -13,8 +13,3 @@ loop-i-preserved c =
     let l : c.loop-i.i < n = omega arith in
     one-processor-more _ (λ k. get_or memories k 0) _ _ _ c.loop-i.invariant (omega arith)
     (rw (get_or-take n memories c.loop-i.i 0 l) at c.put4.ensures)
-
-pub returns : goal.returns
-returns c =
-    let e : c.args.order.processors ≡ c.loop-i.i = omega arith in
-    rw e c.loop-i.invariant.is
