@@ -1,5 +1,5 @@
--- An array made by `array::from_fn` that has n elements, and the same thing behind them: its closure answers so, and changes nothing that it
--- reads.
+-- An array made by `array::from_fn`, whose closure answers for the first n places, gives the same thing at the others, and changes nothing
+-- that it reads.
 use Rattle.std.specs.Prelude.{ℕ, zero, suc, ◌<◌, ◌≤◌, ◌≡◌, refl, List, get_or}
 use Rattle.std.specs.Fn.{Called, Mut}
 use Rattle.std.specs.Array.{IsFromFnResult}
