@@ -31,10 +31,10 @@ module _ (f : List ℕ) (pa ja p j : ℕ) (at : Placed f pa ja p j) where
   abbrev job-list : List ℕ
   job-list = take (ja + job_width * j - ja) (drop ja f)
 
-  memories-read : padded_to 16 p 0 (λ i. number4 processor-list (4 * i)) ≡ tabulate 16 (λ i. get_or (order_in f).memories i 0)
+  memories-read : padded_to 16 p 0 (λ i. number4 processor-list (4 * i + 0)) ≡ tabulate 16 (λ i. get_or (order_in f).memories i 0)
   unfolding order_in padded_to
   memories-read =
-      padded-cong 16 p 0 _ (λ i. number4 f (pa + 4 * i)) (λ i l. number4-part f pa (pa + 4 * p - pa) (4 * i) (omega arith))
+      padded-cong 16 p 0 _ (λ i. number4 f (pa + 4 * i)) (λ i l. number4-part f pa (pa + 4 * p - pa) (4 * i + 0) (omega arith) ∙ ap (number4 f) (omega arith))
       ∙ ap (λ (n : ℕ). padded_to 16 n 0 (λ i. number4 f (pa + 4 * i))) at.processors-are
       ∙ ap (λ (b : ℕ). padded_to 16 (processors_of f) 0 (λ i. number4 f (b + 4 * i))) at.processors-at
 
@@ -53,7 +53,7 @@ module _ (f : List ℕ) (pa ja p j : ℕ) (at : Placed f pa ja p j) where
 
   -- the struct of the columns that were read is that of the file's order
   pub columns-read : (ms ts : List ℕ) (ds : List ℤ) (ns vs : List ℕ) →
-      ms ≡ padded_to 16 p 0 (λ i. number4 processor-list (4 * i)) →
+      ms ≡ padded_to 16 p 0 (λ i. number4 processor-list (4 * i + 0)) →
       ts ≡ padded_to 48 j 0 (λ k. number4 job-list (job_width * k + 0)) →
       ds ≡ padded_to 48 j (pos 0) (λ k. signed (number4 job-list (job_width * k + 4))) →
       ns ≡ padded_to 48 j 0 (λ k. number4 job-list (job_width * k + 8)) →

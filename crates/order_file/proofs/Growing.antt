@@ -45,10 +45,6 @@ module _ (s : List ℕ) (a : ℕ) (f : ℕ → Job) where
       (e ∙ ap (λ (y : ℤ). take (a + job_width * j) out ++ (bytes_of_job (with_due y (f j)) ++ drop (a + job_width * j + job_width) out)) d))
       (omega arith))
 
-  pub all-jobs : (n : ℕ) (out : List ℕ) → Front s (a + job_width * n) (take a s ++ job_bytes (tabulate n f)) out →
-      out ≡ take a s ++ (job_bytes (tabulate n f) ++ drop (a + job_width * n) s)
-  all-jobs n out fr = fr.is ∙ append_assoc (take a s) (job_bytes (tabulate n f)) (drop (a + job_width * n) s)
-
 -- the four numbers of one job, the due time as the pattern x
 pub one-job : (s : List ℕ) (a : ℕ) (job : Job) (x : ℕ) (o₁ o₂ o₃ o₄ : List ℕ) → a + job_width ≤ length s → x ≡ pattern job.due →
     o₁ ≡ take a s ++ (bytes4 job.time ++ drop (a + 4) s) → o₂ ≡ take (a + 4) o₁ ++ (bytes4 x ++ drop (a + 4 + 4) o₁) →

@@ -1,5 +1,4 @@
 mod Stores
-mod Signed
 mod Growing
 mod Writing
 mod Padded

@@ -1,26 +1,10 @@
 -- Bytes stored one after the other in a buffer: a buffer's front is what was stored, its rest is as it was lent.
-use Prim.Native.Nat.{ℕ, suc, ◌+◌, ◌≤◌}
+use Prim.Native.Nat.{ℕ, ◌+◌, ◌≤◌}
 use mathlib.Core.Path.{◌≡◌, sym, ap, ◌∙◌}
-use mathlib.Core.List.{List, [], ◌∷◌, ◌++◌, append_assoc}
+use mathlib.Core.List.{List, ◌++◌, append_assoc}
 use native.Mathlib.Omega.{arith}
-use lib.ListN.{length, set, take, drop, length-append, length-drop, take-append-drop}
-use lib.Seq.{sets-eq, take_at, drop-append-add, drop-drop, length-take-le}
-
--- single stores
-pub two-stored : (s : List ℕ) (a b₀ b₁ : ℕ) → a + 2 ≤ length s →
-    set (set s a b₀) (a + 1) b₁ ≡ take a s ++ ((b₀ ∷ b₁ ∷ []) ++ drop (a + 2) s)
-two-stored s a b₀ b₁ h =
-    let e₁ : a + 1 ≡ suc a = omega arith in
-    rw e₁ (sets-eq (b₀ ∷ b₁ ∷ []) s a h ∙ append_assoc (take a s) (b₀ ∷ b₁ ∷ []) (drop (a + 2) s))
-
-pub four-stored : (s : List ℕ) (a b₀ b₁ b₂ b₃ : ℕ) → a + 4 ≤ length s →
-    set (set (set (set s a b₀) (a + 1) b₁) (a + 2) b₂) (a + 3) b₃ ≡ take a s ++ ((b₀ ∷ b₁ ∷ b₂ ∷ b₃ ∷ []) ++ drop (a + 4) s)
-four-stored s a b₀ b₁ b₂ b₃ h =
-    let e₁ : a + 1 ≡ suc a = omega arith in
-    let e₂ : a + 2 ≡ suc (suc a) = omega arith in
-    let e₃ : a + 3 ≡ suc (suc (suc a)) = omega arith in
-    rw (e₁, e₂, e₃)
-    (sets-eq (b₀ ∷ b₁ ∷ b₂ ∷ b₃ ∷ []) s a h ∙ append_assoc (take a s) (b₀ ∷ b₁ ∷ b₂ ∷ b₃ ∷ []) (drop (a + 4) s))
+use lib.ListN.{length, take, drop, length-append, length-drop, take-append-drop}
+use lib.Seq.{take_at, drop-append-add, drop-drop, length-take-le}
 
 -- the first n bytes of the buffer are p, the others those of s
 pub record Front (s : List ℕ) (n : ℕ) (p buffer : List ℕ) : Type 0 where

@@ -1,12 +1,10 @@
 -- The reader's trailer: where the lists lie, and that they lie in the file.
 use Prim.Native.Nat.{ℕ, ◌+◌, ◌*◌, ◌≤◌}
 use mathlib.Core.Path.{◌≡◌, refl, sym, ◌∙◌}
-use mathlib.Core.Bool.{Bool, true, false, ◌&&◌, and-false}
+use mathlib.Core.Bool.{Bool, true, false}
 use mathlib.Core.List.{List}
 use mathlib.Core.Logic.{inl, inr}
 use native.Mathlib.Omega.{arith}
-use borrow.Author.Tests.{eq-eqb, ne_eqb}
-use lib.Dec.{eqb}
 use lib.ListN.{length}
 use Rattle.order.specs.Refusals.{shortest_file, longest_file}
 use Rattle.order_file.specs.File.{processor_place, job_place, processors_of, jobs_of, lists_agree, good_file, job_width, trailer_width}
@@ -14,26 +12,6 @@ use Rattle.order_file.proofs.RoundTrip.{Agrees, lists_agree-iff, good_file-iff}
 use Rattle.order_file.specs.Inside.{trailer_of, trailer_by, Placed}
 use Rattle.order_file.specs.declared.Lists.{Lists}
 use Rattle.std.specs.Prelude.{Option, Some, None}
-
--- the first placement fails by the one place or by the other
-module _ (p pa ja : ℕ) where
-  pub other-processors : (pa ≡ 0 → ⊥) → (eqb pa 0 && eqb ja (4 * p)) ≡ false
-  other-processors e = rw (ne_eqb pa 0 e)
-
-  pub other-jobs : (ja ≡ 4 * p → ⊥) → (eqb pa 0 && eqb ja (4 * p)) ≡ false
-  other-jobs e = rw (ne_eqb ja (4 * p) e, and-false)
-
--- what the two placements' tests answer
-module _ (p j pa ja : ℕ) where
-  pub first-placement : pa ≡ 0 → ja ≡ 4 * p → true ≡ lists_agree p j pa ja
-  first-placement e f = rw (eq-eqb pa 0 e, eq-eqb ja (4 * p) f)
-
-  module _ (other : (eqb pa 0 && eqb ja (4 * p)) ≡ false) where
-    pub second-placement : ja ≡ 0 → eqb pa (job_width * j) ≡ lists_agree p j pa ja
-    second-placement e = rw (other, eq-eqb ja 0 e)
-
-    pub no-placement : (ja ≡ 0 → ⊥) → false ≡ lists_agree p j pa ja
-    no-placement e = rw (other, ne_eqb ja 0 e)
 
 true≢false : true ≡ false → ⊥
 true≢false e = let z : ◌≡◌ {A = ℕ} 0 1 = cc in omega arith

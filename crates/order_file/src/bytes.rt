@@ -3,18 +3,12 @@
 ghost use Rattle.std.specs.Prelude.{◌≡◌, ◌+◌, ◌<◌, ◌≤◌, ◌++◌, length, take, drop};
 ghost use Rattle.order_file.specs.Bytes.{number4, number2, bytes4, bytes2, signed, pattern};
 
-fn wide(x: u8) -> u32
-    ensures { (result ≡ x) × (x < 256) }
-{
-    x as u32
-}
-
 // The number of the four bytes at a place.
 pub fn read4(s: &[u8], at: usize) -> u32
     requires { at + 4 ≤ length s.now }
     ensures { result ≡ number4 s.now at }
 {
-    wide(s[at]) + 256 * wide(s[at + 1]) + 65536 * wide(s[at + 2]) + 16777216 * wide(s[at + 3])
+    u32::from_le_bytes([s[at], s[at + 1], s[at + 2], s[at + 3]])
 }
 
 // The number of the two bytes at a place.
@@ -22,28 +16,21 @@ pub fn read2(s: &[u8], at: usize) -> u32
     requires { at + 2 ≤ length s.now }
     ensures { (result ≡ number2 s.now at) × (result < 65536) }
 {
-    wide(s[at]) + 256 * wide(s[at + 1])
+    u32::from(u16::from_le_bytes([s[at], s[at + 1]]))
 }
 
 // The signed number of a pattern.
 pub fn to_signed(raw: u32) -> i32
     ensures { result ≡ signed raw }
 {
-    if raw < 2147483648 {
-        raw as i32
-    } else {
-        ((raw - 2147483648) as i32) + (-2147483648)
-    }
+    raw.cast_signed()
 }
 
 // The pattern of a signed number.
 pub fn to_pattern(number: i32) -> u32
     ensures { result ≡ pattern number }
 {
-    if number < 0 {
-        return ((number as i64) + 4294967296) as u32;
-    }
-    number as u32
+    number.cast_unsigned()
 }
 
 // The four bytes of a number are stored at a place.
@@ -51,10 +38,7 @@ pub fn put4(out: &mut [u8], at: usize, x: u32)
     requires { at + 4 ≤ length out.old }
     ensures { out.new ≡ take at out.old ++ (bytes4 x ++ drop (at + 4) out.old) }
 {
-    out[at] = (x % 256) as u8;
-    out[at + 1] = (x / 256 % 256) as u8;
-    out[at + 2] = (x / 65536 % 256) as u8;
-    out[at + 3] = (x / 16777216 % 256) as u8;
+    out[at..at + 4].copy_from_slice(&x.to_le_bytes());
 }
 
 // The two bytes of a number are stored at a place.
@@ -62,6 +46,5 @@ pub fn put2(out: &mut [u8], at: usize, x: u32)
     requires { at + 2 ≤ length out.old }
     ensures { out.new ≡ take at out.old ++ (bytes2 x ++ drop (at + 2) out.old) }
 {
-    out[at] = (x % 256) as u8;
-    out[at + 1] = (x / 256 % 256) as u8;
+    out[at..at + 2].copy_from_slice(&x.to_le_bytes()[..2]);
 }

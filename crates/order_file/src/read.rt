@@ -18,15 +18,9 @@ fn lists_agree(processors: usize, jobs: usize, processors_at: usize, jobs_at: us
     requires { (processors < 65536) × (jobs < 65536) }
     ensures { result ≡ lists_agree processors jobs processors_at jobs_at }
 {
-    if processors_at == 0 {
-        if jobs_at == 4 * processors {
-            return true;
-        }
-    }
-    if jobs_at == 0 {
-        return processors_at == JOB_WIDTH * jobs;
-    }
-    false
+    let processors_first = processors_at == 0 && jobs_at == 4 * processors;
+    let jobs_first = jobs_at == 0 && processors_at == JOB_WIDTH * jobs;
+    processors_first || jobs_first
 }
 
 // The trailer of a file, where the lists and it agree.
@@ -60,46 +54,18 @@ pub fn read_trailer(file: &[u8]) -> Option<Lists>
     })
 }
 
-// The memories of a processor list, 0 beyond its end.
-fn memories(list: &[u8], n: usize) -> [u32; 16]
-    requires { (n ≤ 16) × (4 * n ≤ length list.now) }
-    ensures { result ≡ padded_to 16 n 0 (λ (i : ℕ). number4 list.now (4 * i)) }
+// A column of a list of n parts, `width` bytes a part: the number at `first` in each, 0 beyond the last.
+fn column<const PLACES: usize>(list: &[u8], n: usize, width: usize, first: usize) -> [u32; PLACES]
+    requires { (n ≤ PLACES) × (first + 4 ≤ width) × (width * n ≤ length list.now) }
+    ensures { result ≡ padded_to PLACES n 0 (λ (i : ℕ). number4 list.now (width * i + first)) }
 {
-    let mut out = [0u32; 16];
-    let mut i: usize = 0;
-    while i < n {
-        out[i] = read4(list, 4 * i);
-        i += 1;
-    }
-    out
-}
-
-// The times, the needs or the makers of a job list: the numbers at `first` in each job, 0 beyond its end.
-fn column(list: &[u8], n: usize, first: usize) -> [u32; 48]
-    requires { (n ≤ 48) × (first ≤ 12) × (job_width * n ≤ length list.now) }
-    ensures { result ≡ padded_to 48 n 0 (λ (j : ℕ). number4 list.now (job_width * j + first)) }
-{
-    let mut out = [0u32; 48];
-    let mut j: usize = 0;
-    while j < n {
-        out[j] = read4(list, JOB_WIDTH * j + first);
-        j += 1;
-    }
-    out
-}
-
-// The due times of a job list, 0 beyond its end.
-fn dues(list: &[u8], n: usize) -> [i32; 48]
-    requires { (n ≤ 48) × (job_width * n ≤ length list.now) }
-    ensures { result ≡ padded_to 48 n (pos 0) (λ (j : ℕ). signed (number4 list.now (job_width * j + 4))) }
-{
-    let mut out = [0i32; 48];
-    let mut j: usize = 0;
-    while j < n {
-        out[j] = to_signed(read4(list, JOB_WIDTH * j + 4));
-        j += 1;
-    }
-    out
+    std::array::from_fn(|i| {
+        if i < n {
+            read4(list, width * i + first)
+        } else {
+            0
+        }
+    })
 }
 
 // The order of two lists, each a part of the file that begins where the trailer points.
@@ -114,12 +80,12 @@ fn read_lists(file: &[u8], lists: Lists) -> Order
     let job_list = &file[lists.jobs_at..jobs_end];
     Order {
         processors: lists.processors as u32,
-        memories: memories(processor_list, lists.processors),
+        memories: column(processor_list, lists.processors, 4, 0),
         jobs: lists.jobs as u32,
-        times: column(job_list, lists.jobs, 0),
-        dues: dues(job_list, lists.jobs),
-        needs: column(job_list, lists.jobs, 8),
-        makers: column(job_list, lists.jobs, 12),
+        times: column(job_list, lists.jobs, JOB_WIDTH, 0),
+        dues: column(job_list, lists.jobs, JOB_WIDTH, 4).map(to_signed),
+        needs: column(job_list, lists.jobs, JOB_WIDTH, 8),
+        makers: column(job_list, lists.jobs, JOB_WIDTH, 12),
     }
 }
 

@@ -18,10 +18,8 @@ fn put_processors(order: Order, out: &mut [u8])
         ++ drop (4 * order.processors) out.old }
 {
     let n = order.processors as usize;
-    let mut i: usize = 0;
-    while i < n {
-        put4(out, 4 * i, order.memories[i]);
-        i += 1;
+    for (i, memory) in order.memories[..n].iter().enumerate() {
+        put4(out, 4 * i, *memory);
     }
 }
 
@@ -43,9 +41,7 @@ fn put_jobs(order: Order, out: &mut [u8], at: usize)
     ensures { out.new ≡ take at out.old
         ++ (job_bytes (order_of order).jobs ++ drop (at + job_width * order.jobs) out.old) }
 {
-    let n = order.jobs as usize;
-    let mut j: usize = 0;
-    while j < n {
+    for j in 0..order.jobs as usize {
         put_job(
             out,
             at + JOB_WIDTH * j,
@@ -54,7 +50,6 @@ fn put_jobs(order: Order, out: &mut [u8], at: usize)
             order.needs[j],
             order.makers[j],
         );
-        j += 1;
     }
 }
 

@@ -13,3 +13,4 @@ pub mod Arrays
 pub mod Downwards
 pub mod Same
 pub mod FromFn
+pub mod FromFnFirst

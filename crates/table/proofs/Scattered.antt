@@ -1,11 +1,9 @@
 -- What a number names; values by place, stored one after the other at their numbers.
-use Prim.Native.Nat.{ℕ, zero, suc, ◌+◌, ◌-◌, ◌≤◌, ◌<◌}
+use Prim.Native.Nat.{ℕ, zero, suc, ◌-◌, ◌≤◌, ◌<◌}
 use mathlib.Core.Path.{◌≡◌, sym, ap, ◌∙◌}
 use mathlib.Core.List.{List}
 use native.Mathlib.Omega.{arith}
-use borrow.Author.Count.{below_more}
-use lib.ListN.{length, get_or, set}
-use lib.Seq.{get_or-set_same, get_or-set_other}
+use lib.ListN.{get_or}
 use Rattle.sums.specs.Arrays.{RowOf}
 use Rattle.sums.specs.Lists.{nth}
 use Rattle.table.specs.Held.{EachOnce, beside, value_of}
@@ -20,21 +18,6 @@ module _ (numbers : List ℕ) (n : ℕ) (E : EachOnce n (beside numbers)) (few :
   -- those of the first k places stand at their numbers
   abbrev pub Scattered : ℕ → List ℕ → Type 0
   Scattered k r = (i : ℕ) → i < k → get_or r (beside numbers i - 1) 0 ≡ get_or values i 0
-
-  pub scatter-more : (k : ℕ) (r : List ℕ) → k < n → length r ≡ 48 → Scattered k r →
-      Scattered (k + 1) (set r (beside numbers k - 1) (get_or values k 0))
-  scatter-more k r l long h =
-      below_more (λ (i : ℕ). get_or (set r (beside numbers k - 1) (get_or values k 0)) (beside numbers i - 1) 0 ≡ get_or values i 0) k
-      (λ i b.
-      get_or-set_other r (beside numbers k - 1) (beside numbers i - 1) (get_or values k 0) 0
-      (λ e. absurd (
-      let a = E.are i (omega arith) in
-      let c = E.are k l in
-      let f : i ≡ k = E.once i k (omega arith) l (omega (arith, a.0, c.0, e)) in
-      omega (arith, f)
-      ))
-      ∙ h i b)
-      (get_or-set_same r (beside numbers k - 1) (get_or values k 0) 0 (omega (arith, E.are k l)))
 
   -- with all stored, each number has the value at its place
   pub scatter-all : (r : List ℕ) → Scattered n r → RowOf (λ j. value_of numbers n values (suc j)) n r

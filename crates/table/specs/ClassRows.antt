@@ -1,7 +1,10 @@
 -- Classes from the listed memories: the last that suffices, counted in a walk.
-use Rattle.std.specs.Prelude.{ℕ, zero, suc, ◌≤◌, ◌<◌, ◌≡◌, length, get_or}
+use Rattle.std.specs.Prelude.{ℕ, zero, suc, ◌≤◌, ◌<◌, ◌≡◌, refl, length, get_or, MatchOption, Some, None}
+use Rattle.std.specs.Option.{unwrap_or}
+use Rattle.std.specs.declared.option.Option.{Option}
 use Rattle.std.proofs.Math.Path.{ap}
-use Rattle.std.proofs.Common.{◌∙◌, arith, le-leb}
+use Rattle.std.proofs.Common.{sym, ◌∙◌, arith, le-leb}
+use Rattle.std.proofs.Math.Decide.{dec_lt}
 use Rattle.std.proofs.lemmas.Bool.{lt-leb}
 use Rattle.sums.specs.Lists.{tabulate}
 use Rattle.sums.specs.Places.{get_d_tabulate, tabulate-cong, tabulate-get_or}
@@ -29,6 +32,20 @@ last-all need (suc n) zero f e h = absurd (omega arith)
 last-all need (suc n) (suc k) f e h =
     rw (le-leb need (f 0) (h 0 (omega arith)))
     (ap suc (last-all need n k (λ i. f (suc i)) (omega arith) (λ i b. h (suc i) (omega arith))))
+
+-- those before one suffice: so the first one from there on that does not is the last that suffices, or all do
+module _ (need n from : ℕ) (f : ℕ → ℕ) (l : from ≤ n) (before : (i : ℕ) → i < from → need ≤ f i) where
+  abbrev sufficing : ℕ → Type 0
+  sufficing k = (i : ℕ) → from ≤ i → i < k → need ≤ f i
+
+  each : (k : ℕ) → sufficing k → (i : ℕ) → i < k → need ≤ f i
+  each k after i b = elim (dec_lt i from) [ yes h ↦ before i h | no h ↦ after i (omega arith) b ]
+
+  pub first-short : (found : Option ℕ) →
+      MatchOption found (sufficing n) (λ k. (from ≤ k) × (k < n) × (f k < need) × sufficing k) →
+      (unwrap_or found n ≤ n) × (unwrap_or found n ≡ last_that_suffices need (tabulate n f))
+  first-short None after = (omega arith, sym (last-all need n n f refl (each n after)))
+  first-short (Some k) after = (omega arith, sym (last-stops need n k f after.1 (each k after.3) after.2))
 
 -- the classes that a listing of an order holds
 module _ (o : Order) (few : processor_count o ≤ 16) (l : Listing) (e : l ≡ listing o) where

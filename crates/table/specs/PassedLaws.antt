@@ -1,7 +1,7 @@
 -- The pass over the sorted list: it begins with no class, each processor passed has no more memory than those before it, and with all
 -- of them passed the listing is the order's: "the former one for every order".
-use Rattle.std.specs.Prelude.{ℕ, zero, suc, ◌-◌, ◌≤◌, ◌<◌, ◌≡◌, refl, List, [], eqb, length, get_or, replicate}
-use Rattle.std.proofs.Common.{sym, ap, ◌∙◌, arith}
+use Rattle.std.specs.Prelude.{ℕ, zero, suc, ◌-◌, ◌≤◌, ◌<◌, ◌≡◌, refl, List, [], eqb, length, get_or, take, replicate}
+use Rattle.std.proofs.Common.{sym, ap, ◌∙◌, arith, get_or-take, length-take-le}
 use Rattle.sums.specs.Lists.{All, total, only, tabulate}
 use Rattle.sums.specs.Members.{All-at, All-from}
 use Rattle.sums.specs.Pairs.{Pairwise-at}
@@ -62,21 +62,28 @@ module _ (o : Order) where
       (λ f. ordered-places (memory_of o) (processor_count o) order (processors-ordered o) f
       ∙ ap (λ (ms : List ℕ). total ms f) (tabulate-get_or o.memories 0))
 
--- the memory of the processor passed next, where an array has the sorted list
+-- the processors passed, and the memory of the next, where an array has the sorted list
 module _ (t : OrderTable) (few : t.processors ≤ 16) (at : List ℕ) (e : at ≡ padded 16 (processor_order (order_of t))) where
-  pub next-number : (k : ℕ) → k < t.processors → Numbers t.processors (get_or at k 0)
+  pub passed-length : length (take t.processors at) ≡ t.processors
+  passed-length = rw e (length-take-le t.processors (padded 16 (processor_order (order_of t)))
+      (omega (arith, length-tabulate 16 (λ i. get_or (processor_order (order_of t)) i 0))))
+
+  number-is : (k : ℕ) → k < t.processors → get_or (take t.processors at) k 0 ≡ get_or (processor_order (order_of t)) k 0
+  number-is k l =
+      get_or-take t.processors at k 0 l
+      ∙ ap (λ (xs : List ℕ). get_or xs k 0) e ∙ get_d_tabulate 16 (λ i. get_or (processor_order (order_of t)) i 0) 0 k (omega arith)
+
+  pub next-number : (k : ℕ) → k < t.processors → Numbers t.processors (get_or (take t.processors at) k 0)
   next-number k l =
       let o = processors-ordered (order_of t) in
       let n = processor-count t in
-      rw (e, get_d_tabulate 16 (λ i. get_or (processor_order (order_of t)) i 0) 0 k (omega arith))
+      rw (number-is k l)
       (let b = All-at _ (processor_order (order_of t)) 0 o.no_other k (omega (arith, n, o.count)) in (b.0, omega (arith, n, b.1)))
 
   pub next-memory : (k : ℕ) → k < t.processors →
-      get_or t.memories (get_or at k 0 - 1) 0 ≡ memory_of (order_of t) (get_or (processor_order (order_of t)) k 0)
+      get_or t.memories (get_or (take t.processors at) k 0 - 1) 0 ≡ memory_of (order_of t) (get_or (processor_order (order_of t)) k 0)
   next-memory k l =
-      let f : get_or at k 0 ≡ get_or (processor_order (order_of t)) k 0
-      = ap (λ (xs : List ℕ). get_or xs k 0) e ∙ get_d_tabulate 16 (λ i. get_or (processor_order (order_of t)) i 0) 0 k (omega arith) in
-      go (get_or at k 0) (next-number k l) ∙ ap (memory_of (order_of t)) f
+      go (get_or (take t.processors at) k 0) (next-number k l) ∙ ap (memory_of (order_of t)) (number-is k l)
     where
       go : (x : ℕ) → Numbers t.processors x → get_or t.memories (x - 1) 0 ≡ memory_of (order_of t) x
       go zero b = absurd (omega arith)

@@ -18,14 +18,8 @@ pub fn class_for(memories: [u32; 16], count: usize, need: u32, from: usize) -> u
     requires { (count ≤ 16) × (from ≤ count) × ((i : ℕ) → i < from → need ≤ get_or memories i 0) }
     ensures { result ≡ last_that_suffices need (tabulate count (λ (i : ℕ). get_or memories i 0)) }
 {
-    let mut k = from;
-    while k < count {
-        if memories[k] < need {
-            return k as u32;
-        }
-        k += 1;
-    }
-    k as u32
+    let first_short = (from..count).find(|k| memories[*k] < need);
+    first_short.unwrap_or(count) as u32
 }
 
 // The class of the job at each place: by falling need no class falls, so each is looked for from the one before it on.
@@ -34,15 +28,12 @@ pub fn classes_of_jobs(order: Order, by_need: [u32; 48], classes: Listing) -> [u
     ensures { RowOf (λ k. class_of (order_of order) (job_of (order_of order) (number_at (order_of order) k))) order.jobs result }
 {
     let n = order.jobs as usize;
-    let memories = classes.memories;
     let mut r = [0u32; 48];
-    let mut class: u32 = 0;
-    let mut k: usize = 0;
-    while k < n {
+    let mut class = 0;
+    for k in 0..n {
         let need = order.needs[(by_need[k] - 1) as usize];
-        class = class_for(memories, classes.count, need, class as usize);
+        class = class_for(classes.memories, classes.count, need, class as usize);
         r[k] = class;
-        k += 1;
     }
     r
 }
@@ -52,13 +43,11 @@ pub fn classes_of_processors(order: Order, classes: Listing) -> [u32; 16]
     requires { Accepted (order_of order) × (classes ≡ listing (order_of order)) }
     ensures { RowOf (λ i. class_for (order_of order) (get_or order.memories i 0)) order.processors result }
 {
-    let n = order.processors as usize;
-    let memories = classes.memories;
-    let mut r = [0u32; 16];
-    let mut i: usize = 0;
-    while i < n {
-        r[i] = class_for(memories, classes.count, order.memories[i], 0);
-        i += 1;
-    }
-    r
+    std::array::from_fn(|i| {
+        if i < order.processors as usize {
+            class_for(classes.memories, classes.count, order.memories[i], 0)
+        } else {
+            0
+        }
+    })
 }

@@ -47,10 +47,7 @@ pub fn bound_of(reach: u32) -> i32
 pub fn less(a: u32, b: u32) -> u32
     ensures { result ≡ a - b }
 {
-    if a < b {
-        return 0;
-    }
-    a - b
+    a.saturating_sub(b)
 }
 
 // The minute of each lead at a reach.
@@ -65,14 +62,13 @@ pub fn leads_of(order: Order) -> [u32; 48]
     requires { Accepted (order_of order) }
     ensures { RowOf (λ j. lead last_due (get_or order.dues j (pos 0))) order.jobs result }
 {
-    let n = order.jobs as usize;
-    let mut r = [0u32; 48];
-    let mut j: usize = 0;
-    while j < n {
-        r[j] = lead_of(order.dues[j]);
-        j += 1;
-    }
-    r
+    std::array::from_fn(|j| {
+        if j < order.jobs as usize {
+            lead_of(order.dues[j])
+        } else {
+            0
+        }
+    })
 }
 
 // The leads of the distinct due times, by rising due time.

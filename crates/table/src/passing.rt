@@ -14,18 +14,10 @@ fn with_processor(last: LastClass, memory: u32) -> LastClass
     ensures one_more { OneMore last memory result }
     ensures number_nonzero { (0 < result.number) × (result.number ≤ 16) }
 {
-    if last.number == 0 {
+    if last.number > 0 && last.memory == memory {
         return LastClass {
-            number: 1,
-            memory,
-            procs: 1,
-        };
-    }
-    if last.memory == memory {
-        return LastClass {
-            number: last.number,
-            memory,
             procs: last.procs + 1,
+            ..last
         };
     }
     LastClass {
@@ -48,13 +40,11 @@ pub fn classes_of(order: Order, by_memory: [u32; 16]) -> Listing
         memory: 0,
         procs: 0,
     };
-    let mut k: usize = 0;
-    while k < n {
-        last = with_processor(last, order.memories[(by_memory[k] - 1) as usize]);
+    for number in &by_memory[..n] {
+        last = with_processor(last, order.memories[(*number - 1) as usize]);
         let count = last.number;
         memories[count - 1] = last.memory;
         procs[count - 1] = last.procs;
-        k += 1;
     }
     Listing {
         count: last.number,

@@ -12,13 +12,13 @@ pub fn by_place(values: [u32; 48], numbers: [u32; 48], n: usize) -> [u32; 48]
     requires { (n ≤ 48) × EachOnce n (beside numbers) }
     ensures { RowOf (λ k. nth values (beside numbers k) 0) n result }
 {
-    let mut r = [0u32; 48];
-    let mut k: usize = 0;
-    while k < n {
-        r[k] = values[(numbers[k] - 1) as usize];
-        k += 1;
-    }
-    r
+    std::array::from_fn(|k| {
+        if k < n {
+            values[(numbers[k] - 1) as usize]
+        } else {
+            0
+        }
+    })
 }
 
 // What each of n jobs has, by input number, where `values` has it by place.
@@ -27,10 +27,8 @@ pub fn by_number(values: [u32; 48], numbers: [u32; 48], n: usize) -> [u32; 48]
     ensures { RowOf (λ j. value_of numbers n values (suc j)) n result }
 {
     let mut r = [0u32; 48];
-    let mut k: usize = 0;
-    while k < n {
-        r[(numbers[k] - 1) as usize] = values[k];
-        k += 1;
+    for (number, value) in numbers[..n].iter().zip(&values) {
+        r[(*number - 1) as usize] = *value;
     }
     r
 }

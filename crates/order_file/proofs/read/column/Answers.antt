@@ -1,15 +1,13 @@
--- `column`: the invariant is that the places before j hold the numbers at `first` of the jobs, the others 0.
-use mathlib.Core.Path.{◌≡◌}
-use Rattle.order_file.specs.PaddedLaws.{padded-none, padded-more}
-use borrow.Author.Rules.{rules}
-use native.Mathlib.Omega.{arith}
+-- `column`: the places below n hold the numbers at `first` of the parts, the others 0.
+use Rattle.std.proofs.Common.{rules, ℕ, ◌+◌, ◌*◌}
+use Rattle.sums.specs.FromFnFirst.{from_fn-first}
+use Rattle.order_file.specs.Bytes.{number4}
+use Rattle.order_file.specs.Inside.{padded_to}
 use Rattle.order_file.proofs.read.column.Goals as goal
 
-pub loop-j-init : goal.loop-j-init
-loop-j-init c = (search rules, padded-none 48 0 _)
-
-pub loop-j-preserved : goal.loop-j-preserved
-loop-j-preserved c = (search rules, padded-more 48 _ 0 _ _ _ (omega arith) c.loop-j.invariant.1 c.read4.ensures)
-
 pub returns : goal.returns
-returns c = let e : c.args.n ≡ c.loop-j.j = omega arith in rw e c.loop-j.invariant.1
+unfolding padded_to
+returns g c =
+    let a = c.args in
+    from_fn-first _ _ a.n 0 (λ (i : ℕ). number4 a.list.now (a.width * i + a.first)) _
+    (λ i y q l k. (λ b. search rules, λ b. search rules, search rules)) c.from_fn.ensures.items

@@ -1,5 +1,5 @@
 -- `put_jobs`: the invariant is that from `at` on the buffer holds the first j jobs and goes on as it was.
-use Prim.Native.Nat.{◌+◌, ◌*◌, ◌-◌, ◌≤◌}
+use Prim.Native.Nat.{◌+◌, ◌*◌}
 use mathlib.Core.List.{◌++◌}
 use lib.ListN.{take}
 use Rattle.sums.specs.Lists.{tabulate}
@@ -9,7 +9,4 @@ use Rattle.order_file.proofs.Stores.{Front}
 use Rattle.order_file.proofs.write.put_jobs.Given as goal
 
 abbrev pub invariant-loop-j : goal.invariant-loop-j
-invariant-loop-j l = (l.j ≤ l.n) × Front l.initial.out (l.at + job_width * l.j) (take l.at l.initial.out ++ job_bytes (tabulate l.j (job_at l.order))) l.out
-
-abbrev pub decreases-loop-j : goal.decreases-loop-j
-decreases-loop-j l = l.n - l.j
+invariant-loop-j l = Front l.initial.out (l.at + job_width * l.j) (take l.at l.initial.out ++ job_bytes (tabulate l.j (job_at l.order))) l.out

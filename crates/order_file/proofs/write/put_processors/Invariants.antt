@@ -1,5 +1,5 @@
 -- `put_processors`: the invariant is that the buffer begins with the first i processors and goes on as it was.
-use Prim.Native.Nat.{◌*◌, ◌-◌, ◌≤◌}
+use Prim.Native.Nat.{◌*◌}
 use lib.ListN.{get_or}
 use Rattle.sums.specs.Lists.{tabulate}
 use Rattle.order_file.specs.File.{processor_bytes}
@@ -8,7 +8,4 @@ use Rattle.order_file.proofs.write.put_processors.Given as goal
 
 abbrev pub invariant-loop-i : goal.invariant-loop-i
 invariant-loop-i l =
-    (l.i ≤ l.n) × Front l.initial.out (4 * l.i) (processor_bytes (tabulate l.i (λ k. get_or l.order.memories k 0))) l.out
-
-abbrev pub decreases-loop-i : goal.decreases-loop-i
-decreases-loop-i l = l.n - l.i
+    Front l.initial.out (4 * l.i) (processor_bytes (tabulate l.i (λ k. get_or l.fn.order.memories k 0))) l.out

@@ -1,27 +1,21 @@
-use Prim.Native.Nat.{ℕ, ◌≤◌}
-use mathlib.Core.Path.{sym}
-use native.Mathlib.Omega.{arith}
-use borrow.Author.Count.{below_more}
-use borrow.Author.Rules.{rules}
-use lib.ListN.{get_or}
-use Rattle.table.specs.ClassRows.{last-stops, last-all}
+use Rattle.std.proofs.Common.{rules, ◌≡◌, ◌<◌, ◌≤◌, ℕ, get_or, arith}
+use Rattle.std.proofs.lemmas.Iterator.{first_from_Range}
+use Rattle.sums.specs.Lists.{tabulate}
+use Rattle.order.specs.Class.{last_that_suffices}
+use Rattle.table.specs.ClassRows.{first-short}
 use Rattle.table.proofs.class.class_for.Goals as goal
 
-pub loop-k-init : goal.loop-k-init
-loop-k-init c = (c.requires.1, c.requires.2)
+found : (c : goal.After-unwrap_or) →
+    (c.unwrap_or.result ≤ c.args.count)
+    × (c.unwrap_or.result ≡ last_that_suffices c.args.need (tabulate c.args.count (λ i. get_or c.args.memories i 0)))
+found c =
+    let a = c.args in
+    let first = first_from_Range _ _ _ _ (λ (i : ℕ). get_or a.memories i 0 < a.need) (λ (i : ℕ). a.need ≤ get_or a.memories i 0)
+    c.find-first_short.ensures.ran (λ x q k. search rules) (λ x q k. (search rules, search rules)) in
+    rw c.unwrap_or.ensures (first-short a.need a.count a.from (λ i. get_or a.memories i 0) c.requires.1 c.requires.2 _ first)
 
-pub returns-then-memories-k : goal.returns-then-memories-k
-returns-then-memories-k c =
-    let l = c.loop-k in
-    sym (last-stops c.args.need c.args.count l.k (λ i. get_or c.args.memories i 0) (omega arith) l.invariant.1
-    c.if-memories-k.true)
-
-pub loop-k-preserved : goal.loop-k-preserved
-loop-k-preserved c =
-    let l = c.loop-k in
-    (search rules, below_more (λ (i : ℕ). c.args.need ≤ get_or c.args.memories i 0) l.k l.invariant.1 c.if-memories-k.false)
+pub overflow_cast-result : goal.overflow_cast-result
+overflow_cast-result c = record { fits = omega (arith, (found c).0, c.requires.0) }
 
 pub returns : goal.returns
-returns c =
-    let l = c.loop-k in
-    sym (last-all c.args.need c.args.count l.k (λ i. get_or c.args.memories i 0) (omega arith) l.invariant.1)
+returns c = (found c).1

@@ -1,4 +1,4 @@
-use Prim.Native.Nat.{ℕ, ◌-◌, ◌<◌, ◌≤◌}
+use Prim.Native.Nat.{ℕ, ◌<◌, ◌≤◌}
 use mathlib.Core.Path.{◌≡◌}
 use lib.ListN.{length, get_or}
 use Rattle.sums.specs.Arrays.{RowOf}
@@ -11,8 +11,5 @@ use Rattle.table.proofs.class.classes_of_jobs.Given as goal
 
 abbrev pub invariant-loop-k : goal.invariant-loop-k
 invariant-loop-k l =
-    (l.k ≤ l.n) × (length l.r ≡ 48) × RowOf (λ k. class_of (order_of l.order) (job_of (order_of l.order) (number_at (order_of l.order) k))) l.k l.r
+    (length l.r ≡ 48) × RowOf (λ k. class_of (order_of l.order) (job_of (order_of l.order) (number_at (order_of l.order) k))) l.k l.r
     × (l.class ≤ l.classes.count) × ((i j : ℕ) → i < l.class → l.k ≤ j → j < l.n → need_at l.order j ≤ get_or l.classes.memories i 0)
-
-abbrev pub decreases-loop-k : goal.decreases-loop-k
-decreases-loop-k l = l.n - l.k

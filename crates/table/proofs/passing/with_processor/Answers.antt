@@ -1,22 +1,13 @@
+use Rattle.std.proofs.Common.{ℕ, ◌+◌, arith, sym, subst}
 use Rattle.table.specs.OneMoreLaws.{one_more, class-more}
-use native.Mathlib.Omega.{arith}
+use Rattle.table.specs.Passed.{OneMore}
 use Rattle.table.proofs.passing.with_processor.Goals as goal
 
-pub returns-then-last-eq0 : goal.returns-then-last-eq0
-returns-then-last-eq0 c =
-    let a = c.args in record {
-      one_more = class-more a.last a.memory 1 (λ h. omega (arith, c.if-last-eq0.true, h.0)) (omega (arith, c.if-last-eq0.true));
-      number_nonzero = omega arith;
-    }
+pub returns-then-last-memory-clause-one_more : goal.returns-then-last-memory-clause-one_more
+returns-then-last-memory-clause-one_more c =
+    let last = c.args.last in
+    subst (λ (m : ℕ). OneMore last c.args.memory (record { number = last.number; memory = m; procs = last.procs + 1 }))
+    (sym c.if-last-memory.true) (one_more last c.args.memory (c.if-last-gt0.true, c.if-last-memory.true))
 
-pub returns-then-last-memory : goal.returns-then-last-memory
-returns-then-last-memory c = record {
-  one_more = one_more c.args.last c.args.memory (omega (arith, c.if-last-eq0.false), omega (arith, c.if-last-memory.true));
-  number_nonzero = omega (arith, c.if-last-eq0.false, c.requires.0);
-}
-
-pub returns : goal.returns
-returns c = record {
-  one_more = class-more c.args.last c.args.memory _ (λ h. omega (arith, c.if-last-memory.false, h.1)) (omega arith);
-  number_nonzero = omega (arith, c.requires.0);
-}
+pub returns-clause-one_more : goal.returns-clause-one_more
+returns-clause-one_more c = class-more c.args.last c.args.memory _ (λ h. omega (arith, h.0, h.1, c.else-last-gt0.either)) (omega arith)

@@ -1,12 +1,8 @@
-use Prim.Native.Nat.{ℕ, ◌-◌, ◌<◌, ◌≤◌}
-use mathlib.Core.Path.{◌≡◌}
-use lib.ListN.{length, get_or}
+use Rattle.std.proofs.Common.{ℕ, ◌-◌, ◌<◌, ◌≡◌, length, get_or}
 use Rattle.table.specs.Held.{beside}
 use Rattle.table.proofs.places.by_number.Given as goal
 
-abbrev pub invariant-loop-k : goal.invariant-loop-k
-invariant-loop-k l =
-    (l.k ≤ l.n) × (length l.r ≡ 48) × ((i : ℕ) → i < l.k → get_or l.r (beside l.numbers i - 1) 0 ≡ get_or l.values i 0)
-
-abbrev pub decreases-loop-k : goal.decreases-loop-k
-decreases-loop-k l = l.n - l.k
+-- the values passed stand at their numbers
+abbrev pub invariant-loop-number : goal.invariant-loop-number
+invariant-loop-number l =
+    (length l.r ≡ 48) × ((i : ℕ) → i < length l.yielded → get_or l.r (beside l.fn.numbers i - 1) 0 ≡ get_or l.fn.values i 0)
