@@ -15,13 +15,6 @@ pub struct Piece {
     pub to: u32,
 }
 
-// A row of lent numbers: whole and naming a job and a processor that fit, or malformed.
-#[derive(Clone, Copy)]
-pub enum RowRead {
-    Good(Piece),
-    Malformed,
-}
-
 // Whether the plan is right, or why it was not judged.
 #[derive(Clone, Copy)]
 pub enum Checked {
