@@ -8,10 +8,7 @@ use super::Flags;
 fn bit_of(on: bool) -> u8
     ensures { (result ≡ bit on) × (result ≤ 1) }
 {
-    if on {
-        return 1;
-    }
-    0
+    u8::from(on)
 }
 
 // The flags of a byte.
@@ -37,24 +34,4 @@ pub fn with_allowed(byte: u8, written: u8) -> u8
     ensures { result ≡ with_allowed byte written }
 {
     byte / 2 * 2 + written % 2
-}
-
-// Whether a bit stays set: "writing a 1 clears that bit".
-pub fn unless(held: bool, written: bool) -> bool
-    ensures { result ≡ held && not written }
-{
-    if held {
-        return !written;
-    }
-    false
-}
-
-// The interrupt after a command: set if it was, or if it is allowed.
-pub fn either(held: bool, allowed: bool) -> bool
-    ensures { result ≡ held || allowed }
-{
-    if held {
-        return true;
-    }
-    allowed
 }

@@ -4,7 +4,7 @@ ghost use Rattle.registers.specs.Registers.{place_of, acknowledged, allowing, st
 ghost use Rattle.registers.specs.declared.Place.TheVariants.{Stored};
 ghost use Rattle.registers.specs.Memory.{Moved, WroteIn};
 
-use super::bits::{flags_in, unless, with_allowed, with_flags};
+use super::bits::{flags_in, with_allowed, with_flags};
 use super::commands::command;
 use super::places::place_of;
 use super::{Block, Flags, Place};
@@ -17,9 +17,9 @@ fn acknowledge(bytes: &mut [u8], written: u8)
     let held = flags_in(bytes[1]);
     let ones = flags_in(written);
     let flags = Flags {
-        done: unless(held.done, ones.done),
-        refused: unless(held.refused, ones.refused),
-        interrupt: unless(held.interrupt, ones.interrupt),
+        done: held.done && !ones.done,
+        refused: held.refused && !ones.refused,
+        interrupt: held.interrupt && !ones.interrupt,
     };
     bytes[1] = with_flags(bytes[1], flags);
 }
