@@ -58,23 +58,10 @@ pub fn write_in(bytes: &mut [u8], rows: &mut [u32], address: u8, value: u8)
     }
 }
 
-// A write to the arrays of a block.
-fn write_arrays(bytes: [u8; 256], rows: [u32; 720], address: u8, value: u8) -> Block
-    ensures { WroteIn address value bytes rows result.bytes result.rows }
-{
-    let mut held_bytes = bytes;
-    let mut held_rows = rows;
-    write_in(&mut held_bytes, &mut held_rows, address, value);
-    Block {
-        bytes: held_bytes,
-        rows: held_rows,
-    }
-}
-
 pub fn write(block: Block, address: u8, value: u8) -> Block
     ensures { WroteIn address value block.bytes block.rows result.bytes result.rows }
 {
-    let bytes = block.bytes;
-    let rows = block.rows;
-    write_arrays(bytes, rows, address, value)
+    let mut after = block;
+    write_in(&mut after.bytes, &mut after.rows, address, value);
+    after
 }
