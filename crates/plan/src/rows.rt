@@ -32,26 +32,14 @@ fn well_formed(order: Order, piece: Piece) -> bool
     requires { (order.processors ≤ 16) × (order.jobs ≤ 48) }
     ensures { result ≡ well_formed (order_of order) (row_of piece) }
 {
-    let job = piece.job;
-    let processor = piece.processor;
-    if job < 1 {
+    if !(1..=order.jobs).contains(&piece.job)
+        || !(1..=order.processors).contains(&piece.processor)
+    {
         return false;
     }
-    if order.jobs < job {
-        return false;
-    }
-    if processor < 1 {
-        return false;
-    }
-    if order.processors < processor {
-        return false;
-    }
-    let j = (job - 1) as usize;
-    let i = (processor - 1) as usize;
-    if order.memories[i] < order.needs[j] {
-        return false;
-    }
-    piece.from < piece.to
+    let need = order.needs[(piece.job - 1) as usize];
+    let memory = order.memories[(piece.processor - 1) as usize];
+    need <= memory && piece.from < piece.to
 }
 
 // The row at a place, if it is whole and well formed.
