@@ -5,7 +5,7 @@ use mathlib.Core.Path.{◌≡◌, refl, sym, ap, ◌∙◌}
 use mathlib.Core.Bool.{Bool, true, false, ◌&&◌, and_assoc, and-false}
 use mathlib.Core.List.{List}
 use native.Mathlib.Omega.{arith}
-use borrow.Author.Tests.{leb-true, leb-false, le-leb, eq-eqb, ne_eqb}
+use borrow.Author.Tests.{leb-true, leb-false, eq-eqb, ne_eqb}
 use lib.Dec.{leb}
 use lib.IntN.{ℤ}
 use lib.ListN.{length}
@@ -27,13 +27,6 @@ good-by false q p e = let z : ◌≡◌ {A = ℕ} 0 1 = cc in absurd (omega arit
 malformed-by : (b : Bool) (q : Piece) → then_some b q ≡ None → b ≡ false
 malformed-by true q e = let z : ◌≡◌ {A = ℕ} 0 1 = cc in absurd (omega arith)
 malformed-by false q e = refl
-
--- a whole row is read by whether it is well formed
-module _ (o : Order) (numbers : List ℕ) (k : ℕ) (p : Piece) (w : 4 * k + 4 ≤ length numbers) (e : p ≡ piece_at numbers k) where
-  pub reads : (t : Bool) → t ≡ well_formed o (row_of p) → then_some t p ≡ row_read o numbers k
-  reads t h =
-      let same : well_formed o (row_at numbers k) ≡ t = ap (λ (p : Piece). well_formed o (row_of p)) (sym e) ∙ sym h in
-      sym (rw (le-leb (4 * k + 4) (length numbers) w, same) (ap (then_some t) (sym e)))
 
 module _ (o : Order) (bound : ℤ) (numbers : List ℕ) where
   abbrev formed : ℕ → Bool

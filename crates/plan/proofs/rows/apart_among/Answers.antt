@@ -11,11 +11,6 @@ apart_by-requires c =
 pub returns-else-apart_by : goal.returns-else-apart_by
 returns-else-apart_by c = c.if-apart_by.false ∙ jobs-overlap c.args.rows.now _ c.apart_by.ensures c.if-apart_by.false
 
-pub apart_by-requires-then-apart_by : goal.apart_by-requires-then-apart_by
-apart_by-requires-then-apart_by c =
-    let spans = spans-by c.args.rows.now c.requires.2 in
-    (omega arith, omega arith, spans _ (omega arith), c.a-1.given ∙ c.requires.1)
-
 pub returns-then-apart_by : goal.returns-then-apart_by
 returns-then-apart_by c =
     processors-decide c.args.rows.now _ c.apart_by.ensures c.if-apart_by.true _ c.apart_by-then-apart_by.ensures

@@ -9,33 +9,6 @@ use Rattle.plan.proofs.rows.job_lengths.Goals as goal
 pub loop-i-init : goal.loop-i-init
 loop-i-init c = (refl, totals-none c.args.rows.now)
 
-pub overflow_sub-j : goal.overflow_sub-j
-overflow_sub-j c =
-    let l = c.loop-i in
-    omega (arith, piece-range c.args.rows.now l.i _ c.piece_at-piece.ensures (c.requires.1 l.i (omega arith)))
-
-pub bounds-totals-j : goal.bounds-totals-j
-bounds-totals-j c =
-    let l = c.loop-i in
-    omega (arith, piece-range c.args.rows.now l.i _ c.piece_at-piece.ensures (c.requires.1 l.i (omega arith)))
-
-pub length_of-requires : goal.length_of-requires
-length_of-requires c =
-    let l = c.loop-i in
-    (piece-range c.args.rows.now l.i _ c.piece_at-piece.ensures (c.requires.1 l.i (omega arith))).0
-
-pub overflow_add-totals : goal.overflow_add-totals
-overflow_add-totals c =
-    let l = c.loop-i in
-    let p = c.piece_at-piece.result in
-    let w = piece-range c.args.rows.now l.i p c.piece_at-piece.ensures (c.requires.1 l.i (omega arith)) in
-    record { fits = omega (arith, (l.invariant.1 (p.job - 1) (omega (arith, w))).1, c.length_of.ensures.1, c.requires.0) }
-
-pub bounds-totals-j-in-loop-i : goal.bounds-totals-j-in-loop-i
-bounds-totals-j-in-loop-i c =
-    let l = c.loop-i in
-    omega (arith, piece-range c.args.rows.now l.i _ c.piece_at-piece.ensures (c.requires.1 l.i (omega arith)))
-
 pub loop-i-preserved : goal.loop-i-preserved
 loop-i-preserved c =
     let l = c.loop-i in

@@ -1,7 +1,7 @@
 -- The rows passed so far are whole and good. A row that is read as malformed, or ends late, decides.
 use Prim.Native.Nat.{◌-◌}
 use mathlib.Core.Path.{refl, ap, ◌∙◌}
-use borrow.Author.Count.{below_none, below_more}
+use borrow.Author.Count.{below_more}
 use borrow.Author.Tests.{not-true, not-false}
 use native.Mathlib.Omega.{arith}
 use lib.IntN.{pos}
@@ -19,9 +19,6 @@ use Rattle.plan.specs.Inside.{row_of}
 use Rattle.plan.proofs.RowTests.{its-job, ends_read}
 use Rattle.plan.proofs.rows.rows_good.Goals as goal
 
-pub loop-i-init : goal.loop-i-init
-loop-i-init c = below_none _
-
 pub row_at-requires : goal.row_at-requires
 row_at-requires c =
     (few-processors c.args.order c.requires.0, few-jobs c.args.order c.requires.0, omega arith)
@@ -35,17 +32,6 @@ returns-in_default c =
     row-fails o b r l.i (omega arith)
     (malformed o b r l.i _ c.row_at.ensures c.in_default.is)
     ∙ good-back o c.args.bound r c.ranges.bound
-
-pub overflow_sub-at : goal.overflow_sub-at
-overflow_sub-at c =
-    let l = c.loop-i in
-    let read = c.row_at in
-    let o = order_of c.args.order in
-    let b = to_z w32 (of_z w32 c.args.bound) in
-    let r = c.args.rows.now in
-    let p = c.in-Some.piece in
-    let formed = well-formed o b r l.i _ read.ensures p c.in-Some.is in
-    omega (arith, its-job c.args.order (row_of p) formed)
 
 pub bounds-order-at : goal.bounds-order-at
 bounds-order-at c =

@@ -1,20 +1,13 @@
 -- The first rule that does not hold decides; the last decides alone.
-use mathlib.Core.Path.{sym, ap, ◌∙◌}
+use mathlib.Core.Path.{sym, ◌∙◌}
 use native.Mathlib.Omega.{arith}
-use mir.Syntax.{w32}
-use mir.ValLaws.{to_z-of_z}
 use Rattle.std.specs.Prelude.{ℕ, ◌≡◌}
-use Rattle.order.specs.Refusals.{bound_in_range}
 use Rattle.order.specs.Table.{order_of}
 use Rattle.order.proofs.StructLaws.{few-jobs}
 use Rattle.plan.proofs.RowRanges.{good-back, good-ranged}
 use Rattle.plan.proofs.Answers.{bad-rows, overlapping, jobs-decide}
 use Rattle.plan.proofs.rows.rows_right.Goals.{then-rows_good, else-rows_good}
 use Rattle.plan.proofs.rows.rows_right.Goals as goal
-
-pub rows_good-requires : goal.rows_good-requires
-rows_good-requires c =
-    (c.requires.0, ap bound_in_range (to_z-of_z w32 c.args.bound c.ranges.bound) ∙ c.requires.1, omega (arith, c.requires.2))
 
 pub rows_apart-requires : goal.rows_apart-requires
 rows_apart-requires c =
