@@ -1,3 +1,2 @@
 mod Counting
-mod Adding
 pub mod CallLaws

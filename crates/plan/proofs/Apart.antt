@@ -5,8 +5,7 @@ use mathlib.Core.Bool.{Bool, true, false}
 use mathlib.Core.List.{List}
 use mathlib.Core.Logic.{◌↔◌}
 use native.Mathlib.Omega.{arith}
-use lib.ListN.{length, get_or, take}
-use lib.Seq.{length-take-le}
+use lib.ListN.{length, get_or}
 use Rattle.spans.specs.Line.{key_of, Spans, AllApart}
 use Rattle.spans.specs.LineLaws.{true-is-not}
 use Rattle.plan.specs.Plan.{Apart}
@@ -14,10 +13,6 @@ use Rattle.plan.specs.Check.{row_at, rows_of, every_two, no_overlap}
 use Rattle.plan.specs.EveryLaws.{every_two-places, every_two-at}
 use Rattle.plan.proofs.RuleLaws.{no-overlap-iff}
 use Rattle.plan.specs.Inside.{Ranged}
-
--- a number lent for each row
-pub part-long : (n : ℕ) (xs : List ℕ) → n ≤ 3024 → length xs ≡ 3024 → length (take n xs) ≡ n
-part-long n xs h e = length-take-le n xs (omega arith)
 
 -- two tests that pass for the same are the same
 both_ways : (t b : Bool) → (t ≡ true → b ≡ true) → (b ≡ true → t ≡ true) → t ≡ b

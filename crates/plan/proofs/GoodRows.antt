@@ -5,41 +5,28 @@ use mathlib.Core.Path.{◌≡◌, refl, sym, ap, ◌∙◌}
 use mathlib.Core.Bool.{Bool, true, false, ◌&&◌, and_assoc, and-false}
 use mathlib.Core.List.{List}
 use native.Mathlib.Omega.{arith}
-use borrow.Author.Tests.{leb-true, leb-false, le-leb, eq-eqb, ne_eqb}
+use borrow.Author.Tests.{leb-true, leb-false, eq-eqb, ne_eqb}
 use lib.Dec.{leb}
 use lib.IntN.{ℤ}
 use lib.ListN.{length}
+use Rattle.std.specs.Prelude.{Option, Some, None}
+use Rattle.std.specs.Bool.{then_some}
 use Rattle.order.specs.Order.{Order}
 use Rattle.order.proofs.RefusalLaws.{both_true}
 use Rattle.plan.specs.Check.{row_at, rows_of, every, well_formed, by_end}
 use Rattle.plan.specs.EveryLaws.{every-places, every-fails}
 use Rattle.plan.proofs.RuleLaws.{good_row}
 use Rattle.plan.proofs.RowRanges.{all_good}
-use Rattle.plan.specs.Inside.{row_of, piece_at, row_by, row_read}
+use Rattle.plan.specs.Inside.{row_of, piece_at, row_read}
 use Rattle.plan.specs.declared.Piece.{Piece}
-use Rattle.plan.specs.declared.RowRead.{RowRead}
-use Rattle.plan.specs.declared.RowRead.TheVariants.{Good, Malformed}
 
-good-by : (b : Bool) (q p : Piece) → row_by b q ≡ Good p → (b ≡ true) × (p ≡ q)
+good-by : (b : Bool) (q p : Piece) → then_some b q ≡ Some p → (b ≡ true) × (p ≡ q)
 good-by true q p e = (refl, cc)
 good-by false q p e = let z : ◌≡◌ {A = ℕ} 0 1 = cc in absurd (omega arith)
 
-malformed-by : (b : Bool) (q : Piece) → row_by b q ≡ Malformed → b ≡ false
+malformed-by : (b : Bool) (q : Piece) → then_some b q ≡ None → b ≡ false
 malformed-by true q e = let z : ◌≡◌ {A = ℕ} 0 1 = cc in absurd (omega arith)
 malformed-by false q e = refl
-
--- a whole row is read by whether it is well formed
-module _ (o : Order) (numbers : List ℕ) (k : ℕ) (p : Piece) (w : 4 * k + 4 ≤ length numbers) (e : p ≡ piece_at numbers k) where
-  reads : (t : Bool) → well_formed o (row_of p) ≡ t → row_by t p ≡ row_read o numbers k
-  reads t h =
-      let same : well_formed o (row_at numbers k) ≡ t = ap (λ (p : Piece). well_formed o (row_of p)) (sym e) ∙ h in
-      sym (rw (le-leb (4 * k + 4) (length numbers) w, same) (ap (row_by t) (sym e)))
-
-  pub reads-good : (t : Bool) → t ≡ well_formed o (row_of p) → t ≡ true → Good p ≡ row_read o numbers k
-  reads-good t h is = reads true (sym h ∙ is)
-
-  pub reads-malformed : (t : Bool) → t ≡ well_formed o (row_of p) → t ≡ false → Malformed ≡ row_read o numbers k
-  reads-malformed t h is = reads false (sym h ∙ is)
 
 module _ (o : Order) (bound : ℤ) (numbers : List ℕ) where
   abbrev formed : ℕ → Bool
@@ -50,11 +37,11 @@ module _ (o : Order) (bound : ℤ) (numbers : List ℕ) where
   passes k = formed k && by_end o bound (row_at numbers k)
 
   -- what is read at k
-  module _ (k : ℕ) (r : RowRead) (e : r ≡ row_read o numbers k) where
-    pub malformed : r ≡ Malformed → passes k ≡ false
+  module _ (k : ℕ) (r : Option Piece) (e : r ≡ row_read o numbers k) where
+    pub malformed : r ≡ None → passes k ≡ false
     malformed m = rw (malformed-by (formed k) (piece_at numbers k) (sym e ∙ m))
 
-    module _ (p : Piece) (g : r ≡ Good p) where
+    module _ (p : Piece) (g : r ≡ Some p) where
       is-formed : formed k ≡ true
       is-formed = (good-by (formed k) (piece_at numbers k) p (sym e ∙ g)).0
 

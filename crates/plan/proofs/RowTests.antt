@@ -4,7 +4,7 @@ use Prim.Native.Nat.{ℕ, ◌-◌, ◌≤◌, ◌<◌}
 use mathlib.Core.Path.{◌≡◌, sym, ap, ◌∙◌}
 use mathlib.Core.Bool.{true, false, ◌&&◌, and-false}
 use native.Mathlib.Omega.{arith}
-use borrow.Author.Tests.{le-leb, lt-leb}
+use borrow.Author.Tests.{le-leb, lt-leb, leb-true}
 use lib.Dec.{leb, ltb}
 use lib.IntN.{ℤ, pos}
 use lib.ListN.{get_or}
@@ -19,37 +19,36 @@ use Rattle.order.specs.declared.Order.{Order as OrderTable}
 use Rattle.plan.specs.Plan.{Row}
 use Rattle.plan.specs.Check.{well_formed, by_end}
 use Rattle.plan.proofs.RuleLaws.{well-formed-iff}
+use Rattle.order.proofs.RefusalLaws.{both_true}
 use Rattle.order.proofs.StructLaws.{job-count, processor-count}
 use Rattle.plan.proofs.Orders.{job-of, memory-of}
 
 module _ (t : OrderTable) (r : Row) where
-  pub job-zero : r.job < 1 → false ≡ well_formed (order_of t) r
-  job-zero h = rw (lt-leb 1 r.job h)
+  pub no-job : (leb 1 r.job && leb r.job t.jobs) ≡ false → false ≡ well_formed (order_of t) r
+  no-job h = rw (job-count t, h)
 
-  pub job-high : t.jobs < r.job → false ≡ well_formed (order_of t) r
-  job-high h = rw (job-count t, lt-leb r.job t.jobs h, and-false (leb 1 r.job))
-
-  pub processor-zero : r.processor < 1 → false ≡ well_formed (order_of t) r
-  processor-zero h = rw (lt-leb 1 r.processor h, and-false)
-
-  pub processor-high : t.processors < r.processor → false ≡ well_formed (order_of t) r
-  processor-high h =
-      rw (processor-count t, lt-leb r.processor t.processors h, and-false (leb 1 r.processor), and-false)
+  pub no-processor : (leb 1 r.processor && leb r.processor t.processors) ≡ false → false ≡ well_formed (order_of t) r
+  no-processor h = rw (processor-count t, h, and-false)
 
   -- a row that names a job and a processor
-  module _ (j : 1 ≤ r.job) (k : r.job ≤ t.jobs) (i : 1 ≤ r.processor) (l : r.processor ≤ t.processors) where
+  module _ (a-job : (leb 1 r.job && leb r.job t.jobs) ≡ true)
+      (a-processor : (leb 1 r.processor && leb r.processor t.processors) ≡ true) where
+    j : (leb 1 r.job ≡ true) × (leb r.job t.jobs ≡ true)
+    j = both_true (leb 1 r.job) (leb r.job t.jobs) a-job
+
+    i : (leb 1 r.processor ≡ true) × (leb r.processor t.processors ≡ true)
+    i = both_true (leb 1 r.processor) (leb r.processor t.processors) a-processor
+
     names : well_formed (order_of t) r
         ≡ (leb (get_or t.needs (r.job - 1) 0) (get_or t.memories (r.processor - 1) 0) && ltb r.from r.to)
     names =
         rw (
           job-count t,
           processor-count t,
-          le-leb 1 r.job j,
-          le-leb r.job t.jobs k,
-          le-leb 1 r.processor i,
-          le-leb r.processor t.processors l,
-          job-of t r.job j k,
-          memory-of t r.processor i l,
+          a-job,
+          a-processor,
+          job-of t r.job (leb-true 1 r.job j.0) (leb-true r.job t.jobs j.1),
+          memory-of t r.processor (leb-true 1 r.processor i.0) (leb-true r.processor t.processors i.1),
         )
 
     pub unfit : get_or t.memories (r.processor - 1) 0 < get_or t.needs (r.job - 1) 0 → false ≡ well_formed (order_of t) r

@@ -36,6 +36,12 @@ module _ {A : Type 0} (test : A → Bool) where
   every-fails (suc n) f zero l h = rw h
   every-fails (suc n) f (suc i) l h = rw (every-fails n (λ i. f (suc i)) i (le_of_suc-le-suc l) h, and-false)
 
+  -- a walk over the places that ends at the first that fails
+  pub every-walked : (n : ℕ) (f : ℕ → A) (t : Bool) → (t ≡ true → (i : ℕ) → i < n → test (f i) ≡ true) →
+      (t ≡ false → (i : ℕ) × (i < n) × (test (f i) ≡ false)) → t ≡ every test (tabulate n f)
+  every-walked n f true pass fail = sym (every-places n f (pass refl))
+  every-walked n f false pass fail = let h = fail refl in sym (every-fails n f h.0 h.1 h.2)
+
   -- and what its answer says of the places
   pub every-at : (n : ℕ) (f : ℕ → A) → every test (tabulate n f) ≡ true → (i : ℕ) → i < n → test (f i) ≡ true
   every-at n f e i l =

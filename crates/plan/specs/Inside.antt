@@ -1,11 +1,10 @@
 -- What the check's inner functions answer.
-use Rattle.std.specs.Prelude.{ℕ, suc, ◌+◌, ◌*◌, ◌/◌, ◌≤◌, ◌<◌, ◌≡◌, Bool, true, false, ◌&&◌, List, leb, length, get_or}
+use Rattle.std.specs.Prelude.{ℕ, suc, ◌+◌, ◌*◌, ◌/◌, ◌≤◌, ◌<◌, ◌≡◌, ◌&&◌, List, Option, leb, length, get_or}
+use Rattle.std.specs.Bool.{then_some}
 use Rattle.order.specs.Order.{Order}
 use Rattle.plan.specs.Plan.{Row, lengths_of}
 use Rattle.plan.specs.Check.{row_at, rows_of, well_formed}
 use Rattle.plan.specs.declared.Piece.{Piece}
-use Rattle.plan.specs.declared.RowRead.{RowRead}
-use Rattle.plan.specs.declared.RowRead.TheVariants.{Good, Malformed}
 
 -- the code's row as a row of a plan
 abbrev pub row_of : Piece → Row
@@ -17,14 +16,9 @@ piece_at numbers i =
     let r = row_at numbers i in
     record { job = r.job; processor = r.processor; from = r.from; to = r.to }
 
--- a row that passes its test is good
-abbrev pub row_by : Bool → Piece → RowRead
-row_by true p = Good p
-row_by false p = Malformed
-
--- the row at a place, malformed where it is not whole or not well formed
-abbrev pub row_read : Order → List ℕ → ℕ → RowRead
-row_read o numbers i = row_by (leb (4 * i + 4) (length numbers) && well_formed o (row_at numbers i)) (piece_at numbers i)
+-- the row at a place; none where it is not whole or not well formed
+abbrev pub row_read : Order → List ℕ → ℕ → Option Piece
+row_read o numbers i = then_some (leb (4 * i + 4) (length numbers) && well_formed o (row_at numbers i)) (piece_at numbers i)
 
 -- a row that goes forward to a minute of 32 bits, of one of 48 jobs on one of 16 processors; every row is
 pub record InRange (r : Row) : Type 0 where

@@ -12,10 +12,3 @@ pub struct Piece {
     pub from: u32,
     pub to: u32,
 }
-
-// A row of lent numbers: whole and naming a job and a processor that fit, or malformed.
-#[derive(Clone, Copy)]
-pub enum RowRead {
-    Good(Piece),
-    Malformed,
-}

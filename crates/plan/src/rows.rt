@@ -10,7 +10,7 @@ ghost use Rattle.plan.specs.Plan.{Row};
 ghost use Rattle.plan.specs.Check.{rows_of, every, every_two, well_formed, by_end, no_overlap, whole_job, is_right};
 ghost use Rattle.plan.specs.Inside.{row_of, piece_at, row_read, Ranged, EachLength};
 
-use super::{Piece, RowRead};
+use super::Piece;
 use order::Order;
 
 // The four numbers of a whole row.
@@ -32,41 +32,26 @@ fn well_formed(order: Order, piece: Piece) -> bool
     requires { (order.processors ≤ 16) × (order.jobs ≤ 48) }
     ensures { result ≡ well_formed (order_of order) (row_of piece) }
 {
-    let job = piece.job;
-    let processor = piece.processor;
-    if job < 1 {
+    if !(1..=order.jobs).contains(&piece.job)
+        || !(1..=order.processors).contains(&piece.processor)
+    {
         return false;
     }
-    if order.jobs < job {
-        return false;
-    }
-    if processor < 1 {
-        return false;
-    }
-    if order.processors < processor {
-        return false;
-    }
-    let j = (job - 1) as usize;
-    let i = (processor - 1) as usize;
-    if order.memories[i] < order.needs[j] {
-        return false;
-    }
-    piece.from < piece.to
+    let need = order.needs[(piece.job - 1) as usize];
+    let memory = order.memories[(piece.processor - 1) as usize];
+    need <= memory && piece.from < piece.to
 }
 
-// The row at a place.
-fn row_at(order: Order, rows: &[u32], i: usize) -> RowRead
+// The row at a place, if it is whole and well formed.
+fn row_at(order: Order, rows: &[u32], i: usize) -> Option<Piece>
     requires { (order.processors ≤ 16) × (order.jobs ≤ 48) × (i < 8064) }
     ensures { result ≡ row_read (order_of order) rows.now i }
 {
     if rows.len() < 4 * i + 4 {
-        return RowRead::Malformed;
+        return None;
     }
     let piece = piece_at(rows, i);
-    if well_formed(order, piece) {
-        return RowRead::Good(piece);
-    }
-    RowRead::Malformed
+    well_formed(order, piece).then_some(piece)
 }
 
 // Whether a row ends by the end of a job with this due time, cut off at minute 0.
@@ -83,17 +68,14 @@ pub fn rows_good(order: Order, bound: i32, rows: &[u32]) -> bool
     ensures { result ≡ (eqb (length rows.now % 4) 0
         && every (λ (r : Row). well_formed (order_of order) r && by_end (order_of order) bound r) (rows_of rows.now)) }
 {
-    let n = (rows.len() + 3) / 4;
-    let mut i: usize = 0;
-    while i < n {
-        let RowRead::Good(piece) = row_at(order, rows, i) else {
+    for i in 0..rows.len().div_ceil(4) {
+        let Some(piece) = row_at(order, rows, i) else {
             return false;
         };
         let at = (piece.job - 1) as usize;
         if !by_end(order.dues[at], bound, piece.to) {
             return false;
         }
-        i += 1;
     }
     true
 }
@@ -103,10 +85,7 @@ pub fn apart_among(rows: &[u32], a: &mut [u16]) -> bool
     requires { (length rows.now ≤ 32256) × (length a.old ≡ length rows.now / 4) × Ranged rows.now }
     ensures { result ≡ every_two no_overlap (rows_of rows.now) }
 {
-    if !spans::apart_by(rows, 0, a) {
-        return false;
-    }
-    spans::apart_by(rows, 1, a)
+    spans::apart_by(rows, 0, a) && spans::apart_by(rows, 1, a)
 }
 
 // Whether no two rows overlap that share a job or a processor.
@@ -124,7 +103,7 @@ fn length_of(piece: Piece) -> u64
     requires { piece.from < piece.to }
     ensures { (result ≡ piece.to - piece.from) × (result < 4294967296) }
 {
-    (piece.to - piece.from) as u64
+    u64::from(piece.to - piece.from)
 }
 
 // The lengths of each job's rows, added up.
@@ -132,15 +111,11 @@ fn job_lengths(rows: &[u32]) -> [u64; 48]
     requires { (length rows.now ≤ 32256) × Ranged rows.now }
     ensures { EachLength result rows.now }
 {
-    let n = rows.len() / 4;
     let mut totals = [0u64; 48];
-    let mut i: usize = 0;
-    while i < n {
+    for i in 0..rows.len() / 4 {
         let piece = piece_at(rows, i);
         let j = (piece.job - 1) as usize;
-        let more = totals[j] + length_of(piece);
-        totals[j] = more;
-        i += 1;
+        totals[j] += length_of(piece);
     }
     totals
 }
@@ -152,16 +127,7 @@ pub fn jobs_whole(order: Order, rows: &[u32]) -> bool
         (tabulate (job_count (order_of order)) suc) }
 {
     let totals = job_lengths(rows);
-    let n = order.jobs as usize;
-    let mut j: usize = 0;
-    while j < n {
-        let time = order.times[j] as u64;
-        if totals[j] != time {
-            return false;
-        }
-        j += 1;
-    }
-    true
+    (0..order.jobs as usize).all(|j| totals[j] == u64::from(order.times[j]))
 }
 
 // Whether the rows are a right plan: the four rules, one after the other.
@@ -169,11 +135,5 @@ pub fn rows_right(order: Order, bound: i32, rows: &[u32]) -> bool
     requires { Accepted (order_of order) × (bound_in_range bound ≡ true) × (length rows.now ≤ 12096) }
     ensures { result ≡ is_right (order_of order) bound rows.now }
 {
-    if !rows_good(order, bound, rows) {
-        return false;
-    }
-    if !rows_apart(rows) {
-        return false;
-    }
-    jobs_whole(order, rows)
+    rows_good(order, bound, rows) && rows_apart(rows) && jobs_whole(order, rows)
 }

@@ -1,3 +1,2 @@
-mod Zeros
 mod Planned
 mod ReadAt

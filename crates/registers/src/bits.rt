@@ -1,18 +1,8 @@
 // The bits of bytes 1 and 3. Their unnamed bits stay as they are.
-ghost use Rattle.std.specs.Prelude.{◌≡◌, not, ◌&&◌, ◌||◌, ◌≤◌};
-ghost use Rattle.registers.specs.Registers.{bit};
+ghost use Rattle.std.specs.Prelude.{◌≡◌};
 ghost use Rattle.registers.specs.Memory.{flags_in, with_flags, with_allowed};
 
 use super::Flags;
-
-fn bit_of(on: bool) -> u8
-    ensures { (result ≡ bit on) × (result ≤ 1) }
-{
-    if on {
-        return 1;
-    }
-    0
-}
 
 // The flags of a byte.
 pub fn flags_in(byte: u8) -> Flags
@@ -29,7 +19,10 @@ pub fn flags_in(byte: u8) -> Flags
 pub fn with_flags(byte: u8, flags: Flags) -> u8
     ensures { result ≡ with_flags byte flags }
 {
-    byte / 8 * 8 + bit_of(flags.done) + 2 * bit_of(flags.refused) + 4 * bit_of(flags.interrupt)
+    byte / 8 * 8
+        + u8::from(flags.done)
+        + 2 * u8::from(flags.refused)
+        + 4 * u8::from(flags.interrupt)
 }
 
 // Byte 3 with the bit that is written.
@@ -37,24 +30,4 @@ pub fn with_allowed(byte: u8, written: u8) -> u8
     ensures { result ≡ with_allowed byte written }
 {
     byte / 2 * 2 + written % 2
-}
-
-// Whether a bit stays set: "writing a 1 clears that bit".
-pub fn unless(held: bool, written: bool) -> bool
-    ensures { result ≡ held && not written }
-{
-    if held {
-        return !written;
-    }
-    false
-}
-
-// The interrupt after a command: set if it was, or if it is allowed.
-pub fn either(held: bool, allowed: bool) -> bool
-    ensures { result ≡ held || allowed }
-{
-    if held {
-        return true;
-    }
-    allowed
 }

@@ -6,9 +6,10 @@ use super::Block;
 pub fn cleared() -> Block
     ensures { (result.bytes ≡ replicate 256 0) × (result.rows ≡ replicate 720 0) }
 {
-    let bytes = [0u8; 256];
-    let rows = [0u32; 720];
-    Block { bytes, rows }
+    Block {
+        bytes: [0; 256],
+        rows: [0; 720],
+    }
 }
 
 // "Clear makes all bytes 0."
@@ -16,11 +17,7 @@ pub fn clear_bytes(bytes: &mut [u8])
     requires { 256 ≤ length bytes.old }
     ensures { bytes.new ≡ replicate 256 0 ++ drop 256 bytes.old }
 {
-    let mut i: usize = 0;
-    while i < 256 {
-        bytes[i] = 0;
-        i += 1;
-    }
+    bytes[..256].fill(0);
 }
 
 // No row is held: so many numbers are 0.
@@ -28,9 +25,5 @@ pub fn clear_rows(rows: &mut [u32], count: usize)
     requires { count ≤ length rows.old }
     ensures { rows.new ≡ replicate count 0 ++ drop count rows.old }
 {
-    let mut i: usize = 0;
-    while i < count {
-        rows[i] = 0;
-        i += 1;
-    }
+    rows[..count].fill(0);
 }

@@ -7,13 +7,7 @@ ghost use Rattle.registers.specs.Memory.{lateness_put};
 pub fn byte_of(number: u32, which: usize) -> u8
     ensures { result ≡ get_or (bytes4 number) which 0 }
 {
-    match which {
-        0 => (number % 256) as u8,
-        1 => (number / 256 % 256) as u8,
-        2 => (number / 65536 % 256) as u8,
-        3 => (number / 16777216 % 256) as u8,
-        _ => 0,
-    }
+    number.to_le_bytes().get(which).copied().unwrap_or(0)
 }
 
 // Bytes 12 to 15.
@@ -21,8 +15,5 @@ pub fn put_lateness(bytes: &mut [u8], number: u32)
     requires { 256 ≤ length bytes.old }
     ensures { bytes.new ≡ lateness_put bytes.old number }
 {
-    bytes[12] = (number % 256) as u8;
-    bytes[13] = (number / 256 % 256) as u8;
-    bytes[14] = (number / 65536 % 256) as u8;
-    bytes[15] = (number / 16777216 % 256) as u8;
+    bytes[12..16].copy_from_slice(&number.to_le_bytes());
 }

@@ -3,7 +3,7 @@ ghost use Rattle.std.specs.Prelude.{◌≤◌, length};
 ghost use Rattle.registers.specs.Registers.{begun, refused_with};
 ghost use Rattle.registers.specs.Memory.{Moved, finished_at, concluded};
 
-use super::bits::{either, flags_in, with_flags};
+use super::bits::{flags_in, with_flags};
 use super::numbers::put_lateness;
 use super::Flags;
 use order_file::bytes::to_pattern;
@@ -33,7 +33,7 @@ fn finish(bytes: &mut [u8], lateness: i32)
     let flags = Flags {
         done: true,
         refused: held.refused,
-        interrupt: either(held.interrupt, bytes[3] % 2 == 1),
+        interrupt: held.interrupt || bytes[3] % 2 == 1,
     };
     bytes[1] = with_flags(bytes[1], flags);
     put_lateness(bytes, to_pattern(lateness));
@@ -48,7 +48,7 @@ fn refuse(bytes: &mut [u8], number: u8)
     let flags = Flags {
         done: held.done,
         refused: true,
-        interrupt: either(held.interrupt, bytes[3] % 2 == 1),
+        interrupt: held.interrupt || bytes[3] % 2 == 1,
     };
     bytes[1] = with_flags(bytes[1], flags);
     bytes[2] = number;

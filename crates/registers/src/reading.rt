@@ -49,17 +49,8 @@ pub fn read_in(bytes: &[u8], rows: &[u32], address: u8) -> u8
     }
 }
 
-// A read of the arrays of a block.
-fn read_arrays(bytes: [u8; 256], rows: [u32; 720], address: u8) -> u8
-    ensures { result ≡ read_at (registers_of bytes rows) address }
-{
-    read_in(&bytes, &rows, address)
-}
-
 pub fn read(block: Block, address: u8) -> u8
     ensures { result ≡ read_at (registers_of block.bytes block.rows) address }
 {
-    let bytes = block.bytes;
-    let rows = block.rows;
-    read_arrays(bytes, rows, address)
+    read_in(&block.bytes, &block.rows, address)
 }

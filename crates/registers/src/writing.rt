@@ -4,7 +4,7 @@ ghost use Rattle.registers.specs.Registers.{place_of, acknowledged, allowing, st
 ghost use Rattle.registers.specs.declared.Place.TheVariants.{Stored};
 ghost use Rattle.registers.specs.Memory.{Moved, WroteIn};
 
-use super::bits::{flags_in, unless, with_allowed, with_flags};
+use super::bits::{flags_in, with_allowed, with_flags};
 use super::commands::command;
 use super::places::place_of;
 use super::{Block, Flags, Place};
@@ -17,9 +17,9 @@ fn acknowledge(bytes: &mut [u8], written: u8)
     let held = flags_in(bytes[1]);
     let ones = flags_in(written);
     let flags = Flags {
-        done: unless(held.done, ones.done),
-        refused: unless(held.refused, ones.refused),
-        interrupt: unless(held.interrupt, ones.interrupt),
+        done: held.done && !ones.done,
+        refused: held.refused && !ones.refused,
+        interrupt: held.interrupt && !ones.interrupt,
     };
     bytes[1] = with_flags(bytes[1], flags);
 }
@@ -58,23 +58,10 @@ pub fn write_in(bytes: &mut [u8], rows: &mut [u32], address: u8, value: u8)
     }
 }
 
-// A write to the arrays of a block.
-fn write_arrays(bytes: [u8; 256], rows: [u32; 720], address: u8, value: u8) -> Block
-    ensures { WroteIn address value bytes rows result.bytes result.rows }
-{
-    let mut held_bytes = bytes;
-    let mut held_rows = rows;
-    write_in(&mut held_bytes, &mut held_rows, address, value);
-    Block {
-        bytes: held_bytes,
-        rows: held_rows,
-    }
-}
-
 pub fn write(block: Block, address: u8, value: u8) -> Block
     ensures { WroteIn address value block.bytes block.rows result.bytes result.rows }
 {
-    let bytes = block.bytes;
-    let rows = block.rows;
-    write_arrays(bytes, rows, address, value)
+    let mut after = block;
+    write_in(&mut after.bytes, &mut after.rows, address, value);
+    after
 }

@@ -2,4 +2,4 @@ pub mod Heap
 pub mod Drain
 pub mod Line
 pub mod LineLaws
-pub mod TurnLaws
+pub mod Turn

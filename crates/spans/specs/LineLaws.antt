@@ -1,6 +1,6 @@
 -- Rows on the line: two are apart exactly if they are clear of each other, and of rows in the order of their starts all are
 -- clear exactly if each is clear of the next.
-use Rattle.std.specs.Prelude.{ℕ, suc, ◌+◌, ◌-◌, ◌/◌, ◌≤◌, ◌<◌, ◌≡◌, Bool, true, false, List, ◌↔◌, leb, length, get_or}
+use Rattle.std.specs.Prelude.{ℕ, suc, ◌-◌, ◌/◌, ◌≤◌, ◌<◌, ◌≡◌, Bool, true, false, List, ◌↔◌, leb, length, get_or}
 use Rattle.std.proofs.Common.{sym, ap, ◌∙◌, subst, inl, inr, arith, leb-true, le-leb}
 use Rattle.std.proofs.Math.Bool.{or_comm, or-true}
 use Rattle.std.proofs.Math.Decide.{ℕ_discrete, dec_lt, dec_le}
@@ -96,32 +96,21 @@ module _ (numbers : List ℕ) (by : ℕ) where
         λ p. h.1 (rearranged-two (clear numbers by) clear-sym (up_to count) xs (λ f. sym (s f)) (all-clear p)),
       )
 
-  -- each of the first i stops by the start of the next of them
-  abbrev pub Linked : List ℕ → ℕ → Type 0
-  Linked xs i = (k : ℕ) → suc k < i → at stop xs k ≤ at start xs (suc k)
-
-  pub linked-one : (xs : List ℕ) → Linked xs 1
-  linked-one xs k l = absurd (omega arith)
-
-  pub linked-more : (xs : List ℕ) (i : ℕ) → Linked xs i → 1 ≤ i → at stop xs (i - 1) ≤ at start xs i → Linked xs (i + 1)
-  linked-more xs i h l m k b =
-      elim (dec_lt (suc k) i) [
-        | yes c ↦ h k c
-        | no c ↦
-            let e : k ≡ i - 1 = omega arith in
-            let f : suc k ≡ i = omega arith in
-            omega (arith, ap (at stop xs) e, ap (at start xs) f)
-      ]
+  -- each starts where the one before has stopped, or later
+  abbrev pub Linked : List ℕ → Type 0
+  Linked xs = (i : ℕ) → 1 ≤ i → i < length xs → at stop xs (i - 1) ≤ at start xs i
 
   module _ (xs : List ℕ) (spans : All (Span numbers by) xs) (rising : Sorted start xs) where
-    pub linked-clear : (n : ℕ) → Linked xs n → length xs ≤ n → Pairwise Clear xs
-    linked-clear n h l = Pairwise-from Clear xs 0 (λ i k a b. rw (le-leb (at stop xs i) (at start xs k) (far i k a b)))
+    pub linked-clear : Linked xs → Pairwise Clear xs
+    linked-clear h = Pairwise-from Clear xs 0 (λ i k a b. rw (le-leb (at stop xs i) (at start xs k) (far i k a b)))
       where
         far : (i k : ℕ) → i < k → k < length xs → at stop xs i ≤ at start xs k
         far i k a b =
+            let is : suc i - 1 ≡ i = omega arith in
+            let next = h (suc i) (omega arith) (omega arith) in
             elim (ℕ_discrete (suc i) k) [
-              | yes e ↦ omega (arith, ap (at start xs) e, h i (omega arith))
-              | no ne ↦ omega (arith, h i (omega arith), rising (suc i) k (omega arith) b)
+              | yes e ↦ omega (arith, ap (at start xs) e, ap (at stop xs) is, next)
+              | no ne ↦ omega (arith, ap (at stop xs) is, next, rising (suc i) k (omega arith) b)
             ]
 
     pub linked-not : (i : ℕ) → 1 ≤ i → i < length xs → at start xs i < at stop xs (i - 1) → Pairwise Clear xs → ⊥

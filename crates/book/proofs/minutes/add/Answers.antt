@@ -1,22 +1,20 @@
--- `add`: the invariant is that the places before i hold the sums, the others 0.
+-- `add`: no sum is over the limit, and so each fits.
+use Rattle.std.specs.Prelude.{ℕ, ◌+◌, ◌<◌, ◌≡◌, List, false, get_or}
+use Rattle.std.proofs.Common.{rules, arith}
+use Rattle.std.proofs.iter.Serving.{serving}
+use Rattle.sums.specs.FromFn.{from_fn-list}
+use Rattle.book.specs.Book.{added, some_over}
 use Rattle.book.specs.BookLaws.{added-few}
-use Rattle.book.proofs.Adding.{no-sum, one-sum-more, all-sums}
-use borrow.Author.Rules.{rules}
-use native.Mathlib.Omega.{arith}
 use Rattle.book.proofs.minutes.add.Goals as goal
 
-pub loop-i-init : goal.loop-i-init
-loop-i-init c = (search rules, no-sum c.args.counts c.args.minutes)
+fits : (counts minutes : List ℕ) (i : ℕ) → some_over (added counts minutes) ≡ false → i < 16 →
+    get_or counts i 0 + get_or minutes i 0 < 4294967296
+fits counts minutes i h l = omega (arith, added-few counts minutes h i l)
 
-pub overflow_add-r : goal.overflow_add-r
-overflow_add-r c =
-    let h = added-few c.args.counts c.args.minutes c.requires c.loop-i.i (omega arith) in
-    search rules
-
-pub loop-i-preserved : goal.loop-i-preserved
-loop-i-preserved c =
-    (search rules, one-sum-more c.args.counts c.args.minutes _ _ c.loop-i.invariant.1 (omega arith))
+pub from_fn-requires : goal.from_fn-requires
+from_fn-requires c = grind (arith, serving, fits)
 
 pub returns : goal.returns
+unfolding added
 returns c =
-    all-sums c.args.counts c.args.minutes c.loop-i.i _ c.loop-i.invariant.1 (omega arith)
+    from_fn-list _ _ (λ i. get_or c.args.counts i 0 + get_or c.args.minutes i 0) _ (λ i y q l k. search rules) c.from_fn.ensures.items

@@ -1,35 +1,22 @@
--- `is_full`: the invariant is that no count before i is over.
-use borrow.Author.Count.{below_none, below_more}
-use mathlib.Core.Path.{sym}
-use Rattle.book.proofs.Adding.{sum_at, at-most-each}
-use Rattle.book.specs.Book.{added}
+-- `is_full`: a count with its minutes is over, or none is.
+use Rattle.std.specs.Prelude.{ℕ, ◌+◌, ◌<◌, ◌≤◌, ◌≡◌, Bool, List, true, false, get_or}
+use Rattle.std.proofs.Common.{refl, sym, rules}
+use Rattle.std.proofs.iter.runs.Made.{chains}
+use Rattle.book.specs.Book.{added, most_booked, some_over}
 use Rattle.book.specs.BookLaws.{some-over, none_over}
-use borrow.Author.Rules.{rules}
-use native.Mathlib.Omega.{arith}
 use Rattle.book.proofs.minutes.is_full.Goals as goal
 
-pub loop-i-init : goal.loop-i-init
-loop-i-init c = (search rules, below_none _)
+-- a count with its minutes
+abbrev sum_at : (counts minutes : List ℕ) → ℕ → ℕ
+sum_at counts minutes i = get_or counts i 0 + get_or minutes i 0
 
-pub overflow_sub-minutes : goal.overflow_sub-minutes
-overflow_sub-minutes c =
-    let few = at-most-each c.args.minutes 4800000 c.requires c.loop-i.i in
-    search rules
-
-pub returns-then-minutes-i : goal.returns-then-minutes-i
+told : (counts minutes : List ℕ) (t : Bool) →
+    (t ≡ true → (i : ℕ) × (i < 16) × (most_booked < sum_at counts minutes i)) →
+    (t ≡ false → (i : ℕ) → i < 16 → sum_at counts minutes i ≤ most_booked) →
+    t ≡ some_over (added counts minutes)
 unfolding added
-returns-then-minutes-i c =
-    let i = c.loop-i.i in
-    let few = at-most-each c.args.minutes 4800000 c.requires i in
-    sym (some-over 16 (sum_at c.args.counts c.args.minutes) i (omega arith) (omega arith))
-
-pub loop-i-preserved : goal.loop-i-preserved
-loop-i-preserved c =
-    let i = c.loop-i.i in
-    let few = at-most-each c.args.minutes 4800000 c.requires i in
-    (search rules, below_more _ _ c.loop-i.invariant.1 (omega arith))
+told counts minutes true over few = let h = over refl in sym (some-over 16 (sum_at counts minutes) h.0 h.1 h.2)
+told counts minutes false over few = sym (none_over 16 (sum_at counts minutes) (few refl))
 
 pub returns : goal.returns
-unfolding added
-returns c =
-    sym (none_over 16 (sum_at c.args.counts c.args.minutes) (λ k l. c.loop-i.invariant.1 k (omega arith)))
+returns c = told c.args.counts c.args.minutes _ (search (rules, chains)) (search (rules, chains))

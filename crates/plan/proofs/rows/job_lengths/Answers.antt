@@ -2,40 +2,12 @@
 use Prim.Native.Nat.{◌-◌, ◌/◌}
 use mathlib.Core.Path.{◌≡◌, refl, ◌∙◌}
 use native.Mathlib.Omega.{arith}
-use borrow.Author.Rules.{rules}
 use lib.ListN.{length, length-set}
 use Rattle.plan.proofs.Lengths.{totals-none, totals-more, totals-all, piece-range}
 use Rattle.plan.proofs.rows.job_lengths.Goals as goal
 
 pub loop-i-init : goal.loop-i-init
-loop-i-init c = (omega arith, refl, totals-none c.args.rows.now)
-
-pub overflow_sub-j : goal.overflow_sub-j
-overflow_sub-j c =
-    let l = c.loop-i in
-    omega (arith, piece-range c.args.rows.now l.i _ c.piece_at-piece.ensures (c.requires.1 l.i (omega arith)))
-
-pub bounds-totals-j : goal.bounds-totals-j
-bounds-totals-j c =
-    let l = c.loop-i in
-    omega (arith, piece-range c.args.rows.now l.i _ c.piece_at-piece.ensures (c.requires.1 l.i (omega arith)))
-
-pub length_of-requires : goal.length_of-requires
-length_of-requires c =
-    let l = c.loop-i in
-    (piece-range c.args.rows.now l.i _ c.piece_at-piece.ensures (c.requires.1 l.i (omega arith))).0
-
-pub overflow_add-more : goal.overflow_add-more
-overflow_add-more c =
-    let l = c.loop-i in
-    let p = c.piece_at-piece.result in
-    let w = piece-range c.args.rows.now l.i p c.piece_at-piece.ensures (c.requires.1 l.i (omega arith)) in
-    record { fits = omega (arith, (l.invariant.2 (p.job - 1) (omega (arith, w))).1, c.length_of.ensures.1, c.requires.0, l.invariant.0) }
-
-pub bounds-totals-j-in-loop-i : goal.bounds-totals-j-in-loop-i
-bounds-totals-j-in-loop-i c =
-    let l = c.loop-i in
-    omega (arith, piece-range c.args.rows.now l.i _ c.piece_at-piece.ensures (c.requires.1 l.i (omega arith)))
+loop-i-init c = (refl, totals-none c.args.rows.now)
 
 pub loop-i-preserved : goal.loop-i-preserved
 loop-i-preserved c =
@@ -43,9 +15,8 @@ loop-i-preserved c =
     let p = c.piece_at-piece.result in
     let w = piece-range c.args.rows.now l.i p c.piece_at-piece.ensures (c.requires.1 l.i (omega arith)) in
     let h = c.length_of.ensures in (
-      search rules,
-      length-set l.totals (p.job - 1) _ ∙ l.invariant.1,
-      totals-more c.args.rows.now l.totals l.i (p.job - 1) _ p l.invariant.1 l.invariant.2
+      length-set l.totals (p.job - 1) _ ∙ l.invariant.0,
+      totals-more c.args.rows.now l.totals l.i (p.job - 1) _ p l.invariant.0 l.invariant.1
           c.piece_at-piece.ensures h.0 h.1 (omega (arith, w)) (omega (arith, w)),
     )
 
@@ -53,4 +24,4 @@ pub returns : goal.returns
 returns c =
     let l = c.loop-i in
     let e : l.i ≡ length c.args.rows.now / 4 = omega arith in
-    totals-all c.args.rows.now l.totals l.i e l.invariant.2
+    totals-all c.args.rows.now l.totals l.i e l.invariant.1

@@ -1,8 +1,7 @@
 -- The rows passed so far are whole and good. A row that is read as malformed, or ends late, decides.
 use Prim.Native.Nat.{◌-◌}
 use mathlib.Core.Path.{refl, ap, ◌∙◌}
-use borrow.Author.Count.{below_none, below_more}
-use borrow.Author.Rules.{rules}
+use borrow.Author.Count.{below_more}
 use borrow.Author.Tests.{not-true, not-false}
 use native.Mathlib.Omega.{arith}
 use lib.IntN.{pos}
@@ -20,9 +19,6 @@ use Rattle.plan.specs.Inside.{row_of}
 use Rattle.plan.proofs.RowTests.{its-job, ends_read}
 use Rattle.plan.proofs.rows.rows_good.Goals as goal
 
-pub loop-i-init : goal.loop-i-init
-loop-i-init c = (search rules, below_none _)
-
 pub row_at-requires : goal.row_at-requires
 row_at-requires c =
     (few-processors c.args.order c.requires.0, few-jobs c.args.order c.requires.0, omega arith)
@@ -37,17 +33,6 @@ returns-in_default c =
     (malformed o b r l.i _ c.row_at.ensures c.in_default.is)
     ∙ good-back o c.args.bound r c.ranges.bound
 
-pub overflow_sub-at : goal.overflow_sub-at
-overflow_sub-at c =
-    let l = c.loop-i in
-    let read = c.row_at in
-    let o = order_of c.args.order in
-    let b = to_z w32 (of_z w32 c.args.bound) in
-    let r = c.args.rows.now in
-    let p = c.in-Good.piece in
-    let formed = well-formed o b r l.i _ read.ensures p c.in-Good.is in
-    omega (arith, its-job c.args.order (row_of p) formed)
-
 pub bounds-order-at : goal.bounds-order-at
 bounds-order-at c =
     let l = c.loop-i in
@@ -55,8 +40,8 @@ bounds-order-at c =
     let o = order_of c.args.order in
     let b = to_z w32 (of_z w32 c.args.bound) in
     let r = c.args.rows.now in
-    let p = c.in-Good.piece in
-    let formed = well-formed o b r l.i _ read.ensures p c.in-Good.is in
+    let p = c.in-Some.piece in
+    let formed = well-formed o b r l.i _ read.ensures p c.in-Some.is in
     omega (arith, its-job c.args.order (row_of p) formed, few-jobs c.args.order c.requires.0)
 
 pub by_end-requires : goal.by_end-requires
@@ -66,8 +51,8 @@ by_end-requires c =
     let o = order_of c.args.order in
     let b = to_z w32 (of_z w32 c.args.bound) in
     let r = c.args.rows.now in
-    let p = c.in-Good.piece in
-    let formed = well-formed o b r l.i _ read.ensures p c.in-Good.is in
+    let p = c.in-Some.piece in
+    let formed = well-formed o b r l.i _ read.ensures p c.in-Some.is in
     let j = p.job - 1 in (
       ap due_in_range (machine-back (get_or c.args.order.dues j (pos 0)) c.by_end-arg-1.given)
           ∙ due-in-range-at c.args.order c.requires.0 j (omega (arith, its-job c.args.order (row_of p) formed)),
@@ -81,10 +66,10 @@ returns-then-not-by_end c =
     let o = order_of c.args.order in
     let b = to_z w32 (of_z w32 c.args.bound) in
     let r = c.args.rows.now in
-    let p = c.in-Good.piece in
-    let formed = well-formed o b r l.i _ read.ensures p c.in-Good.is in
+    let p = c.in-Some.piece in
+    let formed = well-formed o b r l.i _ read.ensures p c.in-Some.is in
     row-fails o b r l.i (omega arith)
-    (by-its-end o b r l.i _ read.ensures p c.in-Good.is _ _
+    (by-its-end o b r l.i _ read.ensures p c.in-Some.is _ _
     (c.by_end.ensures ∙ ends_read c.args.order (row_of p) formed b (get_or c.args.order.dues (p.job - 1) (pos 0)) refl
     c.by_end-arg-1.given) (not-true _ c.if-not-by_end.true-raw))
     ∙ good-back o c.args.bound r c.ranges.bound
@@ -96,18 +81,16 @@ loop-i-preserved c =
     let o = order_of c.args.order in
     let b = to_z w32 (of_z w32 c.args.bound) in
     let r = c.args.rows.now in
-    let p = c.in-Good.piece in
-    let formed = well-formed o b r l.i _ read.ensures p c.in-Good.is in (
-      search rules,
-      below_more _ _ l.invariant.1
-          (by-its-end o b r l.i _ read.ensures p c.in-Good.is _ _
-          (c.by_end.ensures ∙ ends_read c.args.order (row_of p) formed b (get_or c.args.order.dues (p.job - 1) (pos 0)) refl
-          c.by_end-arg-1.given) (not-false _ c.if-not-by_end.false-raw)),
-    )
+    let p = c.in-Some.piece in
+    let formed = well-formed o b r l.i _ read.ensures p c.in-Some.is in
+    below_more _ _ l.invariant
+    (by-its-end o b r l.i _ read.ensures p c.in-Some.is _ _
+    (c.by_end.ensures ∙ ends_read c.args.order (row_of p) formed b (get_or c.args.order.dues (p.job - 1) (pos 0)) refl
+    c.by_end-arg-1.given) (not-false _ c.if-not-by_end.false-raw))
 
 pub returns : goal.returns
 returns c =
     let o = order_of c.args.order in
     let b = to_z w32 (of_z w32 c.args.bound) in
     let r = c.args.rows.now in
-    rows_pass o b r (λ k l. c.loop-i.invariant.1 k (omega arith)) ∙ good-back o c.args.bound r c.ranges.bound
+    rows_pass o b r (λ k l. c.loop-i.invariant k (omega arith)) ∙ good-back o c.args.bound r c.ranges.bound

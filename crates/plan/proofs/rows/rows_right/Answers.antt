@@ -1,58 +1,54 @@
 -- The first rule that does not hold decides; the last decides alone.
-use mathlib.Core.Path.{sym, ap, ◌∙◌}
+use mathlib.Core.Path.{sym, ◌∙◌}
 use native.Mathlib.Omega.{arith}
-use borrow.Author.Tests.{not-true, not-false}
-use mir.Syntax.{w32}
-use mir.ValLaws.{to_z-of_z}
-use Rattle.order.specs.Refusals.{bound_in_range}
+use Rattle.std.specs.Prelude.{ℕ, ◌≡◌}
 use Rattle.order.specs.Table.{order_of}
 use Rattle.order.proofs.StructLaws.{few-jobs}
 use Rattle.plan.proofs.RowRanges.{good-back, good-ranged}
 use Rattle.plan.proofs.Answers.{bad-rows, overlapping, jobs-decide}
+use Rattle.plan.proofs.rows.rows_right.Goals.{then-rows_good, else-rows_good}
 use Rattle.plan.proofs.rows.rows_right.Goals as goal
-
-pub rows_good-requires : goal.rows_good-requires
-rows_good-requires c =
-    (c.requires.0, ap bound_in_range (to_z-of_z w32 c.args.bound c.ranges.bound) ∙ c.requires.1, omega (arith, c.requires.2))
-
-pub returns-then-not-rows_good : goal.returns-then-not-rows_good
-returns-then-not-rows_good c =
-    let o = order_of c.args.order in
-    let r = c.args.rows.now in
-    bad-rows o c.args.bound r _
-    (c.rows_good.ensures ∙ good-back o c.args.bound r c.ranges.bound)
-    (not-true _ c.if-not-rows_good.true-raw)
 
 pub rows_apart-requires : goal.rows_apart-requires
 rows_apart-requires c =
     let o = order_of c.args.order in
     let r = c.args.rows.now in
     let is = c.rows_good.ensures ∙ good-back o c.args.bound r c.ranges.bound in
-    (c.requires.2, good-ranged o c.args.bound c.requires.0 c.requires.1 r (sym is ∙ not-false _ c.if-not-rows_good.false-raw))
-
-pub returns-then-not-rows_apart : goal.returns-then-not-rows_apart
-returns-then-not-rows_apart c =
-    let o = order_of c.args.order in
-    let r = c.args.rows.now in
-    overlapping o c.args.bound r _
-    (c.rows_good.ensures ∙ good-back o c.args.bound r c.ranges.bound)
-    (not-false _ c.if-not-rows_good.false-raw) _ c.rows_apart.ensures (not-true _ c.if-not-rows_apart.true-raw)
+    (c.requires.2, good-ranged o c.args.bound c.requires.0 c.requires.1 r (sym is ∙ c.if-rows_good.true))
 
 pub jobs_whole-requires : goal.jobs_whole-requires
 jobs_whole-requires c =
     let o = order_of c.args.order in
     let r = c.args.rows.now in
-    let is = c.rows_good.ensures ∙ good-back o c.args.bound r c.ranges.bound in (
-      few-jobs c.args.order c.requires.0,
-      omega (arith, c.requires.2),
-      good-ranged o c.args.bound c.requires.0 c.requires.1 r (sym is ∙ not-false _ c.if-not-rows_good.false-raw),
-    )
+    let is = c.rows_good.ensures ∙ good-back o c.args.bound r c.ranges.bound in
+    elim c.if-rows_good.branch [
+      | then-rows_good w ↦ (
+        few-jobs c.args.order c.requires.0,
+        omega (arith, c.requires.2),
+        good-ranged o c.args.bound c.requires.0 c.requires.1 r (sym is ∙ w.if-rows_good.true),
+      )
+      | else-rows_good w ↦ let z : ◌≡◌ {A = ℕ} 0 1 = cc in absurd (omega arith)
+    ]
 
-pub returns : goal.returns
-returns c =
+pub returns-then-rows_apart : goal.returns-then-rows_apart
+returns-then-rows_apart c =
     let o = order_of c.args.order in
     let r = c.args.rows.now in
-    jobs-decide o c.args.bound r _
-    (c.rows_good.ensures ∙ good-back o c.args.bound r c.ranges.bound)
-    (not-false _ c.if-not-rows_good.false-raw) _ c.rows_apart.ensures
-    (not-false _ c.if-not-rows_apart.false-raw) _ c.jobs_whole.ensures
+    let is = c.rows_good.ensures ∙ good-back o c.args.bound r c.ranges.bound in
+    elim c.if-rows_good.branch [
+      | then-rows_good w ↦
+          jobs-decide o c.args.bound r _ is w.if-rows_good.true _ w.rows_apart.ensures
+          (sym w.value-is ∙ c.if-rows_apart.true) _ c.jobs_whole.ensures
+      | else-rows_good w ↦ let z : ◌≡◌ {A = ℕ} 0 1 = cc in absurd (omega arith)
+    ]
+
+pub returns-else-rows_apart : goal.returns-else-rows_apart
+returns-else-rows_apart c =
+    let o = order_of c.args.order in
+    let r = c.args.rows.now in
+    let is = c.rows_good.ensures ∙ good-back o c.args.bound r c.ranges.bound in
+    c.if-rows_apart.false ∙ elim c.if-rows_good.branch [
+      | then-rows_good w ↦
+          overlapping o c.args.bound r _ is w.if-rows_good.true _ w.rows_apart.ensures (sym w.value-is ∙ c.if-rows_apart.false)
+      | else-rows_good w ↦ bad-rows o c.args.bound r _ is w.if-rows_good.false
+    ]

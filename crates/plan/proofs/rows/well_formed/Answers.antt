@@ -1,29 +1,37 @@
--- Each test that fails is a rule of a well-formed row; past them all, `from < to` decides.
-use native.Mathlib.Omega.{arith}
+-- A row that names no job or no processor is not well formed; of one that does, the need, the memory and the minutes decide.
+use Rattle.std.specs.Prelude.{◌≡◌, true, false, ◌&&◌, leb}
+use Rattle.std.proofs.Common.{rules, ◌∙◌}
+use Rattle.std.proofs.lemmas.Bool.{lt-leb}
 use Rattle.plan.specs.Inside.{row_of}
-use Rattle.plan.proofs.RowTests.{job-zero, job-high, processor-zero, processor-high, unfit, fit}
+use Rattle.plan.proofs.RowTests.{no-job, no-processor, unfit, fit}
+use Rattle.plan.proofs.rows.well_formed.Goals.{then-not-contains-via-then-not-contains, then-not-contains-via-else-not-contains+then-not-contains-2}
 use Rattle.plan.proofs.rows.well_formed.Goals as goal
 
-pub returns-then-job-lt1 : goal.returns-then-job-lt1
-returns-then-job-lt1 c =
-    job-zero c.args.order (row_of c.args.piece) c.if-job-lt1.true
+pub returns-then-not-contains : goal.returns-then-not-contains
+returns-then-not-contains c =
+    let t = c.args.order in
+    let r = row_of c.args.piece in
+    elim c.then-not-contains.branch [
+      | then-not-contains-via-then-not-contains w ↦
+          let none : (leb 1 r.job && leb r.job t.jobs) ≡ false = search rules in
+          no-job t r none
+      | then-not-contains-via-else-not-contains+then-not-contains-2 w ↦
+          let none : (leb 1 r.processor && leb r.processor t.processors) ≡ false = search rules in
+          no-processor t r none
+    ]
 
-pub returns-then-order-job : goal.returns-then-order-job
-returns-then-order-job c =
-    job-high c.args.order (row_of c.args.piece) c.if-order-job.true
+pub returns-then-need-memory : goal.returns-then-need-memory
+returns-then-need-memory c =
+    let t = c.args.order in
+    let r = row_of c.args.piece in
+    let job : (leb 1 r.job && leb r.job t.jobs) ≡ true = search rules in
+    let processor : (leb 1 r.processor && leb r.processor t.processors) ≡ true = search rules in
+    fit t r job processor c.if-need-memory.true
 
-pub returns-then-processor-lt1 : goal.returns-then-processor-lt1
-returns-then-processor-lt1 c =
-    processor-zero c.args.order (row_of c.args.piece) c.if-processor-lt1.true
-
-pub returns-then-order-processor : goal.returns-then-order-processor
-returns-then-order-processor c =
-    processor-high c.args.order (row_of c.args.piece) c.if-order-processor.true
-
-pub returns-then-order-i : goal.returns-then-order-i
-returns-then-order-i c =
-    unfit c.args.order (row_of c.args.piece) (omega arith) (omega arith) (omega arith) (omega arith) c.if-order-i.true
-
-pub returns : goal.returns
-returns c =
-    fit c.args.order (row_of c.args.piece) (omega arith) (omega arith) (omega arith) (omega arith) c.if-order-i.false
+pub returns-else-need-memory : goal.returns-else-need-memory
+returns-else-need-memory c =
+    let t = c.args.order in
+    let r = row_of c.args.piece in
+    let job : (leb 1 r.job && leb r.job t.jobs) ≡ true = search rules in
+    let processor : (leb 1 r.processor && leb r.processor t.processors) ≡ true = search rules in
+    lt-leb _ _ c.if-need-memory.false ∙ unfit t r job processor c.if-need-memory.false

@@ -1,29 +1,10 @@
-use Rattle.registers.proofs.Zeros.{zeros-more}
-use lib.ListN.{replicate, drop}
-use mathlib.Core.List.{◌++◌}
-use mathlib.Core.Path.{◌≡◌, refl, ap, ◌∙◌}
-use Prim.Native.Nat.{ℕ}
-use borrow.Author.Rules.{rules}
-use native.Mathlib.Omega.{arith}
+-- The first 256 bytes are 0, and those behind them stay.
+use Rattle.std.specs.Prelude.{ℕ, ◌≤◌, ◌≡◌, List, ◌++◌, length, take, drop, replicate}
+use Rattle.std.proofs.Common.{ap, ◌∙◌, length-take-le}
 use Rattle.registers.proofs.clearing.clear_bytes.Goals as goal
 
-pub loop-i-init : goal.loop-i-init
-loop-i-init c = (search rules, search rules, refl, refl)
-
-pub bounds-bytes-i : goal.bounds-bytes-i
-bounds-bytes-i c = let l = c.loop-i in omega (arith, l.invariant.0, l.invariant.1, l.invariant.3)
-
-pub loop-i-preserved : goal.loop-i-preserved
-loop-i-preserved c =
-    let l = c.loop-i in (
-      omega arith,
-      l.invariant.1,
-      zeros-more c.args.bytes.now l.bytes l.i l.invariant.2 (omega (arith, l.invariant.1)),
-      search rules,
-    )
+zeros : (xs ys : List ℕ) (n : ℕ) → ys ≡ replicate (length (take n xs)) 0 → n ≤ length xs → ys ++ drop n xs ≡ replicate n 0 ++ drop n xs
+zeros xs ys n e l = ap (λ (zs : List ℕ). zs ++ drop n xs) (e ∙ ap (λ (k : ℕ). replicate k 0) (length-take-le n xs l))
 
 pub returns : goal.returns
-returns c =
-    let l = c.loop-i in
-    let e : l.i ≡ 256 = omega arith in
-    l.invariant.2 ∙ ap (λ (k : ℕ). replicate k 0 ++ drop k c.args.bytes.now) e
+returns c = zeros c.args.bytes.now _ 256 (c.fill.ensures.after (λ y e. e)) c.requires

@@ -1,7 +1,6 @@
 use lib.ListN.{get_or}
-use mathlib.Core.Bool.{not, ◌&&◌}
-use mathlib.Core.Path.{ap, ◌∙◌}
-use Rattle.registers.specs.declared.Flags.{Flags}
+use Rattle.std.specs.Prelude.{◌≡◌, not, ◌&&◌}
+use Rattle.std.proofs.Common.{rules}
 use Rattle.registers.specs.Memory.{flags_in}
 use Rattle.registers.specs.MemoryLaws.{acknowledge-moved}
 use Rattle.registers.proofs.writing.acknowledge.Goals as goal
@@ -9,12 +8,9 @@ use Rattle.registers.proofs.writing.acknowledge.Goals as goal
 pub returns : goal.returns
 returns c =
     let xs = c.args.bytes.now in
-    let held = c.flags_in-held in
-    let ones = c.flags_in-ones.result in
-    acknowledge-moved xs c.requires _ c.with_flags.result c.with_flags.ensures c.args.written
-    (c.unless.ensures ∙ ap (λ (w : Flags). w.done && not ones.done) held.ensures ∙ ap (λ
-    (w : Flags). (flags_in (get_or xs 1 0)).done && not w.done) c.flags_in-ones.ensures)
-    (c.unless-2.ensures ∙ ap (λ (w : Flags). w.refused && not ones.refused) held.ensures ∙ ap (λ
-    (w : Flags). (flags_in (get_or xs 1 0)).refused && not w.refused) c.flags_in-ones.ensures)
-    (c.unless-3.ensures ∙ ap (λ (w : Flags). w.interrupt && not ones.interrupt) held.ensures ∙ ap (λ
-    (w : Flags). (flags_in (get_or xs 1 0)).interrupt && not w.interrupt) c.flags_in-ones.ensures)
+    let held = flags_in (get_or xs 1 0) in
+    let ones = flags_in c.args.written in
+    let done : c.if-held.flags ≡ (held.done && not ones.done) = search rules in
+    let refused : c.if-held-2.flags ≡ (held.refused && not ones.refused) = search rules in
+    let interrupt : c.if-held-3.flags ≡ (held.interrupt && not ones.interrupt) = search rules in
+    acknowledge-moved xs c.requires _ c.with_flags.result c.with_flags.ensures c.args.written done refused interrupt
