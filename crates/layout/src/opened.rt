@@ -11,10 +11,7 @@ use super::Kept;
 pub fn is_open(opens: u32, closes: u32, start: u32, end: u32) -> bool
     ensures { result ≡ leb opens start && leb end closes }
 {
-    if start < opens {
-        return false;
-    }
-    end <= closes
+    opens <= start && end <= closes
 }
 
 pub fn open_processors(
@@ -31,11 +28,8 @@ pub fn open_processors(
 {
     let mut list = [0u32; 16];
     let mut count: usize = 0;
-    let mut k: usize = 0;
-    while k < n {
-        let i = processors[k];
+    for &i in &processors[..n] {
         let at = (i - 1) as usize;
-        k += 1;
         if is_open(opens[at], closes[at], start, end) {
             list[count] = i;
             count += 1;
