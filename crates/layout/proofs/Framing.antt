@@ -32,9 +32,6 @@ pub record Given (t : Table) (marks : List ℕ) (q : ℕ) (opens closes w before
   pub processors-numbered : Numbered t.m t.by_memory
   pub jobs-numbered : Numbered t.n t.by_need
   pub few-stretches : q ≤ 128
-  pub marks-long : q ≤ length marks
-  pub opens-long : t.m ≤ length opens
-  pub closes-long : t.m ≤ length closes
   pub amounts-long : t.n * q ≤ length w
   pub rising : Rising (lent_frame q marks opens closes)
   pub room : 4 * length (planned t q marks opens closes w) ≤ length before
@@ -53,9 +50,6 @@ given t marks q opens closes w before h =
       processors-numbered = h.0.2;
       jobs-numbered = h.0.3;
       few-stretches = h.0.4;
-      marks-long = h.0.5;
-      opens-long = h.0.6;
-      closes-long = h.0.7;
       amounts-long = h.0.8;
       rising = h.0.9;
       room = h.1.0;
