@@ -94,13 +94,13 @@ pub fn put_rooms(
     ensures { Rows room.new q (suc t.now.s)
         (room_on (take t.now.m t.now.by_memory) t.now.kinds marks.now opens.now closes.now) }
 {
-    let classes = t.s + 1;
+    let rooms = t.s + 1;
     let mut start = 0;
     for s in 0..q {
         let end = marks[s];
         let kept = open_processors(t.by_memory, t.m, opens, closes, start, end);
         let counts = count_kinds(kept.list, kept.count, t.kinds);
-        let row = &mut room[s * classes..(s + 1) * classes];
+        let row = &mut room[s * rooms..(s + 1) * rooms];
         put_rooms_row(row, &counts, end - start);
         start = end;
     }
@@ -133,8 +133,8 @@ pub fn put_classes(class: &mut [usize], classes: [u32; 48], n: usize, last: usiz
     requires { (n ≤ 48) × (last ≤ 16) × (suc n ≤ length class.old) }
     ensures { Classes n classes last class.new }
 {
-    for (j, &of) in classes[..n].iter().enumerate() {
-        class[j] = of as usize;
+    for (j, &job_class) in classes[..n].iter().enumerate() {
+        class[j] = job_class as usize;
     }
     class[n] = last + 1;
 }

@@ -26,8 +26,8 @@ pub fn open_processors(
     ensures { (result.count ≤ n)
         × (take result.count result.list ≡ keep (open_at opens.now closes.now start end) (take n processors)) }
 {
-    let mut list = [0u32; 16];
-    let mut count: usize = 0;
+    let mut list = [0; 16];
+    let mut count = 0;
     for &i in &processors[..n] {
         let at = (i - 1) as usize;
         if is_open(opens[at], closes[at], start, end) {
