@@ -1,20 +1,21 @@
--- Where a stretch begins, what a job may have of it, how large a room can be, and one processor more of a class.
+-- Where a stretch begins, how large a room can be, and one processor more of a class.
 use Prim.Native.Nat.{ℕ, zero, suc, pred, ◌+◌, ◌-◌, ◌*◌, ◌≤◌, ◌<◌}
 use mathlib.Core.Path.{◌≡◌, refl, sym, ap, ◌∙◌, subst}
-use mathlib.Core.Bool.{Bool, true, false}
+use mathlib.Core.Bool.{Bool}
 use mathlib.Core.Logic.{◌≢◌}
 use mathlib.Core.List.{List, [], ◌∷◌, ◌++◌}
 use native.Mathlib.Decide.{dec_le, ℕ_discrete}
-use native.Mathlib.Nat.{mul-le-mul, mul-le-mul_right, suc-mul}
+use native.Mathlib.Nat.{mul-le-mul}
 use native.Mathlib.Numerals.{add-one}
 use native.Mathlib.Omega.{arith}
 use borrow.Author.Tests.{le-leb, lt-leb}
 use lib.Dec.{leb}
 use lib.ListN.{length, get_or, set, take, replicate, length-set}
-use lib.Seq.{get_or-set_same, get_or-set_other, get_or-take, length-take-le, take-suc}
+use lib.Seq.{get_or-set_same, get_or-set_other, take-suc}
+use Rattle.std.specs.List.{sum as sum_of}
+use Rattle.std.proofs.lemmas.List.Sums.{sum_by_more}
 use Rattle.sums.specs.Sum.{sum}
 use Rattle.sums.specs.Gate.{sum_mono}
-use Rattle.engine.specs.View.{row-end}
 use Rattle.sums.specs.Lists.{total, only, nth}
 use Rattle.sums.specs.Totals.{total-append}
 use Rattle.sums.specs.Members.{All-at}
@@ -25,18 +26,16 @@ use Rattle.allot.specs.Tables.{count_of, Kinds, Counted}
 pub next_start : (marks : List ℕ) (s : ℕ) → nth marks (s + 1) 0 ≡ get_or marks s 0
 next_start marks s = ap (λ (k : ℕ). nth marks k 0) (add-one s)
 
--- all of it where the test passes, and else nothing
-pub cap-in : (b : Bool) (x r : ℕ) → b ≡ true → r ≡ x → r ≡ only b x
-cap-in true x r e h = h
-cap-in false x r e h = absurd (let z : ◌≡◌ {A = ℕ} 0 1 = cc in omega (arith, z))
-
-pub cap-out : (b : Bool) (x : ℕ) → b ≡ false → 0 ≡ only b x
-cap-out true x e = absurd (let z : ◌≡◌ {A = ℕ} 0 1 = cc in omega (arith, z))
-cap-out false x e = refl
-
 -- rooms are small
 pub room_small : (p m : ℕ) → p ≤ 16 → m ≤ 176000016 → p * m ≤ 2816000256
 room_small p m h l = mul-le-mul {n₂ = 16} {m₂ = 176000016} h l
+
+-- the counts of the first k classes as the code adds them up
+pub sum-taken : (xs : List ℕ) (k : ℕ) → k ≤ length xs → sum_of (take k xs) ≡ sum k (count_of xs)
+unfolding sum
+sum-taken xs zero l = refl
+sum-taken xs (suc k) l =
+    rw (← add-one k) (sum_by_more (λ x. x) xs k 0 l ∙ ap (λ (n : ℕ). n + get_or xs k 0) (sum-taken xs k (omega arith)))
 
 -- one more at place c, of the first k places
 one_more : (xs : List ℕ) (c : ℕ) → c < length xs → (k : ℕ) →
@@ -91,14 +90,13 @@ counted_none counts kinds z k h = nothing k
     nothing zero = refl
     nothing (suc k) = omega (arith, nothing k, z k)
 
--- the k-th of the first n processors has a class
-pub kind_at : (S : ℕ) (kinds list : List ℕ) (n k : ℕ) → Kinds S kinds (take n list) → n ≤ length list → k < n →
-    Numbers 16 (get_or list k 0) × ((1 ≤ get_or kinds (get_or list k 0 - 1) 0) × (get_or kinds (get_or list k 0 - 1) 0 ≤ S))
-kind_at S kinds list n k h l b =
-    let g = All-at _ (take n list) 0 h k (omega (arith, length-take-le n list l)) in
-    let e : get_or (take n list) k 0 ≡ get_or list k 0 = get_or-take n list k 0 b in
-    let p : pred (get_or list k 0) ≡ get_or list k 0 - 1 = omega arith in
-    rw (e, p) at g
+-- the k-th of the processors has a class
+pub kind_at : (S : ℕ) (kinds ps : List ℕ) (k : ℕ) → Kinds S kinds ps → k < length ps →
+    Numbers 16 (get_or ps k 0) × ((1 ≤ get_or kinds (get_or ps k 0 - 1) 0) × (get_or kinds (get_or ps k 0 - 1) 0 ≤ S))
+kind_at S kinds ps k h l =
+    let g = All-at _ ps 0 h k l in
+    let p : pred (get_or ps k 0) ≡ get_or ps k 0 - 1 = omega arith in
+    rw p at g
 
 -- an array of zeros, also past its end
 pub zeros-at : (m i : ℕ) → ◌≡◌ {A = ℕ} (get_or (replicate m 0) i 0) 0
@@ -161,10 +159,3 @@ idle-step room m s q l = omega (
   idle-next room m s (lasts room m s) refl,
   sum_mono (s + 1) q (λ s. get_or room (s * m + (m - 1)) 0) (omega arith),
 )
-
--- places of rooms are few
-pub places-few : (s q m : ℕ) → s < q → q ≤ 128 → m ≤ 17 → s * m + m ≤ 2176
-places-few s q m l h b = omega (arith, row-end s m q l, mul-le-mul {n₂ = 128} {m₂ = 17} h b)
-
-pub caps-few : (j n q : ℕ) → j < n → n ≤ 48 → q ≤ 128 → j * q ≤ 6144
-caps-few j n q l h b = omega (arith, mul-le-mul_right q l, mul-le-mul {n₂ = 48} {m₂ = 128} h b, suc-mul j q)

@@ -33,21 +33,16 @@ pub fn fill_amounts(
     ensures run_of { RunOf (flow_on t (frame_lent q marks.now ready.now until.now
         opens.now closes.now)) (suc t.s) (grid q w.new) result }
 {
-    let mut time = [0u32; 49];
-    let mut class = [0usize; 49];
-    let mut left = [0u32; 49];
-    let mut height = [0usize; 49];
-    let processors = t.by_memory;
-    let kinds = t.kinds;
-    let numbers = t.by_need;
-    let held_times = t.times;
-    let held_classes = t.classes;
-    let times = by_number(held_times, numbers, t.n);
-    let classes = by_number(held_classes, numbers, t.n);
+    let times = by_number(t.times, t.by_need, t.n);
+    let classes = by_number(t.classes, t.by_need, t.n);
     put_caps(cap, marks, q, ready, until, t.n);
-    put_rooms(room, processors, t.m, kinds, t.s, marks, q, opens, closes);
+    put_rooms(room, &t, marks, q, opens, closes);
+    let mut time = [0; 49];
     put_times(&mut time, &times, t.n, idle_minutes(room, q, t.s + 1));
+    let mut class = [0; 49];
     put_classes(&mut class, classes, t.n, t.s);
+    let mut left = [0; 49];
+    let mut height = [0; 49];
     engine::filling::solve(
         &time,
         &class,

@@ -6,7 +6,7 @@ use native.Mathlib.Omega.{arith}
 use native.Mathlib.Numerals.{add-one}
 use native.Mathlib.Decide.{dec_le, dec_lt}
 use lib.ListN.{length, get_or, take, drop, replicate, length-append, length-take, get_or-replicate, get_or-eq_default}
-use lib.Seq.{get_or-take}
+use lib.Seq.{get_or-take, length-take-le}
 use Rattle.sums.specs.Kept.{keep_all}
 use Rattle.sums.specs.Lists.{keep}
 use Rattle.sums.specs.Members.{All-from}
@@ -32,9 +32,6 @@ pub record Given (t : Table) (marks : List ℕ) (q : ℕ) (opens closes w before
   pub processors-numbered : Numbered t.m t.by_memory
   pub jobs-numbered : Numbered t.n t.by_need
   pub few-stretches : q ≤ 128
-  pub marks-long : q ≤ length marks
-  pub opens-long : t.m ≤ length opens
-  pub closes-long : t.m ≤ length closes
   pub amounts-long : t.n * q ≤ length w
   pub rising : Rising (lent_frame q marks opens closes)
   pub room : 4 * length (planned t q marks opens closes w) ≤ length before
@@ -53,9 +50,6 @@ given t marks q opens closes w before h =
       processors-numbered = h.0.2;
       jobs-numbered = h.0.3;
       few-stretches = h.0.4;
-      marks-long = h.0.5;
-      opens-long = h.0.6;
-      closes-long = h.0.7;
       amounts-long = h.0.8;
       rising = h.0.9;
       room = h.1.0;
@@ -63,12 +57,11 @@ given t marks q opens closes w before h =
     }
 
 -- a plan under way: the first s stretches are written, and the next one begins at `start`
-pub record Framing (rows : ℕ → List Row) (f : Frame) (before : Sheet) (start s written : ℕ) (after : Sheet) : Type 0 where
+pub record Framing (rows : ℕ → List Row) (f : Frame) (before : Sheet) (start s : ℕ) (after : Sheet) : Type 0 where
   pub laid : Laid (in_turn rows s) [] before after
-  pub count : written ≡ after.count
   pub at_mark : start ≡ f.mark s
   pub a-stretch : s ≤ f.stretches
-  pub few : written ≤ 64 * s
+  pub few : after.count ≤ 64 * s
 
 module _ (rows : ℕ → List Row) where
   turn_more : (n : ℕ) → in_turn rows (n + 1) ≡ in_turn rows n ++ rows n
@@ -90,11 +83,10 @@ module _ (rows : ℕ → List Row) where
       ]
 
 module _ (rows : ℕ → List Row) (f : Frame) where
-  pub framing-start : (b : Sheet) → Good b → b.count ≡ 0 → f.mark 0 ≡ 0 → Framing rows f b 0 0 0 b
+  pub framing-start : (b : Sheet) → Good b → b.count ≡ 0 → f.mark 0 ≡ 0 → Framing rows f b 0 0 b
   framing-start b g none first =
       record {
         laid = rw (turn-none rows) (laid_none [] b g);
-        count = sym none;
         at_mark = sym first;
         a-stretch = omega arith;
         few = omega arith;
@@ -102,16 +94,16 @@ module _ (rows : ℕ → List Row) (f : Frame) where
 
   -- all stretches are written, joined
   pub framing-end : (lent : List ℕ) → Joinable (in_turn rows f.stretches) → 4 * length (in_turn rows f.stretches) ≤ length lent →
-      {start s written : ℕ} {c : Sheet} → Framing rows f (sheet 0 (replicate 16 0) lent) start s written c → f.stretches ≤ s →
-      (written ≡ length (joined (in_turn rows f.stretches)))
+      {start s : ℕ} {c : Sheet} → Framing rows f (sheet 0 (replicate 16 0) lent) start s c → f.stretches ≤ s →
+      (c.count ≡ length (joined (in_turn rows f.stretches)))
       × (c.buffer ≡ numbers_of (joined (in_turn rows f.stretches)) ++ drop (4 * length (joined (in_turn rows f.stretches))) lent)
-  framing-end lent join room {start} {s} {written} {c} p h =
+  framing-end lent join room {start} {s} {c} p h =
       let e : s ≡ f.stretches = omega (arith, p.a-stretch) in
       let all = in_turn rows f.stretches in
       let done = laid-all (rw e at p.laid) in
       let holds = all_hold [] all (holds-none lent) (standing-none Forward Rises all join.forward join.rises) join.named
       (omega arith) in
-      (p.count ∙ ap (λ (v : Sheet). v.count) done ∙ holds.count-is, ap (λ (v : Sheet). v.buffer) done ∙ holds.buffer-is)
+      (ap (λ (v : Sheet). v.count) done ∙ holds.count-is, ap (λ (v : Sheet). v.buffer) done ∙ holds.buffer-is)
 
 -- sixteen processors have no row yet
 pub good_none : (lent : List ℕ) → Good (sheet 0 (replicate 16 0) lent)
@@ -131,8 +123,17 @@ module _ {t : Table} {marks : List ℕ} {q : ℕ} {opens closes w lent : List �
   abbrev rows : ℕ → List Row
   rows = rows_in (take t.m t.by_memory) (take t.n t.by_need) f (amount_in q w)
 
+  -- the jobs are as many as the table has, and numbers of its own
+  pub frame-count : 48 ≤ length t.by_need → length (take t.n t.by_need) ≡ t.n
+  frame-count size = length-take-le t.n t.by_need (omega (arith, g.few-jobs))
+
+  pub frame-jobs : 48 ≤ length t.by_need → Numbered (length (take t.n t.by_need)) (take t.n t.by_need)
+  frame-jobs size =
+      rw (frame-count size)
+      (record { at = λ k l. rw (get_or-take t.n t.by_need k 0 l) (g.jobs-numbered.at k l) })
+
   -- the next stretch, from the last mark to the next one, on the processors that are open in it
-  module _ {table : List ℕ} {start s written : ℕ} {c : Sheet} (p : Framing rows f (sheet 0 table lent) start s written c) (l : s < q)
+  module _ {table : List ℕ} {start s : ℕ} {c : Sheet} (p : Framing rows f (sheet 0 table lent) start s c) (l : s < q)
       (count : ℕ) (list : List ℕ) (kept : (count ≤ t.m)
       × (take count list ≡ keep (open_at opens closes start (get_or marks s 0)) (take t.m t.by_memory))) where
     abbrev end : ℕ
@@ -158,13 +159,12 @@ module _ {t : Table} {marks : List ℕ} {q : ℕ} {opens closes w lent : List �
         let h = g.processors-numbered.at i k in
         rw (get_or-take t.m t.by_memory i 0 k) (h.0, omega (arith, h.1, g.few-processors)))))
 
-    pub frame-room : 4 * (written + length stretch) ≤ length c.buffer
+    pub frame-room : 4 * (c.count + length stretch) ≤ length c.buffer
     unfolding laid_out
     frame-room =
         omega (
           arith,
           g.room,
-          p.count,
           ap length stretch-is,
           p.laid.same_length,
           laid-room p.laid,
@@ -173,12 +173,11 @@ module _ {t : Table} {marks : List ℕ} {q : ℕ} {opens closes w lent : List �
           turn-grow rows (s + 1) q (omega arith),
         )
 
-    pub framing-more : {r : ℕ} {d : Sheet} → r ≡ d.count → Laid stretch [] c d × (r ≤ written + t.n + count) →
-        Framing rows f (sheet 0 table lent) end (s + 1) r d
-    framing-more {r} {d} e h =
+    pub framing-more : {d : Sheet} → Laid stretch [] c d × (d.count ≤ c.count + t.n + count) →
+        Framing rows f (sheet 0 table lent) end (s + 1) d
+    framing-more h =
         record {
           laid = rw (turn_more rows s) (laid_then (laid-frame (rows s) p.laid) (rw stretch-is at h.0));
-          count = e;
           at_mark = rw add-one refl;
           a-stretch = omega arith;
           few = omega (arith, h.1, p.few, g.few-processors, g.few-jobs, kept.0);

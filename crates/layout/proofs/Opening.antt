@@ -28,11 +28,6 @@ module _ {opens closes : List ℕ} {start end : ℕ} {processors : List ℕ} {k 
   abbrev test : ℕ → Bool
   test = open_at opens closes start end
 
-  pub opening-end : (n : ℕ) → k ≤ n → n ≤ k → (count ≤ n) × (take count list ≡ keep test (take n processors))
-  opening-end n h l =
-      let e : k ≡ n = omega arith in
-      (omega (arith, o.few), o.are ∙ ap (λ (i : ℕ). keep test (take i processors)) e)
-
   module _ (l : k < length processors) (some : 1 ≤ get_or processors k 0) where
     abbrev i : ℕ
     i = get_or processors k 0

@@ -1,15 +1,15 @@
 -- A share laid piece by piece: each turn writes one row and goes on where the definition does.
-use Prim.Native.Nat.{ℕ, suc, ◌+◌, ◌-◌, ◌*◌, ◌≤◌, ◌<◌, min}
+use Prim.Native.Nat.{ℕ, ◌+◌, ◌-◌, ◌*◌, ◌≤◌, ◌<◌, min}
 use mathlib.Core.Path.{◌≡◌, refl, ap, ◌∙◌}
-use mathlib.Core.Bool.{true, false}
+use mathlib.Core.Bool.{true}
 use mathlib.Core.List.{List, [], ◌∷◌, ◌++◌, append-nil}
 use native.Mathlib.Decide.{dec_lt}
 use native.Mathlib.Omega.{arith}
 use native.Mathlib.Numerals.{add-one}
-use borrow.Author.Tests.{lt-ltb, le-ltb, ltb-true}
+use borrow.Author.Tests.{lt-ltb, le-ltb}
 use lib.Dec.{ltb}
-use lib.ListN.{length, get_or, take, drop, drop_of_length-le}
-use lib.Seq.{drop-cons, get_or-take, length-take-le}
+use lib.ListN.{length, get_or, drop, drop_of_length-le}
+use lib.Seq.{drop-cons}
 use Rattle.sums.specs.Members.{All-at}
 use Rattle.order.specs.Order.{Numbers}
 use Rattle.wrap.specs.Layout.{Share}
@@ -21,136 +21,115 @@ use Rattle.layout.proofs.Filling.{fill-no-processor, fill-short, fill-long, fill
 
 -- a share under way: of `minutes` from the place `first` on, `left` are still to be laid, from `place` on; every processor
 -- that was filled took at most a row, and so did the piece that ended the share
-pub record Going (start end n : ℕ) (ps : List ℕ) (job minutes : ℕ) (first : Place) (before : Sheet) (place : Place) (left : ℕ)
+pub record Going (start end : ℕ) (ps : List ℕ) (job minutes : ℕ) (first : Place) (before : Sheet) (place : Place) (left : ℕ)
     (after : Sheet) : Type 0 where
   pub goes_on : (later : List Share) →
-      Laid (rows_from start end n ps first (portion job minutes ++ later))
-      (rows_from start end n ps place (portion job left ++ later)) before after
-  pub count-before : first.rows ≡ before.count
-  pub count-after : place.rows ≡ after.count
-  pub inside : Inside start end n place
-  pub size : n ≤ length ps
-  pub numbers : Numbering (take n ps)
-  pub few : place.rows + first.processor ≤ first.rows + place.processor + (1 - left)
-  pub room : 4 * (first.rows + length (rows_from start end n ps first (portion job minutes ++ []))) ≤ length before.buffer
+      Laid (rows_from start end ps first (portion job minutes ++ later))
+      (rows_from start end ps place (portion job left ++ later)) before after
+  pub inside : Inside start end (length ps) place
+  pub numbers : Numbering ps
+  pub few : after.count + first.processor ≤ before.count + place.processor + (1 - left)
+  pub room : 4 * (before.count + length (rows_from start end ps first (portion job minutes ++ []))) ≤ length before.buffer
 
--- no minute, no share
-pub share-none : {start end n : ℕ} (ps : List ℕ) {place : Place} (job minutes : ℕ) (b : Sheet) →
-    Inside start end n place → Good b → minutes ≡ 0 → ShareLaid start end n ps place place (portion job minutes) b b
-share-none {start} {end} {n} ps {place} job minutes b i g e =
-    rw e (record {
-      goes_on = λ later. laid_none (rows_from start end n ps place later) b g;
-      inside = i;
-      few = omega arith;
-    })
-
-pub going_start : {start end n : ℕ} (ps : List ℕ) {place : Place} (job minutes : ℕ) (b : Sheet) →
-    Inside start end n place → n ≤ length ps → Numbering (take n ps) → place.rows ≡ b.count → Good b →
-    4 * (place.rows + length (rows_from start end n ps place (portion job minutes))) ≤ length b.buffer →
-    Going start end n ps job minutes place b place minutes b
-going_start {start} {end} {n} ps {place} job minutes b i size numbers count g room =
+pub going_start : {start end : ℕ} (ps : List ℕ) {place : Place} (job minutes : ℕ) (b : Sheet) →
+    Inside start end (length ps) place → Numbering ps → Good b →
+    4 * (b.count + length (rows_from start end ps place (portion job minutes))) ≤ length b.buffer →
+    Going start end ps job minutes place b place minutes b
+going_start {start} {end} ps {place} job minutes b i numbers g room =
     record {
-      goes_on = λ later. laid_none (rows_from start end n ps place (portion job minutes ++ later)) b g;
-      count-before = count;
-      count-after = count;
+      goes_on = λ later. laid_none (rows_from start end ps place (portion job minutes ++ later)) b g;
       inside = i;
-      size = size;
       numbers = numbers;
       few = omega arith;
       room = rw (append-nil (portion job minutes)) room;
     }
 
-module _ {start end n : ℕ} {ps : List ℕ} {job minutes : ℕ} {first : Place} {b : Sheet} {place : Place} {left : ℕ} {c : Sheet}
-    (g : Going start end n ps job minutes first b place left c) where
+module _ {start end : ℕ} {ps : List ℕ} {job minutes : ℕ} {first : Place} {b : Sheet} {place : Place} {left : ℕ} {c : Sheet}
+    (g : Going start end ps job minutes first b place left c) where
   pub going-good : Good c
   going-good = (g.goes_on []).good
 
   -- nothing is left to be laid: no minute of the share, or no processor
   done : ((later : List Share) →
-      rows_from start end n ps place (portion job left ++ later) ≡ rows_from start end n ps place later) →
-      ShareLaid start end n ps first place (portion job minutes) b c
+      rows_from start end ps place (portion job left ++ later) ≡ rows_from start end ps place later) →
+      ShareLaid start end ps first place (portion job minutes) b c
   done e = record { goes_on = λ later. rw (e later) at (g.goes_on later); inside = g.inside; few = omega (arith, g.few) }
 
-  pub going_done : ltb 0 left ≡ false → ShareLaid start end n ps first place (portion job minutes) b c
-  going_done z = done (λ later. rw z)
+  pub going_done : left ≤ 0 → ShareLaid start end ps first place (portion job minutes) b c
+  going_done z = done (λ later. rw (le-ltb 0 left z))
 
-  pub going_end : n ≤ place.processor → ShareLaid start end n ps first place (portion job minutes) b c
+  pub going_end : length ps ≤ place.processor → ShareLaid start end ps first place (portion job minutes) b c
   going_end l =
-      let none = drop_of_length-le (take n ps) {i = place.processor} (rw (length-take-le n ps g.size) l) in
+      let none = drop_of_length-le ps {i = place.processor} l in
       done (λ later. simp (none, fill-no-processor))
 
-  module _ (l : place.processor < n) (some : ltb 0 left ≡ true) where
+  module _ (l : place.processor < length ps) (minute : 0 < left) where
+    some : ltb 0 left ≡ true
+    some = lt-ltb 0 left minute
+
     abbrev number : ℕ
     number = get_or ps place.processor 0
 
     abbrev others : List ℕ
-    others = drop (place.processor + 1) (take n ps)
+    others = drop (place.processor + 1) ps
 
-    here : drop place.processor (take n ps) ≡ number ∷ others
-    here =
-        rw add-one
-        (drop-cons (take n ps) place.processor 0 (rw (length-take-le n ps g.size) l)
-        ∙ ap (λ (x : ℕ). x ∷ drop (suc place.processor) (take n ps)) (get_or-take n ps place.processor 0 l))
+    here : drop place.processor ps ≡ number ∷ others
+    here = rw add-one (drop-cons ps place.processor 0 l)
 
     -- the processor has a number from 1 to 16
     pub going-number : Numbers 16 number
-    going-number =
-        let h = All-at (Numbers 16) (take n ps) 0 g.numbers place.processor (rw (length-take-le n ps g.size) l) in
-        rw (get_or-take n ps place.processor 0 l) at h
+    going-number = All-at (Numbers 16) ps 0 g.numbers place.processor l
 
     -- there is room for one row more
-    pub going-room : 4 * place.rows + 4 ≤ length c.buffer
+    pub going-room : 4 * c.count + 4 ≤ length c.buffer
     going-room =
         let q = g.goes_on [] in
-        let s : 1 ≤ length (rows_from start end n ps place (portion job left ++ [])) =
+        let s : 1 ≤ length (rows_from start end ps place (portion job left ++ [])) =
         rw (some, here) (fill-some start end number others place.at job left []) in
-        omega (arith, q.same_length, g.room, g.count-before, g.count-after, laid-room q)
+        omega (arith, q.same_length, g.room, laid-room q)
 
     -- one piece more
-    module _ {part : ℕ} (fits : part ≡ min left (end - place.at)) {next : Place} {d : Sheet} (count : next.rows ≡ d.count)
+    module _ {part : ℕ} (fits : part ≡ min left (end - place.at)) {next : Place} {d : Sheet}
         (h : Laid (piece number place job part ∷ []) [] c d) where
-      further : ((later : List Share) → rows_from start end n ps place (portion job left ++ later)
-          ≡ piece number place job part ∷ rows_from start end n ps next (portion job (left - part) ++ later)) →
-          Inside start end n next × (place.processor + 1 ≤ next.processor + (1 - (left - part))) →
-          Going start end n ps job minutes first b next (left - part) d
+      further : ((later : List Share) → rows_from start end ps place (portion job left ++ later)
+          ≡ piece number place job part ∷ rows_from start end ps next (portion job (left - part) ++ later)) →
+          Inside start end (length ps) next × (place.processor + 1 ≤ next.processor + (1 - (left - part))) →
+          Going start end ps job minutes first b next (left - part) d
       further e i =
           record {
             goes_on = λ later.
                 laid_then (rw (e later) at (g.goes_on later)) (laid-frame _ h);
-            count-before = g.count-before;
-            count-after = count;
             inside = i.0;
-            size = g.size;
             numbers = g.numbers;
-            few = omega (arith, ltb-true, g.few, g.count-after, laid-room h);
+            few = omega (arith, g.few, laid-room h);
             room = g.room;
           }
 
       -- and goes on with fewer minutes, or on a later processor
-      pub going_more : next ≡ behind start end place part next.rows →
-          Going start end n ps job minutes first b next (left - part) d
-          × (left - part + (n - next.processor) < left + (n - place.processor))
+      pub going_more : next ≡ behind start end place part →
+          Going start end ps job minutes first b next (left - part) d
+          × (left - part + (length ps - next.processor) < left + (length ps - place.processor))
       going_more e =
           elim (dec_lt (place.at + left) end) [
             | yes s ↦
                 let m : part ≡ left = omega arith in
                 let z : left - left ≡ 0 = omega arith in
-                let k : next ≡ record { processor = place.processor; at = place.at + left; rows = next.rows } =
+                let k : next ≡ record { processor = place.processor; at = place.at + left } =
                 e ∙ rw (m, lt-ltb (place.at + left) end s) refl in (
                   further
                       (λ later. rw (some, k, m, z, here) (fill-short start end number others place.at job left later s))
                       (rw k (omega (arith, g.inside))),
-                  omega (arith, ltb-true, ap (λ (x : Place). x.processor) k),
+                  omega (arith, ap (λ (x : Place). x.processor) k),
                 )
             | no s ↦
                 let m : place.at + part ≡ end = omega (arith, g.inside) in
                 let z : left - part ≡ place.at + left - end = omega arith in
-                let k : next ≡ record { processor = place.processor + 1; at = start; rows = next.rows } =
+                let k : next ≡ record { processor = place.processor + 1; at = start } =
                 e ∙ rw (m, le-ltb end end (omega arith)) refl in (
                   further
                       (λ later. rw (some, k, m, z, here)
                       (fill-long start end number others place.at job left later (omega arith)))
                       (rw k (omega (arith, g.inside))),
-                  omega (arith, ltb-true, ap (λ (x : Place). x.processor) k),
+                  omega (arith, ap (λ (x : Place). x.processor) k),
                 )
           ]

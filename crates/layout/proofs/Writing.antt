@@ -1,13 +1,18 @@
 -- Rows as numbers, four to a row, and rows written one after the other: none, one, and some after others.
-use Prim.Native.Nat.{ℕ, suc, ◌+◌, ◌-◌, ◌*◌, ◌≤◌}
+use Prim.Native.Nat.{ℕ, ◌+◌, ◌-◌, ◌*◌, ◌≤◌}
+use mathlib.Core.Bool.{true, false}
 use mathlib.Core.Path.{◌≡◌, refl, sym, ap, ◌∙◌}
 use mathlib.Core.List.{List, [], ◌∷◌, ◌++◌, append_assoc, append-nil}
 use mathlib.Core.Logic.{◌⊎◌, ◌≢◌, inl, inr}
 use native.Mathlib.Omega.{arith}
 use native.Mathlib.Decide.{ℕ_discrete, dec_lt}
-use borrow.Author.Tests.{eq-eqb, ne_eqb}
+use borrow.Author.Tests.{eq-eqb, ne_eqb, true-eqb, false-eqb}
+use lib.Dec.{eqb}
+use borrow.Rule.Slice.PartMut.{put_mid}
 use lib.ListN.{length, get_or, take, drop, set, length-append, length-drop, length-set}
-use lib.Seq.{length-take-le, sets-eq, set_out, get_or-set_same, get_or-set_other}
+use lib.Seq.{length-take-le, drop-drop, set_out, get_or-set_same, get_or-set_other}
+use Rattle.std.proofs.Common.{Option, Some, None, MatchOption}
+use Rattle.std.specs.Option.{option_eq}
 use Rattle.plan.specs.Plan.{Row}
 use Rattle.plan.specs.Check.{numbers_of}
 use Rattle.layout.specs.Sheet.{Sheet, sheet, ending_job, last_for, added, added_all, Good}
@@ -24,26 +29,23 @@ pub numbers-one : (x : Row) → numbers_of (x ∷ []) ≡ x.job ∷ x.processor 
 unfolding numbers_of
 numbers-one x = refl
 
--- four stores one after the other
-pub four-stores : (s : List ℕ) (a b₀ b₁ b₂ b₃ : ℕ) → a + 4 ≤ length s →
-    set (set (set (set s a b₀) (a + 1) b₁) (a + 2) b₂) (a + 3) b₃ ≡ take a s ++ (b₀ ∷ b₁ ∷ b₂ ∷ b₃ ∷ drop (a + 4) s)
-four-stores s a b₀ b₁ b₂ b₃ h =
-    let e₁ : a + 1 ≡ suc a = omega arith in
-    let e₂ : a + 2 ≡ suc (suc a) = omega arith in
-    let e₃ : a + 3 ≡ suc (suc (suc a)) = omega arith in
-    let bs : List ℕ = b₀ ∷ b₁ ∷ b₂ ∷ b₃ ∷ [] in
-    rw (e₁, e₂, e₃) (sets-eq bs s a h ∙ append_assoc (take a s) bs (drop (a + 4) s))
+-- the four numbers of a row, written at its place
+pub four-written : (s part : List ℕ) (a b₀ b₁ b₂ b₃ : ℕ) → part ≡ b₀ ∷ b₁ ∷ b₂ ∷ b₃ ∷ [] →
+    put_mid a (a + 4 - a) s part ≡ take a s ++ (b₀ ∷ b₁ ∷ b₂ ∷ b₃ ∷ drop (a + 4) s)
+four-written s part a b₀ b₁ b₂ b₃ e =
+    let f : a + 4 - a ≡ 4 = omega arith in rw (f, e, drop-drop 4 a s) refl
 
--- a processor that ends with a job has a row
-pub ending-some : (buffer : List ℕ) (number minute job : ℕ) → ending_job buffer number minute ≡ job → 1 ≤ job → 1 ≤ number
-ending-some buffer number minute job e some =
-    elim (ℕ_discrete number 0) [
-      | yes z ↦ absurd (omega (arith, none z))
-      | no ne ↦ omega arith
-    ]
-  where
-    none : number ≡ 0 → job ≡ 0
-    none z = sym e ∙ rw (eq-eqb number 0 z) refl
+-- the job that a processor ends with is the one that was answered; where no job was, or another, it is not this one
+module _ {ending job : ℕ} where
+  pub ends-with-job : (answer : Option ℕ) → MatchOption answer (ending ≡ 0) (λ j. ending ≡ j) →
+      true ≡ option_eq eqb answer (Some job) → ending ≡ job
+  ends-with-job None h e = cc
+  ends-with-job (Some j) h e = h ∙ true-eqb j job e
+
+  pub ends-without : (answer : Option ℕ) → MatchOption answer (ending ≡ 0) (λ j. ending ≡ j) → 1 ≤ job →
+      false ≡ option_eq eqb answer (Some job) → ending ≢ job
+  ends-without None h some e f = omega (arith, h, f)
+  ends-without (Some j) h some e f = false-eqb j job e (sym h ∙ f)
 
 -- a sheet with a row that lengthens one, and with one behind all
 abbrev pub longer : Sheet → Row → Sheet

@@ -1,5 +1,5 @@
 -- Rows written behind one another or joined, and what is still to be written.
-use Rattle.std.specs.Prelude.{ℕ, ◌+◌, ◌-◌, ◌≤◌, ◌<◌, ◌≡◌, cond, List, [], ◌∷◌, ◌++◌, ltb, length, get_or, take, drop}
+use Rattle.std.specs.Prelude.{ℕ, ◌+◌, ◌-◌, ◌≤◌, ◌<◌, ◌≡◌, cond, List, [], ◌∷◌, ◌++◌, ltb, length, get_or, drop}
 use Rattle.sums.specs.Lists.{All}
 use Rattle.order.specs.Order.{Numbers}
 use Rattle.plan.specs.Plan.{Row, Forward}
@@ -24,25 +24,25 @@ pub record Laid (whole rest : List Row) (before after : Sheet) : Type 0 where
 abbrev pub portion : ℕ → ℕ → List Share
 portion job minutes = cond (ltb 0 minutes) (share job minutes ∷ []) []
 
--- the rows of shares from a place on, on the first n processors of an array
-abbrev pub rows_from : (start end n : ℕ) → List ℕ → Place → List Share → List Row
-rows_from start end n processors place shares =
-    fill start end (drop place.processor (take n processors)) place.at shares
+-- the rows of shares from a place on
+abbrev pub rows_from : (start end : ℕ) → List ℕ → Place → List Share → List Row
+rows_from start end processors place shares =
+    fill start end (drop place.processor processors) place.at shares
 
 -- the rows of a stretch
 abbrev pub rows_between : (start end : ℕ) → (processors jobs : List ℕ) → (ℕ → ℕ → ℕ) → ℕ → List Row
 rows_between start end processors jobs a s = fill start end processors start (shares_of a s jobs)
 
--- the row of one piece of a share, on the processor with this number; and where the next piece goes on, so many rows then standing
+-- the row of one piece of a share, on the processor with this number; and where the next piece goes on
 abbrev pub piece : ℕ → Place → ℕ → ℕ → Row
 piece number place job minutes =
     record { job = job; processor = number; from = place.at; to = place.at + minutes }
 
-abbrev pub behind : (start end : ℕ) → Place → (minutes rows : ℕ) → Place
-behind start end place minutes rows =
+abbrev pub behind : (start end : ℕ) → Place → ℕ → Place
+behind start end place minutes =
     cond (ltb (place.at + minutes) end)
-    (record { processor = place.processor; at = place.at + minutes; rows = rows })
-    (record { processor = place.processor + 1; at = start; rows = rows })
+    (record { processor = place.processor; at = place.at + minutes })
+    (record { processor = place.processor + 1; at = start })
 
 -- a place among n processors, inside a stretch
 pub record Inside (start end n : ℕ) (place : Place) : Type 0 where
@@ -52,12 +52,12 @@ pub record Inside (start end n : ℕ) (place : Place) : Type 0 where
 
 -- shares were laid from one place to the next: whatever shares follow, their rows go on from there; they took no more rows
 -- than the processors that they filled and one
-pub record ShareLaid (start end n : ℕ) (processors : List ℕ) (place next : Place) (shares : List Share) (before after : Sheet)
+pub record ShareLaid (start end : ℕ) (processors : List ℕ) (place next : Place) (shares : List Share) (before after : Sheet)
     : Type 0 where
   pub goes_on : (later : List Share) →
-      Laid (rows_from start end n processors place (shares ++ later)) (rows_from start end n processors next later) before after
-  pub inside : Inside start end n next
-  pub few : next.rows + place.processor ≤ place.rows + next.processor + 1
+      Laid (rows_from start end processors place (shares ++ later)) (rows_from start end processors next later) before after
+  pub inside : Inside start end (length processors) next
+  pub few : after.count + place.processor ≤ before.count + next.processor + 1
 
 -- the first n places of an array of jobs hold numbers from 1 to n
 pub record Numbered (n : ℕ) (jobs : List ℕ) : Type 0 where

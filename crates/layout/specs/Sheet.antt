@@ -4,6 +4,7 @@ use Rattle.std.specs.Prelude.{ℕ, suc, ◌+◌, ◌-◌, ◌*◌, ◌≤◌, �
 use Rattle.sums.specs.Lists.{tabulate, only}
 use Rattle.plan.specs.Plan.{Row}
 use Rattle.plan.specs.Check.{numbers_of}
+use Rattle.layout.specs.declared.Written.{Written}
 
 -- how many rows stand in a buffer, and for each processor the number of its last row, counted from 1; 0 where it has none
 pub record Sheet : Type 0 where
@@ -13,6 +14,10 @@ pub record Sheet : Type 0 where
 
 abbrev pub sheet : ℕ → List ℕ → List ℕ → Sheet
 sheet count last buffer = record { count = count; last = last; buffer = buffer }
+
+-- the rows written so far, in the buffer that they stand in
+abbrev pub standing : Written → List ℕ → Sheet
+standing written buffer = sheet written.count written.last buffer
 
 -- the job that a processor ends with at a minute, where its last row is the one with this number; 0 where it ends with none
 abbrev pub ending_job : List ℕ → (number minute : ℕ) → ℕ

@@ -11,10 +11,7 @@ use super::Kept;
 pub fn is_open(opens: u32, closes: u32, start: u32, end: u32) -> bool
     ensures { result ≡ leb opens start && leb end closes }
 {
-    if start < opens {
-        return false;
-    }
-    end <= closes
+    opens <= start && end <= closes
 }
 
 pub fn open_processors(
@@ -29,13 +26,10 @@ pub fn open_processors(
     ensures { (result.count ≤ n)
         × (take result.count result.list ≡ keep (open_at opens.now closes.now start end) (take n processors)) }
 {
-    let mut list = [0u32; 16];
-    let mut count: usize = 0;
-    let mut k: usize = 0;
-    while k < n {
-        let i = processors[k];
+    let mut list = [0; 16];
+    let mut count = 0;
+    for &i in &processors[..n] {
         let at = (i - 1) as usize;
-        k += 1;
         if is_open(opens[at], closes[at], start, end) {
             list[count] = i;
             count += 1;

@@ -1,63 +1,49 @@
 // The rows of one stretch, and of a whole plan, joined. `lay_plan` serves the crates above; both have a `requires`.
-ghost use Rattle.std.specs.Prelude.{◌≡◌, ◌++◌, [], ◌+◌, ◌*◌, ◌<◌, ◌≤◌, length, take, drop};
+ghost use Rattle.std.specs.Prelude.{◌≡◌, ◌++◌, [], ◌+◌, ◌*◌, ◌<◌, ◌≤◌, length, drop};
 ghost use Rattle.plan.specs.Check.{numbers_of};
 ghost use Rattle.plan.specs.Join.{joined};
 ghost use Rattle.wrap.specs.Flows.{amount_in};
 ghost use Rattle.wrap.specs.Frame.{Rising};
 ghost use Rattle.layout.specs.Planned.{Joinable, lent_frame, planned};
-ghost use Rattle.layout.specs.Sheet.{Good, sheet};
+ghost use Rattle.layout.specs.Sheet.{Good, standing};
 ghost use Rattle.layout.specs.Laid.{EndsTold, Laid, Numbered, Numbering, rows_between};
 
-use super::Place;
 use super::opened::open_processors;
 use super::rows::lay_share;
+use super::{Place, Stretch, Written};
 use table::Table;
 
-// The rows of stretch s, from minute start to minute end, of n jobs on m processors, behind the rows written so far or joined to them.
-// Answers how many rows then stand, and leaves the number of each processor's last row, which tells the job that it ends the stretch
-// with.
+// The rows of a stretch of these jobs on these processors, behind the rows written so far or joined to them. Leaves the number of each
+// processor's last row, which tells the job that it ends the stretch with.
 fn lay_stretch(
-    processors: [u32; 16],
-    m: usize,
-    jobs: [u32; 48],
-    n: usize,
+    rows: &mut [u32],
+    written: &mut Written,
+    processors: &[u32],
+    jobs: &[u32],
     w: &[u32],
     q: usize,
-    s: usize,
-    start: u32,
-    end: u32,
-    rows: &mut [u32],
-    last: &mut [usize],
-    written: usize,
-) -> usize
-    requires { (m ≤ 16) × (n ≤ 48) × (q ≤ 128) × (s < q) × (n * q ≤ length w.now)
-        × (start ≤ end) × (written < 50000) × Numbered n jobs
-        × (4 * (written + length (rows_between start end (take m processors) (take n jobs)
-        (amount_in q w.now) s)) ≤ length rows.old)
-        × Numbering (take m processors) × Good (sheet written last.old rows.old) }
-    ensures laid { Laid (rows_between start end (take m processors) (take n jobs)
-        (amount_in q w.now) s) [] (sheet written last.old rows.old)
-        (sheet result last.new rows.new)
-        × (result ≤ written + n + m) }
-    ensures ends_told { EndsTold (rows_between start end (take m processors) (take n jobs)
-        (amount_in q w.now) s) end (sheet written last.old rows.old)
-        (sheet result last.new rows.new) }
+    stretch: Stretch,
+)
+    requires { (length processors.now ≤ 16) × (length jobs.now ≤ 48) × (q ≤ 128) × (stretch.number < q)
+        × (length jobs.now * q ≤ length w.now) × (stretch.start ≤ stretch.end) × (written.old.count < 50000)
+        × Numbered (length jobs.now) jobs.now
+        × (4 * (written.old.count + length (rows_between stretch.start stretch.end processors.now jobs.now
+        (amount_in q w.now) stretch.number)) ≤ length rows.old)
+        × Numbering processors.now × Good (standing written.old rows.old) }
+    ensures laid { Laid (rows_between stretch.start stretch.end processors.now jobs.now (amount_in q w.now) stretch.number)
+        [] (standing written.old rows.old) (standing written.new rows.new)
+        × (written.new.count ≤ written.old.count + length jobs.now + length processors.now) }
+    ensures ends_told { EndsTold (rows_between stretch.start stretch.end processors.now jobs.now (amount_in q w.now)
+        stretch.number) stretch.end (standing written.old rows.old) (standing written.new rows.new) }
 {
     let mut place = Place {
         processor: 0,
-        at: start,
-        rows: written,
+        at: stretch.start,
     };
-    let mut k: usize = 0;
-    while k < n {
-        let job = jobs[k];
-        let minutes = w[((job - 1) as usize) * q + s];
-        k += 1;
-        if 0 < minutes {
-            place = lay_share(rows, last, processors, m, start, end, place, job, minutes);
-        }
+    for &job in jobs {
+        let minutes = w[(job - 1) as usize * q + stretch.number];
+        place = lay_share(rows, written, processors, stretch, place, job, minutes);
     }
-    place.rows
 }
 
 // The plan of amounts in a frame: all stretches, one after the other from row 0 on, each on the processors that are open in it, and
@@ -82,21 +68,23 @@ pub fn lay_plan(
         ++ drop (4 * length (joined (planned t q marks.now opens.now closes.now w.now)))
         rows.old) }
 {
-    let mut last = [0usize; 16];
-    let mut written: usize = 0;
-    let mut start: u32 = 0;
-    let mut s: usize = 0;
-    while s < q {
+    let mut written = Written {
+        count: 0,
+        last: [0; 16],
+    };
+    let jobs = &t.by_need[..t.n];
+    let mut start = 0;
+    for s in 0..q {
         let end = marks[s];
-        let processors = t.by_memory;
-        let jobs = t.by_need;
-        let kept = open_processors(processors, t.m, opens, closes, start, end);
-        let list = kept.list;
-        written = lay_stretch(
-            list, kept.count, jobs, t.n, w, q, s, start, end, rows, &mut last, written,
-        );
+        let kept = open_processors(t.by_memory, t.m, opens, closes, start, end);
+        let processors = &kept.list[..kept.count];
+        let stretch = Stretch {
+            number: s,
+            start,
+            end,
+        };
+        lay_stretch(rows, &mut written, processors, jobs, w, q, stretch);
         start = end;
-        s += 1;
     }
-    written
+    written.count
 }

@@ -1,43 +1,42 @@
-use Prim.Native.Nat.{ℕ, suc, ◌*◌}
-use mathlib.Core.Path.{◌≡◌, ap}
-use native.Mathlib.Omega.{arith}
-use borrow.Author.Rules.{rules}
-use lib.ListN.{length-set}
+use Rattle.std.proofs.Common.{ℕ, ◌≡◌, ◌-◌, ◌*◌, ◌≤◌, length, ap, arith, rules, ◌∙◌}
 use Rattle.sums.specs.Gate.{sum_mono}
-use Rattle.allot.proofs.Shares.{room_small}
-use Rattle.allot.specs.PutLaws.{put-none, put-more}
+use Rattle.sums.specs.Sum.{sum}
+use Rattle.allot.proofs.Shares.{room_small, sum-taken}
+use Rattle.allot.proofs.Writing.{row_more}
 use Rattle.allot.specs.Tables.{count_of}
 use Rattle.allot.proofs.tables.put_rooms_row.Goals as goal
 
-pub loop-k-init : goal.loop-k-init
-loop-k-init c = (search rules, search rules, put-none _ _ _)
-
-pub processors_to-requires : goal.processors_to-requires
-processors_to-requires c =
+pub processors_in-requires : goal.processors_in-requires
+processors_in-requires c =
     let a = c.args in
-    (search rules, omega (arith, sum_mono c.loop-k.k a.classes (count_of a.counts) (omega arith)))
+    let k = c.loop-k.k in
+    let size : 16 ≤ length a.counts.now = search rules in
+    let most : k ≤ length a.row.now - 1 = omega arith in
+    omega (arith, sum-taken a.counts.now k (omega arith), sum_mono k (length a.row.now - 1) (count_of a.counts.now) most)
 
 pub overflow_mul-room : goal.overflow_mul-room
 overflow_mul-room c =
     let a = c.args in
+    let k = c.loop-k.k in
+    let size : 16 ≤ length a.counts.now = search rules in
+    let most : k ≤ length a.row.now - 1 = omega arith in
     omega (
       arith,
-      room_small c.processors_to.result a.minutes
+      room_small c.processors_in.result a.minutes
           (omega (
             arith,
-            c.processors_to.ensures,
-            sum_mono c.loop-k.k a.classes (count_of a.counts) (omega arith),
+            c.processors_in.ensures,
+            sum-taken a.counts.now k (omega arith),
+            sum_mono k (length a.row.now - 1) (count_of a.counts.now) most,
           ))
           (omega arith),
     )
 
 pub loop-k-preserved : goal.loop-k-preserved
 loop-k-preserved c =
-    let l = c.loop-k in
-    let room = ap (λ (p : ℕ). p * c.args.minutes) c.processors_to.ensures in
-    (search rules, simp length-set l.invariant.1, put-more _ _ _ _ _ _ (omega arith) room l.invariant.2)
-
-pub returns : goal.returns
-returns c =
-    let e : c.loop-k.k ≡ suc c.args.classes = omega arith in
-    rw e at c.loop-k.invariant.2
+    let a = c.args in
+    let k = c.loop-k.k in
+    let size : 16 ≤ length a.counts.now = search rules in
+    let e : c.processors_in.result ≡ sum k (count_of a.counts.now) =
+    c.processors_in.ensures ∙ sum-taken a.counts.now k (omega arith) in
+    row_more k _ (omega (arith, c.loop-k.auto.row, c.loop-k-test.true)) (ap (λ (p : ℕ). p * a.minutes) e) c.loop-k.invariant

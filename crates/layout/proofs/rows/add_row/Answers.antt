@@ -1,49 +1,17 @@
 -- A row lengthened, or one more.
-use Prim.Native.Nat.{◌-◌}
-use mathlib.Core.Path.{sym, ◌∙◌}
-use native.Mathlib.Omega.{arith}
-use lib.ListN.{get_or}
+use Rattle.std.proofs.Common.{◌*◌, sym}
 use Rattle.wrap.specs.Filled.{row}
-use Rattle.layout.specs.Sheet.{sheet}
-use Rattle.layout.proofs.Writing.{ending-some, added-longer, added-behind}
+use Rattle.layout.specs.Sheet.{standing}
+use Rattle.layout.proofs.Writing.{ends-with-job, ends-without, added-longer, added-behind, four-written}
 use Rattle.layout.proofs.rows.add_row.Goals as goal
 
-pub ends_with-requires : goal.ends_with-requires
-ends_with-requires c =
-    let l = c.requires.0.stand (c.args.processor - 1) in
-    (omega (arith, l), omega (arith, l, c.requires.5))
+pub returns-then-eq : goal.returns-then-eq
+returns-then-eq c = sym (added-longer (standing c.args.written.now c.args.rows.now)
+    (row c.args.job c.args.processor c.args.from c.args.to) (ends-with-job _ c.ends_with.ensures c.if-eq.ensures))
 
-pub overflow_mul-rows : goal.overflow_mul-rows
-overflow_mul-rows c =
-    omega (arith, c.requires.0.stand (c.args.processor - 1))
-
-pub overflow_sub-rows : goal.overflow_sub-rows
-overflow_sub-rows c =
-    let e = sym c.ends_with.ensures ∙ c.if-ends_with-job.true in
-    omega (arith, ending-some c.args.rows.now (get_or c.args.last.now (c.args.processor - 1) 0) _ c.args.job e c.requires.2)
-
-pub offset_bounds-rows-number : goal.offset_bounds-rows-number
-offset_bounds-rows-number c =
-    omega (arith, c.requires.0.stand (c.args.processor - 1))
-
-pub bounds-rows-number : goal.bounds-rows-number
-bounds-rows-number c =
-    let e = sym c.ends_with.ensures ∙ c.if-ends_with-job.true in
-    omega (
-      arith,
-      c.requires.0.stand (c.args.processor - 1),
-      c.requires.0.room,
-      ending-some c.args.rows.now (get_or c.args.last.now (c.args.processor - 1) 0) _ c.args.job e c.requires.2,
-    )
-
-pub returns-then-ends_with-job : goal.returns-then-ends_with-job
-returns-then-ends_with-job c =
-    let e = sym c.ends_with.ensures ∙ c.if-ends_with-job.true in
-    sym (added-longer (sheet c.args.written c.args.last.now c.args.rows.now)
-    (row c.args.job c.args.processor c.args.from c.args.to) e)
-
-pub returns : goal.returns
-returns c =
-    rw c.put_row.ensures
-    (sym (added-behind (sheet c.args.written c.args.last.now c.args.rows.now)
-    (row c.args.job c.args.processor c.args.from c.args.to) (λ e. c.if-ends_with-job.false (c.ends_with.ensures ∙ e))))
+pub returns-else-eq : goal.returns-else-eq
+returns-else-eq c =
+    let a = c.args in
+    rw (four-written a.rows.now _ (4 * a.written.now.count) a.job a.processor a.from a.to c.copy_from_slice.ensures.after)
+    (sym (added-behind (standing a.written.now a.rows.now) (row a.job a.processor a.from a.to)
+    (ends-without _ c.ends_with.ensures c.requires.2 c.if-eq.ensures)))

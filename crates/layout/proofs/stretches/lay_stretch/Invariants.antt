@@ -1,12 +1,9 @@
--- The loop's invariant: the shares of the jobs from place k on go on from the place that the loop has come to.
-use Prim.Native.Nat.{◌-◌}
-use Rattle.layout.specs.Sheet.{sheet}
+-- The loop's invariant: the shares of the jobs that are left go on from the place that the loop has come to.
+use Rattle.layout.specs.Sheet.{standing}
 use Rattle.layout.proofs.Stretching.{Stretching}
 use Rattle.layout.proofs.stretches.lay_stretch.Given as goal
 
-abbrev pub invariant-loop-k : goal.invariant-loop-k
-invariant-loop-k l =
-    Stretching l.start l.end l.m l.processors l.n l.jobs l.q l.w l.s l.written (sheet l.written l.initial.last l.initial.rows) l.place l.k (sheet l.place.rows l.last l.rows)
-
-abbrev pub decreases-loop-k : goal.decreases-loop-k
-decreases-loop-k l = l.n - l.k
+abbrev pub invariant-loop-job : goal.invariant-loop-job
+invariant-loop-job l =
+    Stretching l.stretch.start l.stretch.end l.processors l.jobs l.q l.w l.stretch.number (standing l.initial.written l.initial.rows)
+    l.place l.job-index (standing l.written l.rows)
