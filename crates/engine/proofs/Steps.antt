@@ -1,6 +1,6 @@
 -- The stores of a step, seen as a move, and the engine's loops as a run.
 use Prim.Native.Nat.{ℕ, suc, ◌+◌, ◌-◌, ◌*◌, ◌^◌, ◌≤◌, ◌<◌, min}
-use mathlib.Core.Path.{◌≡◌, refl, sym, ap, subst, ◌∙◌}
+use mathlib.Core.Path.{◌≡◌, refl, sym, ap, ◌∙◌}
 use mathlib.Core.Logic.{◌≢◌}
 use mathlib.Core.List.{List, []}
 use mathlib.Core.Bool.{Bool, true, false}
@@ -9,6 +9,10 @@ use lib.Seq.{get_or-set_same, get_or-set_other}
 use native.Mathlib.Numerals.{add-one}
 use native.Mathlib.Decide.{dec_lt}
 use native.Mathlib.Omega.{arith}
+use borrow.Rule.Slice.PartMut.{put_mid}
+use Rattle.std.specs.List.{between}
+use Rattle.std.proofs.lemmas.List.Edits.{get_or-between, length-between}
+use Rattle.engine.proofs.Laws.{part-before, part-inside, part-after}
 use Rattle.sums.specs.Sum.{sum-ge}
 use Rattle.sums.specs.Gate.{gate, gate-in, gate-out}
 use Rattle.amounts.specs.Flow.{Flow}
@@ -16,7 +20,7 @@ use Rattle.amounts.specs.State.{Fill, State, Able, Barred, Moved, measure, class
 use Rattle.amounts.specs.Start.{Begun, start-state}
 use Rattle.amounts.specs.Relabel.{rise-state, rise-less}
 use Rattle.amounts.specs.Push.{push-state, push-less, push-barred}
-use Rattle.engine.specs.Start.{Given, Filled, Copied, IdleRow, Level, room_at, start-order, start-idle}
+use Rattle.engine.specs.Start.{Given, IdleRow, room_at, start-order, start-idle}
 use Rattle.engine.specs.Run.{
   Turns,
   Displaced,
@@ -32,7 +36,6 @@ use Rattle.engine.specs.Run.{
   RunOf,
 }
 use Rattle.engine.specs.RunLaws.{turns_more}
-use Rattle.engine.specs.declared.Move.TheVariants.{Push}
 use Rattle.engine.specs.View.{
   grid,
   row,
@@ -49,48 +52,74 @@ use Rattle.engine.specs.View.{
   Pushed,
   Stands,
   Ready,
-  Found,
+  PushAt,
+  Placed,
   in_rows,
   row-end,
   other_row,
   other-column,
 }
 
+-- the slacks at base, with those between two classes lowered or raised
 module _ (xs ys : List ℕ) (base c e d : ℕ) where
-  pub shifted-lowered : c ≤ e → Lowered xs ys (base + c) (base + e) d → Shifted xs ys base c e d
-  shifted-lowered ce L =
+  pub shifted-lowered : c ≤ e → base + e ≤ length xs → length ys ≡ base + e - (base + c) →
+      Lowered (between (base + c) (base + e) xs) ys d → Shifted xs (put_mid (base + c) (base + e - (base + c)) xs ys) base c e d
+  shifted-lowered ce long same L =
+      let k : ℕ = base + e - (base + c) in
+      let zs = put_mid (base + c) k xs ys in
+      let room : base + c + k ≤ length xs = omega arith in
       record {
-        before = λ k l. L.before k (omega arith);
-        here = λ k.
-            elim (dec_lt k c) [
-              | yes u ↦ omega (arith, L.before (base + k) (omega arith), gate-out c (suc k) d u, gate-out e (suc k) d (omega arith))
+        before = λ i l. part-before (base + c) k xs ys room same i (omega arith);
+        here = λ i.
+            elim (dec_lt i c) [
+              | yes u ↦ omega (arith, part-before (base + c) k xs ys room same (base + i) (omega arith), gate-out c (suc i) d u, gate-out e (suc i) d (omega arith))
               | no u ↦
-                  elim (dec_lt k e) [
+                  elim (dec_lt i e) [
                     | yes v ↦
-                        let at = L.inside (base + k) (omega arith) (omega arith) in
-                        omega (arith, at, gate-in c (suc k) d (omega arith), gate-out e (suc k) d v)
+                        let z : base + c + (i - c) ≡ base + i = omega arith in
+                        omega (
+                          arith,
+                          ap (λ (t : ℕ). get_or zs t 0) z,
+                          ap (λ (t : ℕ). get_or xs t 0) z,
+                          part-inside (base + c) k xs ys room same (i - c) (omega arith),
+                          get_or-between xs (base + c) (base + e) (i - c) 0 (omega arith),
+                          L.each (i - c) (omega (arith, length-between xs (base + c) (base + e) long)),
+                          gate-in c (suc i) d (omega arith),
+                          gate-out e (suc i) d v,
+                        )
                     | no v ↦
-                        let at = L.after (base + k) (omega arith) in
-                        omega (arith, at, gate-in c (suc k) d (omega arith), gate-in e (suc k) d (omega arith))
+                        omega (arith, part-after (base + c) k xs ys room same (base + i) (omega arith), gate-in c (suc i) d (omega arith), gate-in e (suc i) d (omega arith))
                   ]
             ];
       }
 
-  pub shifted-raised : e ≤ c → Raised xs ys (base + e) (base + c) d → Shifted xs ys base c e d
-  shifted-raised ec L =
+  pub shifted-raised : e ≤ c → base + c ≤ length xs → length ys ≡ base + c - (base + e) →
+      Raised (between (base + e) (base + c) xs) ys d → Shifted xs (put_mid (base + e) (base + c - (base + e)) xs ys) base c e d
+  shifted-raised ec long same L =
+      let k : ℕ = base + c - (base + e) in
+      let zs = put_mid (base + e) k xs ys in
+      let room : base + e + k ≤ length xs = omega arith in
       record {
-        before = λ k l. L.before k (omega arith);
-        here = λ k.
-            elim (dec_lt k e) [
-              | yes u ↦ omega (arith, L.before (base + k) (omega arith), gate-out e (suc k) d u, gate-out c (suc k) d (omega arith))
+        before = λ i l. part-before (base + e) k xs ys room same i (omega arith);
+        here = λ i.
+            elim (dec_lt i e) [
+              | yes u ↦ omega (arith, part-before (base + e) k xs ys room same (base + i) (omega arith), gate-out e (suc i) d u, gate-out c (suc i) d (omega arith))
               | no u ↦
-                  elim (dec_lt k c) [
+                  elim (dec_lt i c) [
                     | yes v ↦
-                        let at = L.inside (base + k) (omega arith) (omega arith) in
-                        omega (arith, at, gate-in e (suc k) d (omega arith), gate-out c (suc k) d v)
+                        let z : base + e + (i - e) ≡ base + i = omega arith in
+                        omega (
+                          arith,
+                          ap (λ (t : ℕ). get_or zs t 0) z,
+                          ap (λ (t : ℕ). get_or xs t 0) z,
+                          part-inside (base + e) k xs ys room same (i - e) (omega arith),
+                          get_or-between xs (base + e) (base + c) (i - e) 0 (omega arith),
+                          L.each (i - e) (omega (arith, length-between xs (base + e) (base + c) long)),
+                          gate-in e (suc i) d (omega arith),
+                          gate-out c (suc i) d v,
+                        )
                     | no v ↦
-                        let at = L.after (base + k) (omega arith) in
-                        omega (arith, at, gate-in e (suc k) d (omega arith), gate-in c (suc k) d (omega arith))
+                        omega (arith, part-after (base + e) k xs ys room same (base + i) (omega arith), gate-in e (suc i) d (omega arith), gate-in c (suc i) d (omega arith))
                   ]
             ];
       }
@@ -141,8 +170,8 @@ able-with n q m time time' class cap room room' w slack left left' h j i s A =
     record { j-job = A.j-job; i-any = A.i-any; s-any = A.s-any; spare = A.spare; some = A.some; free = A.free; lower = A.lower }
 
 found-with : (n q m : ℕ) (time class cap room w slack left h : List ℕ) (j s i : ℕ) →
-    Found (flow_of n q m [] class cap []) (fill_of q m w slack [] h) j (Push s i) →
-    Found (flow_of n q m time class cap room) (fill_of q m w slack left h) j (Push s i)
+    PushAt (flow_of n q m [] class cap []) (fill_of q m w slack [] h) j s i →
+    PushAt (flow_of n q m time class cap room) (fill_of q m w slack left h) j s i
 found-with n q m time class cap room w slack left h j s i F = (
   able-with n q m [] time class cap [] room w slack [] left h j i s F.0,
   record { none = F.1.none },
@@ -196,7 +225,8 @@ module _ (n q m : ℕ) (time class cap room w slack left h : List ℕ) (R : Read
         under = omega (arith, A.spare);
       }
 
-  module _ (d : ℕ) (D : Amount cap w slack left j (j * q + s) (i * q + s) (s * m + row class j) (s * m + row class i) d) where
+  module _ (d first : ℕ) (is-first : first ≡ min (row class j) (row class i))
+      (D : Amount cap w left (between (s * m + first) (s * m + row class i) slack) j (j * q + s) (i * q + s) d) where
     pub left-fits : ((k : ℕ) → get_or time k 0 < 2 ^ 32) → get_or left i 0 + d < 2 ^ 32
     left-fits small = omega (arith, small i, rest-fits _ m _ R.state i s d A.i-any A.s-any D.w_fits)
 
@@ -213,13 +243,38 @@ module _ (n q m : ℕ) (time class cap room w slack left h : List ℕ) (R : Read
               (omega (arith, class-top _ _ R.order j (omega (arith, A.j-job)))),
         )
 
-    -- places of stretch s in the slacks, seen by class
+    -- the slacks between the two classes
+    abbrev lent : List ℕ
+    lent = between (s * m + first) (s * m + row class i) slack
+
+    lent-length : length lent ≡ s * m + row class i - (s * m + first)
+    lent-length = length-between slack (s * m + first) (s * m + row class i) places.to-slack
+
+    lent-fits : (k : ℕ) → row class j ≤ k → k < row class i → d ≤ grid m slack s k
+    lent-fits k lo hi =
+        let z : s * m + first + (k - row class j) ≡ s * m + k = omega (arith, is-first) in
+        omega (
+          arith,
+          ap (λ (v : ℕ). get_or slack v 0) z,
+          get_or-between slack (s * m + first) (s * m + row class i) (k - row class j) 0 (omega (arith, is-first)),
+          D.slack-fits (k - row class j) (omega (arith, is-first, lent-length)),
+        )
+
+    pub lower-fits : (k : ℕ) → s * m + row class j ≤ k → k < s * m + row class i → d ≤ get_or slack k 0
+    lower-fits k lo hi =
+        let z : s * m + (k - s * m) ≡ k = omega arith in
+        omega (arith, ap (λ (v : ℕ). get_or slack v 0) z, lent-fits (k - s * m) (omega arith) (omega arith))
+
     flat : (v : ℕ) → ((k : ℕ) → row class j ≤ k → k < row class i → v ≤ grid m slack s k) →
-        (k : ℕ) → s * m + row class j ≤ k → k < s * m + row class i → v ≤ get_or slack k 0
-    flat v f k lo hi =
-        let t : ℕ = k - s * m in
-        let z : s * m + t ≡ k = omega arith in
-        omega (arith, ap (λ u. get_or slack u 0) z, f t (omega arith) (omega arith))
+        (k : ℕ) → k < length lent → v ≤ get_or lent k 0
+    flat v f k l =
+        let z : s * m + first + k ≡ s * m + (row class j + k) = omega (arith, is-first, lent-length) in
+        omega (
+          arith,
+          ap (λ (u : ℕ). get_or slack u 0) z,
+          get_or-between slack (s * m + first) (s * m + row class i) k 0 (omega (arith, is-first, lent-length)),
+          f (row class j + k) (omega arith) (omega (arith, is-first, lent-length)),
+        )
 
     module _ (w' slack' left' : List ℕ) (W : Transferred w w' (j * q + s) (i * q + s) d) (L : Transferred left left' i j d)
         (S : Shifted slack slack' (s * m) (row class j) (row class i) d) where
@@ -251,7 +306,7 @@ module _ (n q m : ℕ) (time class cap room w slack left h : List ℕ) (R : Read
                   left-fits = D.left-fits;
                   cap-fits = D.cap-fits;
                   w_fits = D.w_fits;
-                  slack-fits = λ k lo hi. D.slack-fits (s * m + k) (omega arith) (omega arith);
+                  slack-fits = lent-fits;
                   greatest = λ v a b c f. D.greatest v a b c (flat v f);
                 };
             moved = pushed-moved;
@@ -335,7 +390,7 @@ module _ (n q m : ℕ) (time class cap room w₀ slack₀ left₀ h₀ : List �
 
   module _ (w slack left h : List ℕ) (u : ℕ) (G : Going n q m time class cap room w₀ slack₀ left₀ h₀ w slack left h j u) where
     pub going-push : (s i : ℕ) (w' slack' left' : List ℕ) → 0 < get_or left j 0 →
-        Found (flow_of n q m [] class cap []) (fill_of q m w slack [] h) j (Push s i) →
+        PushAt (flow_of n q m [] class cap []) (fill_of q m w slack [] h) j s i →
         Pushed (flow_of n q m time class cap room) m (fill_of q m w slack left h) (fill_of q m w' slack' left' h) j s →
         length w' ≡ length w → length slack' ≡ length slack → length left' ≡ length left →
         Displaced (flow_of n q m time class cap room) m (fill_of q m w slack left h) (fill_of q m w' slack' left' h) j i s →
@@ -398,47 +453,50 @@ module _ (n q m : ℕ) (time class cap room w₀ slack₀ left₀ h₀ : List �
     )
 
 -- how a filling goes on and ends, as a run
-module _ (n q m : ℕ) (time class cap room w slack left h : List ℕ) (R : Ready n q m time class cap room w slack left h)
-    (x : Fill) (k j : ℕ) (P : Picked (row left) n j)
+module _ (n q m : ℕ) (time class cap room w slack left h : List ℕ) (x : Fill) (k : ℕ)
     (path : Turns Fill (FillTurn (flow_of n q m time class cap room) m) k x (fill_of q m w slack left h)) where
-  pub run-placed : j ≡ n → FillRun (flow_of n q m time class cap room) m x (fill_of q m w slack left h) true
-  run-placed e = record { turns = k; path = path; ends = all_placed (subst (λ v. Picked (row left) n v) e P) refl }
+  pub run-placed : Placed (row left) n → FillRun (flow_of n q m time class cap room) m x (fill_of q m w slack left h) true
+  run-placed P = record { turns = k; path = path; ends = all_placed P refl }
 
-  pub run-high : j < n → n < get_or h j 0 → FillRun (flow_of n q m time class cap room) m x (fill_of q m w slack left h) false
-  run-high l s = record { turns = k; path = path; ends = too-high j P l s refl }
+  module _ (j : ℕ) (P : Picked (row left) n j) where
+    pub run-high : n < get_or h j 0 → FillRun (flow_of n q m time class cap room) m x (fill_of q m w slack left h) false
+    run-high s = record { turns = k; path = path; ends = too-high j P s refl }
 
-  pub run-gap : j < n → 1 < get_or h j 0 → Stands (row h) n (get_or h j 0 - 1) false →
-      FillRun (flow_of n q m time class cap room) m x (fill_of q m w slack left h) false
-  run-gap l s S = record { turns = k; path = path; ends = gap_below j P l s S refl }
+    pub run-gap : 1 < get_or h j 0 → Stands (row h) n (get_or h j 0 - 1) false →
+        FillRun (flow_of n q m time class cap room) m x (fill_of q m w slack left h) false
+    run-gap s S = record { turns = k; path = path; ends = gap_below j P s S refl }
 
-  pub run-turn : (y : Fill) → j < n → get_or h j 0 ≤ n → (1 < get_or h j 0 → Stands (row h) n (get_or h j 0 - 1) true) →
-      DischargeRun (flow_of n q m time class cap room) m j (fill_of q m w slack left h) y →
-      Turns Fill (FillTurn (flow_of n q m time class cap room) m) (suc k) x y
-  run-turn y l low held D =
-      turns_more Fill (FillTurn (flow_of n q m time class cap room) m) k _ _ _ path
-      (record { j = j; picked = P; job = l; low = low; held = held; discharged = D })
+    pub run-turn : (y : Fill) → get_or h j 0 ≤ n → (1 < get_or h j 0 → Stands (row h) n (get_or h j 0 - 1) true) →
+        DischargeRun (flow_of n q m time class cap room) m j (fill_of q m w slack left h) y →
+        Turns Fill (FillTurn (flow_of n q m time class cap room) m) (suc k) x y
+    run-turn y low held D =
+        turns_more Fill (FillTurn (flow_of n q m time class cap room) m) k _ _ _ path
+        (record { j = j; picked = P; low = low; held = held; discharged = D })
 
 -- the stores of the start, and the whole run
 module _ (n q m : ℕ) (time class cap room w slack left h w1 w2 slack' left' h' : List ℕ)
-    (Z : Sizes n q m time class cap room w slack left h) (G : Given n q m time class room) (F : Filled w1 (n * q) 0)
-    (I : IdleRow room w1 w2 n q m q) (C : Copied room slack' (q * m)) (D : Copied time left' n) (L : Level h' n)
-    (same_left : length left' ≡ length left) where
-  begun : Begun (flow_of n q m time class cap room) m (fill_of q m w2 slack' (set left' n 0) h')
+    (Z : Sizes n q m time class cap room w slack left h) (G : Given n q m time class room)
+    (F : (k : ℕ) → k < n * q → get_or w1 k 0 ≡ 0) (I : IdleRow room w1 w2 n q m q)
+    (C : (k : ℕ) → k < q * m → get_or slack' k 0 ≡ get_or room k 0)
+    (D : (k : ℕ) → k < n → get_or left' k 0 ≡ get_or time k 0) (L : (k : ℕ) → k < n → get_or h' k 0 ≡ 1)
+    (same_left : length left' ≡ length left) (same-h : length h' ≡ length h) where
+  begun : Begun (flow_of n q m time class cap room) m (fill_of q m w2 slack' (set left' n 0) (set h' n 0))
   begun =
       record {
-        no-amount = λ j s lj ls. I.below (j * q + s) (in_rows j q s n lj ls) ∙ F.each (j * q + s) (in_rows j q s n lj ls);
+        no-amount = λ j s lj ls. I.below (j * q + s) (in_rows j q s n lj ls) ∙ F (j * q + s) (in_rows j q s n lj ls);
         all-idle = λ s ls. I.idle s ls ∙ sym (room_at n q m time class cap room G s (m - 1) (omega (arith, G.classes)));
-        all-slack = λ s k ls lk. C.each (s * m + k) (in_rows s m k q ls lk) ∙ sym (room_at n q m time class cap room G s k lk);
-        all_left = λ j lj. get_or-set_other left' n j 0 0 (λ e. omega (arith, e)) ∙ D.each j lj;
+        all-slack = λ s k ls lk. C (s * m + k) (in_rows s m k q ls lk) ∙ sym (room_at n q m time class cap room G s k lk);
+        all_left = λ j lj. get_or-set_other left' n j 0 0 (λ e. omega (arith, e)) ∙ D j lj;
         none_left = get_or-set_same left' n 0 0 (omega (arith, Z.s-left));
-        one = L.one;
-        grounded = L.grounded;
+        one = λ j lj. get_or-set_other h' n j 0 0 (λ e. omega (arith, e)) ∙ L j lj;
+        grounded = get_or-set_same h' n 0 0 (omega (arith, Z.s-h));
       }
 
-  pub begin : length w1 ≡ length w → length w2 ≡ length w1 → length slack' ≡ length slack → length h' ≡ length h →
-      Ready n q m time class cap room w2 slack' (set left' n 0) h'
-  begin e1 e2 e3 e4 =
-      let same : length (set left' n 0) ≡ length left' = length-set left' n 0 in
+  pub begin : length w1 ≡ length w → length w2 ≡ length w1 → length slack' ≡ length slack →
+      Ready n q m time class cap room w2 slack' (set left' n 0) (set h' n 0)
+  begin e1 e2 e3 =
+      let left-length : length (set left' n 0) ≡ length left' = length-set left' n 0 in
+      let h-length : length (set h' n 0) ≡ length h' = length-set h' n 0 in
       record {
         sizes =
             record {
@@ -458,7 +516,7 @@ module _ (n q m : ℕ) (time class cap room w slack left h w1 w2 slack' left' h'
       }
 
   pub solved : (y : Fill) (r : Bool) →
-      FillRun (flow_of n q m time class cap room) m (fill_of q m w2 slack' (set left' n 0) h') y r →
+      FillRun (flow_of n q m time class cap room) m (fill_of q m w2 slack' (set left' n 0) (set h' n 0)) y r →
       RunOf (flow_of n q m time class cap room) m y.w r
   solved y r R =
       record {
@@ -475,7 +533,7 @@ module _ (n q m : ℕ) (time class cap room w slack left h w1 w2 slack' left' h'
         classes = G.classes;
         class-high = λ j l. omega (arith, G.high j l);
         class-idle = G.idle-class;
-        start = fill_of q m w2 slack' (set left' n 0) h';
+        start = fill_of q m w2 slack' (set left' n 0) (set h' n 0);
         end = y;
         begun = begun;
         run = R;

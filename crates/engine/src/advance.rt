@@ -5,36 +5,25 @@ ghost use Rattle.engine.specs.View.{Amount, Shifted, Ready, Advanced, Pushed, fl
 ghost use Rattle.engine.specs.Run.{Displaced, DischargeRun};
 ghost use Rattle.amounts.specs.State.{Able};
 
-use super::Move;
-use super::moves::find;
-use super::slices::{least, lower, raise, transfer};
-
-pub fn lesser(a: u32, b: u32) -> u32
-    ensures { (result ≤ a) × (result ≤ b) × ((v : ℕ) → v ≤ a → v ≤ b → v ≤ result) }
-{
-    if a < b { a } else { b }
-}
+use super::moves::{Push, find};
+use super::slices::{lower, raise, transfer};
 
 // The most that job j can displace.
 pub fn amount(
     cap: &[u32],
     w: &[u32],
-    slack: &[u32],
     left: &[u32],
+    slack: &[u32],
     j: usize,
     up: usize,
     down: usize,
-    from: usize,
-    to: usize,
 ) -> u32
-    requires j_in_bounds { (j < length left.now) × (up < length cap.now) × (up < length w.now) × (down < length w.now)
-        × (to ≤ length slack.now) }
+    requires j_in_bounds { (j < length left.now) × (up < length cap.now) × (up < length w.now) × (down < length w.now) }
     requires up_bound { get_or w.now up 0 ≤ get_or cap.now up 0 }
-    ensures { Amount cap.now w.now slack.now left.now j up down from to result }
+    ensures { Amount cap.now w.now left.now slack.now j up down result }
 {
-    let a = lesser(left[j], cap[up] - w[up]);
-    let b = lesser(a, w[down]);
-    least(slack, from, to, b)
+    let most = left[j].min(cap[up] - w[up]).min(w[down]);
+    slack.iter().fold(most, |d, spare| d.min(*spare))
 }
 
 // The slacks after d of class e gave way to class c.
@@ -45,9 +34,9 @@ pub fn reslack(xs: &mut [u32], base: usize, c: usize, e: usize, d: u32)
     ensures { Shifted xs.old xs.new base c e d }
 {
     if c < e {
-        lower(xs, base + c, base + e, d);
+        lower(&mut xs[base + c..base + e], d);
     } else {
-        raise(xs, base + e, base + c, d);
+        raise(&mut xs[base + e..base + c], d);
     }
 }
 
@@ -83,21 +72,14 @@ pub fn push(
     let up = j * q + s;
     let down = i * q + s;
     let base = s * m;
-    let d = amount(cap, w, slack, left, j, up, down, base + c, base + e);
+    let between = &slack[base + c.min(e)..base + e];
+    let d = amount(cap, w, left, between, j, up, down);
     transfer(w, up, down, d);
     transfer(left, i, j, d);
     reslack(slack, base, c, e, d);
 }
 
-// Job j rises by one.
-pub fn rise(height: &mut [usize], j: usize)
-    requires { (j < length height.old) × (get_or height.old j 0 + 1 < 2 ^ 64) }
-    ensures { height.new ≡ set height.old j (get_or height.old j 0 + 1) }
-{
-    height[j] = height[j] + 1;
-}
-
-// Job j displaces until nothing of it is left, or it rises.
+// Job j displaces until nothing of it is left, or it rises by one.
 pub fn discharge(
     time: &[u32],
     class: &[usize],
@@ -123,12 +105,13 @@ pub fn discharge(
 {
     let mut u = q;
     while 0 < left[j] {
-        let Move::Push(s, i) = find(class, cap, w, slack, height, n, q, m, j, u) else {
-            return rise(height, j);
+        let Some(Push { stretch, job }) = find(class, cap, w, slack, height, n, q, m, j, u) else {
+            height[j] += 1;
+            return;
         };
         push(
-            time, class, cap, room, w, slack, left, height, n, q, m, j, s, i,
+            time, class, cap, room, w, slack, left, height, n, q, m, j, stretch, job,
         );
-        u = s + 1;
+        u = stretch + 1;
     }
 }

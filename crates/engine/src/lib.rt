@@ -6,10 +6,3 @@ mod advance; // a job displaces others until nothing of it is left, or it rises
 pub mod filling; // solve
 mod moves; // which job goes on, and its step
 mod slices; // small work on lent slices
-
-// A step of a job: to displace in a stretch a job, or to rise.
-#[derive(Clone, Copy)]
-pub enum Move {
-    Push(usize, usize),
-    Rise,
-}

@@ -1,24 +1,23 @@
 // Which job goes on, and the step that it can take. Each function serves this crate alone and has a `requires`.
 ghost use Rattle.std.specs.Prelude.{ℕ, suc, ◌*◌, ◌<◌, ◌≤◌, length, get_or, []};
-ghost use Rattle.engine.specs.View.{Picked, Aim, Found, Stands, row, flow_of, fill_of};
+ghost use Rattle.engine.specs.View.{PickedFirst, Aim, Found, Stands, row, flow_of, fill_of};
 ghost use Rattle.amounts.specs.State.{Barred};
 
-use super::Move;
-use super::slices::first_zero;
+use super::slices::before_zero;
 
-// The first job with something left, or n.
-pub fn pick(left: &[u32], n: usize) -> usize
+// Whom a job displaces: a job in a stretch.
+#[derive(Clone, Copy)]
+pub struct Push {
+    pub stretch: usize,
+    pub job: usize,
+}
+
+// The first job with something left.
+pub fn pick(left: &[u32], n: usize) -> Option<usize>
     requires { n < length left.now }
-    ensures { Picked (row left.now) n result }
+    ensures { PickedFirst (row left.now) n result }
 {
-    let mut a: usize = 0;
-    while a < n {
-        if 0 < left[a] {
-            return a;
-        }
-        a += 1;
-    }
-    n
+    left[..n].iter().position(|rest| 0 < *rest)
 }
 
 // Whether one of the jobs stands at the height g.
@@ -26,17 +25,10 @@ pub fn stands(height: &[usize], n: usize, g: usize) -> bool
     requires { n ≤ length height.now }
     ensures { Stands (row height.now) n g result }
 {
-    let mut a: usize = 0;
-    while a < n {
-        if height[a] == g {
-            return true;
-        }
-        a += 1;
-    }
-    false
+    height[..n].contains(&g)
 }
 
-// The last job that one of height h can displace in stretch s, up to the class tight; n + 1 where there is none.
+// The last job that one of height h can displace in stretch s, up to the class tight.
 pub fn aim(
     class: &[usize],
     w: &[u32],
@@ -46,29 +38,20 @@ pub fn aim(
     s: usize,
     tight: usize,
     h: usize,
-) -> usize
+) -> Option<usize>
     requires { (n < length class.now) × (n < length height.now) × (s < q) × (suc n * q ≤ length w.now) }
     ensures { Aim class.now w.now height.now n q s tight h result }
 {
-    if h == 0 {
-        return n + 1;
-    }
-    let below = h - 1;
-    let mut i = n + 1;
-    while 0 < i {
-        i -= 1;
-        if height[i] == below {
-            if class[i] <= tight {
-                if 0 < w[i * q + s] {
-                    return i;
-                }
-            }
+    let below = h.checked_sub(1)?;
+    for i in (0..=n).rev() {
+        if height[i] == below && class[i] <= tight && 0 < w[i * q + s] {
+            return Some(i);
         }
     }
-    n + 1
+    None
 }
 
-// A step of job j in the stretches below u, where none is from u on; from the last to the first.
+// Whom job j displaces in the stretches below u, where it displaces nobody from u on; from the last to the first.
 pub fn find(
     class: &[usize],
     cap: &[u32],
@@ -80,7 +63,7 @@ pub fn find(
     m: usize,
     j: usize,
     u: usize,
-) -> Move
+) -> Option<Push>
     requires j_lt_n { (j < n) × (u ≤ q) × (n < length class.now) × (n < length height.now) }
     requires q_in_bounds { (n * q ≤ length cap.now) × (suc n * q ≤ length w.now) × (q * m ≤ length slack.now) }
     requires by_index { (a : ℕ) → a ≤ n → get_or class.now a 0 ≤ m }
@@ -90,18 +73,15 @@ pub fn find(
 {
     let c = class[j];
     let h = height[j];
-    let mut s = u;
-    while 0 < s {
-        s -= 1;
+    for s in (0..u).rev() {
         let at = j * q + s;
         if w[at] < cap[at] {
             let base = s * m;
-            let t = first_zero(slack, base + c, base + m);
-            let i = aim(class, w, height, n, q, s, t - base, h);
-            if i <= n {
-                return Move::Push(s, i);
+            let tight = c + before_zero(&slack[base + c..base + m]);
+            if let Some(i) = aim(class, w, height, n, q, s, tight, h) {
+                return Some(Push { stretch: s, job: i });
             }
         }
     }
-    Move::Rise
+    None
 }
