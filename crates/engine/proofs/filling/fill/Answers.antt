@@ -20,14 +20,12 @@ pub returns-then-not-stands-clause-answer : goal.returns-then-not-stands-clause-
 returns-then-not-stands-clause-answer c =
     let R = c.loop-j.invariant.0 in
     let P = c.in-Some.ensures in
-    let t = c.if-h-gt1.true in
-    gap-cut _ _ _ R.order R.state _ (omega (arith, t)) c.if-not-stands.ensures _ P.job (omega (arith, t)) P.active
+    gap-cut _ _ _ R.order R.state _ (omega arith) c.if-not-stands.ensures _ P.job (omega arith) P.active
 
 pub returns-then-not-stands-clause-fill_run : goal.returns-then-not-stands-clause-fill_run
 returns-then-not-stands-clause-fill_run c =
     let v = c.loop-j.invariant in
-    let t = c.if-h-gt1.true in
-    run-gap _ _ _ _ _ _ _ _ _ _ _ _ v.1.0 v.1.1 _ c.in-Some.ensures (omega (arith, t)) c.if-not-stands.ensures
+    run-gap _ _ _ _ _ _ _ _ _ _ _ _ v.1.0 v.1.1 _ c.in-Some.ensures (omega arith) c.if-not-stands.ensures
 
 pub loop-j-preserved : goal.loop-j-preserved
 loop-j-preserved c =
