@@ -162,20 +162,20 @@ moved n q m time class cap room w w' slack slack' left left' h j i s d sq ne W L
       h-same = λ a. refl;
     }
 
--- a search looks at no times, rooms and rests
-pub able-with : (n q m : ℕ) (time time' class cap room room' w slack left left' h : List ℕ) (j i s : ℕ) →
+-- a search looks at no rests
+pub able-with : (n q m : ℕ) (time class cap room w slack left left' h : List ℕ) (j i s : ℕ) →
     Able (flow_of n q m time class cap room) (fill_of q m w slack left h) j i s →
-    Able (flow_of n q m time' class cap room') (fill_of q m w slack left' h) j i s
-able-with n q m time time' class cap room room' w slack left left' h j i s A =
+    Able (flow_of n q m time class cap room) (fill_of q m w slack left' h) j i s
+able-with n q m time class cap room w slack left left' h j i s A =
     record { j-job = A.j-job; i-any = A.i-any; s-any = A.s-any; spare = A.spare; some = A.some; free = A.free; lower = A.lower }
 
-found-with : (n q m : ℕ) (time class cap room w slack left h : List ℕ) (j s i : ℕ) →
-    PushAt (flow_of n q m [] class cap []) (fill_of q m w slack [] h) j s i →
+pub found-with : (n q m : ℕ) (time class cap room w slack left h : List ℕ) (j s i : ℕ) →
+    PushAt (flow_of n q m time class cap room) (fill_of q m w slack [] h) j s i →
     PushAt (flow_of n q m time class cap room) (fill_of q m w slack left h) j s i
 found-with n q m time class cap room w slack left h j s i F = (
-  able-with n q m [] time class cap [] room w slack [] left h j i s F.0,
+  able-with n q m time class cap room w slack [] left h j i s F.0,
   record { none = F.1.none },
-  λ a l A. F.2 a l (able-with n q m time [] class cap room [] w slack left [] h j a s A),
+  λ a l A. F.2 a l (able-with n q m time class cap room w slack left [] h j a s A),
 )
 
 -- what is displaced fits: in the rest of job i, and in the slacks from its class on
@@ -206,7 +206,7 @@ pub record Places (n q m : ℕ) (class cap w slack left : List ℕ) (j i s : ℕ
   pub under : get_or w (j * q + s) 0 ≤ get_or cap (j * q + s) 0
 
 module _ (n q m : ℕ) (time class cap room w slack left h : List ℕ) (R : Ready n q m time class cap room w slack left h)
-    (j i s : ℕ) (A : Able (flow_of n q m [] class cap []) (fill_of q m w slack [] h) j i s) where
+    (j i s : ℕ) (A : Able (flow_of n q m time class cap room) (fill_of q m w slack [] h) j i s) where
   pub places : Places n q m class cap w slack left j i s
   places =
       let cell : j * q + s < n * q = in_rows j q s n A.j-job A.s-any in
@@ -227,17 +227,19 @@ module _ (n q m : ℕ) (time class cap room w slack left h : List ℕ) (R : Read
 
   module _ (d first : ℕ) (is-first : first ≡ min (row class j) (row class i))
       (D : Amount cap w left (between (s * m + first) (s * m + row class i) slack) j (j * q + s) (i * q + s) d) where
-    pub left-fits : ((k : ℕ) → get_or time k 0 < 2 ^ 32) → get_or left i 0 + d < 2 ^ 32
-    left-fits small = omega (arith, small i, rest-fits _ m _ R.state i s d A.i-any A.s-any D.w_fits)
+    pub up-fits : get_or w (j * q + s) 0 + d < 2 ^ 32
+    up-fits = omega (arith, D.cap-fits, R.small-caps (j * q + s))
 
-    pub raise-fits : ((k : ℕ) → get_or room k 0 < 2 ^ 32) →
-        (k : ℕ) → s * m + row class i ≤ k → k < s * m + row class j → get_or slack k 0 + d < 2 ^ 32
-    raise-fits small k lo hi =
+    pub left-fits : get_or left i 0 + d < 2 ^ 32
+    left-fits = omega (arith, R.small-times i, rest-fits _ m _ R.state i s d A.i-any A.s-any D.w_fits)
+
+    pub raise-fits : (k : ℕ) → s * m + row class i ≤ k → k < s * m + row class j → get_or slack k 0 + d < 2 ^ 32
+    raise-fits k lo hi =
         let t : ℕ = k - s * m in
         let z : s * m + t ≡ k = omega arith in
         omega (
           arith,
-          small (s * m + min t (m - 1)),
+          R.small-rooms (s * m + min t (m - 1)),
           ap (λ v. get_or slack v 0) z,
           slack-fits _ m _ R.state i s d A.i-any A.s-any D.w_fits t (omega arith)
               (omega (arith, class-top _ _ R.order j (omega (arith, A.j-job)))),
@@ -286,7 +288,7 @@ module _ (n q m : ℕ) (time class cap room w slack left h : List ℕ) (R : Read
       pub pushed : 0 < get_or left j 0 →
           Pushed (flow_of n q m time class cap room) m (fill_of q m w slack left h) (fill_of q m w' slack' left' h) j s
       pushed some =
-          let B = able-with n q m [] time class cap [] room w slack [] left h j i s A in
+          let B = able-with n q m time class cap room w slack [] left h j i s A in
           let pos : 0 < d = D.greatest 1 some (omega (arith, A.spare)) A.some (flat 1 A.free) in
           record {
             advanced =
@@ -314,7 +316,7 @@ module _ (n q m : ℕ) (time class cap room w slack left h : List ℕ) (R : Read
 
 -- the store of a rise
 pub rose : (n q m : ℕ) (time class cap room w slack left h : List ℕ) → Ready n q m time class cap room w slack left h →
-    (j : ℕ) → j < n → get_or h j 0 ≤ n → get_or left j 0 < 2 ^ 32 → Barred (flow_of n q m [] class cap []) (fill_of q m w slack [] h) j 0 →
+    (j : ℕ) → j < n → get_or h j 0 ≤ n → get_or left j 0 < 2 ^ 32 → Barred (flow_of n q m time class cap room) (fill_of q m w slack [] h) j 0 →
     Advanced (flow_of n q m time class cap room) m (fill_of q m w slack left h) (fill_of q m w slack left (set h j (get_or h j 0 + 1)))
 rose n q m time class cap room w slack left h R j lj low small B =
     let up : get_or (set h j (get_or h j 0 + 1)) j 0 ≡ suc (get_or h j 0)
@@ -350,6 +352,9 @@ ready-next n q m time class cap room w slack left h w' slack' left' h' R ew es e
           };
       order = R.order;
       state = S;
+      small-times = R.small-times;
+      small-caps = R.small-caps;
+      small-rooms = R.small-rooms;
     }
 
 -- a discharge of job j under way: from the lists at its start to those of now, with the stretches from u on barred
@@ -361,7 +366,7 @@ pub record Going (n q m : ℕ) (time class cap room w₀ slack₀ left₀ h₀ w
   pub same-h : length h ≡ length h₀
   pub low : get_or h j 0 ≤ n
   pub within : u ≤ q
-  pub barred : Barred (flow_of n q m [] class cap []) (fill_of q m w slack [] h) j u
+  pub barred : Barred (flow_of n q m time class cap room) (fill_of q m w slack [] h) j u
   pub most : measure (2 ^ 32) n (fill_of q m w slack left h) ≤ measure (2 ^ 32) n (fill_of q m w₀ slack₀ left₀ h₀)
   pub less : get_or left j 0 ≡ 0 →
       measure (2 ^ 32) n (fill_of q m w slack left h) < measure (2 ^ 32) n (fill_of q m w₀ slack₀ left₀ h₀)
@@ -390,7 +395,7 @@ module _ (n q m : ℕ) (time class cap room w₀ slack₀ left₀ h₀ : List �
 
   module _ (w slack left h : List ℕ) (u : ℕ) (G : Going n q m time class cap room w₀ slack₀ left₀ h₀ w slack left h j u) where
     pub going-push : (s i : ℕ) (w' slack' left' : List ℕ) → 0 < get_or left j 0 →
-        PushAt (flow_of n q m [] class cap []) (fill_of q m w slack [] h) j s i →
+        PushAt (flow_of n q m time class cap room) (fill_of q m w slack [] h) j s i →
         Pushed (flow_of n q m time class cap room) m (fill_of q m w slack left h) (fill_of q m w' slack' left' h) j s →
         length w' ≡ length w → length slack' ≡ length slack → length left' ≡ length left →
         Displaced (flow_of n q m time class cap room) m (fill_of q m w slack left h) (fill_of q m w' slack' left' h) j i s →
@@ -420,7 +425,7 @@ module _ (n q m : ℕ) (time class cap room w₀ slack₀ left₀ h₀ : List �
         Advanced (flow_of n q m time class cap room) m (fill_of q m w₀ slack₀ left₀ h₀) (fill_of q m w slack left h)
     going_done e = record { state = G.ready.state; less = G.less e }
 
-    pub going-rise : j < n → get_or left j 0 < 2 ^ 32 → Barred (flow_of n q m [] class cap []) (fill_of q m w slack [] h) j 0 →
+    pub going-rise : j < n → get_or left j 0 < 2 ^ 32 → Barred (flow_of n q m time class cap room) (fill_of q m w slack [] h) j 0 →
         Advanced (flow_of n q m time class cap room) m (fill_of q m w₀ slack₀ left₀ h₀)
         (fill_of q m w slack left (set h j (get_or h j 0 + 1)))
     going-rise lj small B =
@@ -432,7 +437,7 @@ module _ (n q m : ℕ) (time class cap room w₀ slack₀ left₀ h₀ : List �
         DischargeRun (flow_of n q m time class cap room) m j (fill_of q m w₀ slack₀ left₀ h₀) (fill_of q m w slack left h)
     run-done e = (fill_of q m w slack left h, record { turns = G.turns; path = G.path; ends = nothing_left e refl })
 
-    pub run-rise : j < length h → 0 < get_or left j 0 → Barred (flow_of n q m [] class cap []) (fill_of q m w slack [] h) j 0 →
+    pub run-rise : j < length h → 0 < get_or left j 0 → Barred (flow_of n q m time class cap room) (fill_of q m w slack [] h) j 0 →
         DischargeRun (flow_of n q m time class cap room) m j (fill_of q m w₀ slack₀ left₀ h₀)
         (fill_of q m w slack left (set h j (get_or h j 0 + 1)))
     run-rise lj some B = (
@@ -493,8 +498,9 @@ module _ (n q m : ℕ) (time class cap room w slack left h w1 w2 slack' left' h'
       }
 
   pub begin : length w1 ≡ length w → length w2 ≡ length w1 → length slack' ≡ length slack →
+      ((k : ℕ) → get_or time k 0 < 2 ^ 32) → ((k : ℕ) → get_or cap k 0 < 2 ^ 32) → ((k : ℕ) → get_or room k 0 < 2 ^ 32) →
       Ready n q m time class cap room w2 slack' (set left' n 0) (set h' n 0)
-  begin e1 e2 e3 =
+  begin e1 e2 e3 times caps rooms =
       let left-length : length (set left' n 0) ≡ length left' = length-set left' n 0 in
       let h-length : length (set h' n 0) ≡ length h' = length-set h' n 0 in
       record {
@@ -510,9 +516,10 @@ module _ (n q m : ℕ) (time class cap room w slack left h w1 w2 slack' left' h'
               s-h = omega (arith, Z.s-h);
             };
         order = start-order n q m time class cap room G;
-        state =
-            start-state _ m _ (start-order n q m time class cap room G) begun
-            (start-idle n q m time class cap room G);
+        state = start-state _ m _ (start-order n q m time class cap room G) begun (start-idle n q m time class cap room G);
+        small-times = times;
+        small-caps = caps;
+        small-rooms = rooms;
       }
 
   pub solved : (y : Fill) (r : Bool) →

@@ -1,6 +1,7 @@
 -- Flat lists seen as functions, and what the small functions do to them.
 use Rattle.std.specs.Prelude.{◌≡◌, ◌≢◌, List, Option, Some, None, Bool, true, false, ℕ, suc, ◌+◌, ◌*◌, ◌-◌, ◌^◌, ◌≤◌, ◌<◌, min, length, get_or}
 use Rattle.std.proofs.Common.{ap, mul-lt-mul_of_pos_right, mul-le-mul_right, suc-mul, arith}
+use Rattle.engine.specs.declared.instance.Instance.{Instance}
 use Rattle.engine.specs.declared.moves.Push.{Push}
 use Rattle.std.proofs.Math.Decide.{dec_lt}
 use Rattle.sums.specs.Gate.{gate}
@@ -20,6 +21,13 @@ flow_of n q m time class cap room =
 
 abbrev pub fill_of : ℕ → ℕ → List ℕ → List ℕ → List ℕ → List ℕ → Fill
 fill_of q m w slack left h = record { w = grid q w; slack = grid m slack; left = row left; h = row h }
+
+-- what the code is given, as a flow, and its amounts, as a filling
+abbrev pub flow_in : Instance → Flow
+flow_in g = flow_of g.n g.q g.m g.time.now g.class.now g.cap.now g.room.now
+
+abbrev pub fill_in : Instance → List ℕ → List ℕ → List ℕ → List ℕ → Fill
+fill_in g = fill_of g.q g.m
 
 -- the lists are long enough
 pub record Sizes (n q m : ℕ) (time class cap room w slack left h : List ℕ) : Type 0 where
@@ -108,6 +116,12 @@ pub record Ready (n q m : ℕ) (time class cap room w slack left h : List ℕ) :
   pub sizes : Sizes n q m time class cap room w slack left h
   pub order : Classed (flow_of n q m time class cap room) m
   pub state : State (flow_of n q m time class cap room) m (fill_of q m w slack left h)
+  pub small-times : (k : ℕ) → get_or time k 0 < 2 ^ 32
+  pub small-caps : (k : ℕ) → get_or cap k 0 < 2 ^ 32
+  pub small-rooms : (k : ℕ) → get_or room k 0 < 2 ^ 32
+
+abbrev pub ReadyFor : Instance → List ℕ → List ℕ → List ℕ → List ℕ → Type 0
+ReadyFor g = Ready g.n g.q g.m g.time.now g.class.now g.cap.now g.room.now
 
 -- the last stretch where job j may displace, and the last job there
 abbrev pub PushAt : Flow → Fill → ℕ → ℕ → ℕ → Type 0

@@ -1,10 +1,11 @@
 // A job displaces others by the most that it can, until nothing of it is left or it rises. Each function serves this crate
 // alone and has a `requires`.
-ghost use Rattle.std.specs.Prelude.{ℕ, ◌+◌, ◌^◌, ◌<◌, ◌≤◌, length, get_or, set, [], ◌≡◌};
-ghost use Rattle.engine.specs.View.{Amount, Shifted, Ready, Advanced, Pushed, flow_of, fill_of};
+ghost use Rattle.std.specs.Prelude.{ℕ, ◌+◌, ◌^◌, ◌<◌, ◌≤◌, length, get_or, []};
+ghost use Rattle.engine.specs.View.{Amount, Shifted, ReadyFor, Advanced, Pushed, flow_in, fill_in};
 ghost use Rattle.engine.specs.Run.{Displaced, DischargeRun};
 ghost use Rattle.amounts.specs.State.{Able};
 
+use super::instance::Instance;
 use super::moves::{Push, find};
 use super::slices::{lower, raise, transfer};
 
@@ -42,38 +43,32 @@ pub fn reslack(xs: &mut [u32], base: usize, c: usize, e: usize, d: u32)
 
 // Job j displaces job i in stretch s by the most that it can.
 pub fn push(
-    time: &[u32],
-    class: &[usize],
-    cap: &[u32],
-    room: &[u32],
+    given: &Instance,
     w: &mut [u32],
     slack: &mut [u32],
     left: &mut [u32],
     height: &[usize],
-    n: usize,
-    q: usize,
-    m: usize,
     j: usize,
     s: usize,
     i: usize,
 )
-    requires ready { Ready n q m time.now class.now cap.now room.now w.old slack.old left.old height.now }
+    requires ready { ReadyFor given.now w.old slack.old left.old height.now }
     requires nonzero { 0 < get_or left.old j 0 }
-    requires able { Able (flow_of n q m [] class.now cap.now []) (fill_of q m w.old slack.old [] height.now) j i s }
-    ensures pushed { Pushed (flow_of n q m time.now class.now cap.now room.now) m
-        (fill_of q m w.old slack.old left.old height.now)
-        (fill_of q m w.new slack.new left.new height.now) j s }
-    ensures displaced { Displaced (flow_of n q m time.now class.now cap.now room.now) m
-        (fill_of q m w.old slack.old left.old height.now)
-        (fill_of q m w.new slack.new left.new height.now) j i s }
+    requires able { Able (flow_in given.now) (fill_in given.now w.old slack.old [] height.now) j i s }
+    ensures pushed { Pushed (flow_in given.now) given.now.m
+        (fill_in given.now w.old slack.old left.old height.now)
+        (fill_in given.now w.new slack.new left.new height.now) j s }
+    ensures displaced { Displaced (flow_in given.now) given.now.m
+        (fill_in given.now w.old slack.old left.old height.now)
+        (fill_in given.now w.new slack.new left.new height.now) j i s }
 {
-    let c = class[j];
-    let e = class[i];
-    let up = j * q + s;
-    let down = i * q + s;
-    let base = s * m;
+    let c = given.class[j];
+    let e = given.class[i];
+    let up = j * given.q + s;
+    let down = i * given.q + s;
+    let base = s * given.m;
     let between = &slack[base + c.min(e)..base + e];
-    let d = amount(cap, w, left, between, j, up, down);
+    let d = amount(given.cap, w, left, between, j, up, down);
     transfer(w, up, down, d);
     transfer(left, i, j, d);
     reslack(slack, base, c, e, d);
@@ -81,37 +76,29 @@ pub fn push(
 
 // Job j displaces until nothing of it is left, or it rises by one.
 pub fn discharge(
-    time: &[u32],
-    class: &[usize],
-    cap: &[u32],
-    room: &[u32],
+    given: &Instance,
     w: &mut [u32],
     slack: &mut [u32],
     left: &mut [u32],
     height: &mut [usize],
-    n: usize,
-    q: usize,
-    m: usize,
     j: usize,
 )
-    requires ready { Ready n q m time.now class.now cap.now room.now w.old slack.old left.old height.old }
-    requires j_lt_n { (j < n) × (0 < get_or left.old j 0) × (get_or height.old j 0 ≤ n) }
-    ensures advanced { Advanced (flow_of n q m time.now class.now cap.now room.now) m
-        (fill_of q m w.old slack.old left.old height.old)
-        (fill_of q m w.new slack.new left.new height.new) }
-    ensures discharge_run { DischargeRun (flow_of n q m time.now class.now cap.now room.now) m j
-        (fill_of q m w.old slack.old left.old height.old)
-        (fill_of q m w.new slack.new left.new height.new) }
+    requires ready { ReadyFor given.now w.old slack.old left.old height.old }
+    requires j_lt_n { (j < given.now.n) × (0 < get_or left.old j 0) × (get_or height.old j 0 ≤ given.now.n) }
+    ensures advanced { Advanced (flow_in given.now) given.now.m
+        (fill_in given.now w.old slack.old left.old height.old)
+        (fill_in given.now w.new slack.new left.new height.new) }
+    ensures discharge_run { DischargeRun (flow_in given.now) given.now.m j
+        (fill_in given.now w.old slack.old left.old height.old)
+        (fill_in given.now w.new slack.new left.new height.new) }
 {
-    let mut u = q;
+    let mut u = given.q;
     while 0 < left[j] {
-        let Some(Push { stretch, job }) = find(class, cap, w, slack, height, n, q, m, j, u) else {
+        let Some(Push { stretch, job }) = find(given, w, slack, height, j, u) else {
             height[j] += 1;
             return;
         };
-        push(
-            time, class, cap, room, w, slack, left, height, n, q, m, j, stretch, job,
-        );
+        push(given, w, slack, left, height, j, stretch, job);
         u = stretch + 1;
     }
 }

@@ -1,11 +1,12 @@
 // The engine: amounts over general caps and rooms, or the answer that a cut violates. `solve` serves the crates above and has
 // a `requires`; the others serve it.
 ghost use Rattle.std.specs.Prelude.{suc, ◌*◌, ◌<◌, ◌≤◌, length};
-ghost use Rattle.engine.specs.View.{Sizes, Ready, Answer, grid, flow_of, fill_of};
+ghost use Rattle.engine.specs.View.{Sizes, ReadyFor, Answer, grid, flow_of, flow_in, fill_in};
 ghost use Rattle.engine.specs.Start.{Given, IdleRow};
 ghost use Rattle.engine.specs.Run.{FillRun, RunOf};
 
 use super::advance::discharge;
+use super::instance::Instance;
 use super::moves::{pick, stands};
 
 // The idle job has the last room of each stretch.
@@ -20,34 +21,27 @@ pub fn idle_row(room: &[u32], w: &mut [u32], n: usize, q: usize, m: usize)
 
 // Fills the amounts: true where nothing is left, and else there is a violating cut. Run.antt says in which turns.
 pub fn fill(
-    time: &[u32],
-    class: &[usize],
-    cap: &[u32],
-    room: &[u32],
+    given: &Instance,
     w: &mut [u32],
     slack: &mut [u32],
     left: &mut [u32],
     height: &mut [usize],
-    n: usize,
-    q: usize,
-    m: usize,
 ) -> bool
-    requires { Ready n q m time.now class.now cap.now room.now w.old slack.old left.old height.old }
-    ensures answer { Answer (flow_of n q m time.now class.now cap.now room.now) m
-        (grid q w.new) result }
-    ensures fill_run { FillRun (flow_of n q m time.now class.now cap.now room.now) m
-        (fill_of q m w.old slack.old left.old height.old)
-        (fill_of q m w.new slack.new left.new height.new) result }
+    requires { ReadyFor given.now w.old slack.old left.old height.old }
+    ensures answer { Answer (flow_in given.now) given.now.m (grid given.now.q w.new) result }
+    ensures fill_run { FillRun (flow_in given.now) given.now.m
+        (fill_in given.now w.old slack.old left.old height.old)
+        (fill_in given.now w.new slack.new left.new height.new) result }
 {
-    while let Some(j) = pick(left, n) {
+    while let Some(j) = pick(left, given.n) {
         let h = height[j];
-        if n < h {
+        if given.n < h {
             return false;
         }
-        if 1 < h && !stands(height, n, h - 1) {
+        if 1 < h && !stands(height, given.n, h - 1) {
             return false;
         }
-        discharge(time, class, cap, room, w, slack, left, height, n, q, m, j);
+        discharge(given, w, slack, left, height, j);
     }
     true
 }
@@ -80,5 +74,14 @@ pub fn solve(
     left[n] = 0;
     height[..n].fill(1);
     height[n] = 0;
-    fill(time, class, cap, room, w, slack, left, height, n, q, m)
+    let given = Instance {
+        time,
+        class,
+        cap,
+        room,
+        n,
+        q,
+        m,
+    };
+    fill(&given, w, slack, left, height)
 }

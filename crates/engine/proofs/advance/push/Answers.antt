@@ -1,6 +1,6 @@
 use borrow.Author.Rules.{rules}
 use native.Mathlib.Omega.{arith}
-use Rattle.engine.proofs.Steps.{places, left-fits, raise-fits, lower-fits, pushed, displaced}
+use Rattle.engine.proofs.Steps.{places, up-fits, left-fits, raise-fits, lower-fits, pushed, displaced}
 use Rattle.engine.proofs.advance.push.Goals as goal
 
 pub overflow_add-between-2 : goal.overflow_add-between-2
@@ -23,10 +23,15 @@ transfer-requires-clause-up_in_bounds c =
     let p = places _ _ _ _ _ _ _ _ _ _ _ c.requires.ready _ _ _ c.requires.able in
     (p.up-w, p.down-w, p.apart)
 
+pub transfer-requires-clause-d_bound : goal.transfer-requires-clause-d_bound
+transfer-requires-clause-d_bound c =
+    let D = c.amount-d.ensures in
+    (up-fits _ _ _ _ _ _ _ _ _ _ _ c.requires.ready _ _ _ c.requires.able _ _ c.min.ensures D, D.w_fits)
+
 pub transfer-requires-2-clause-d_bound : goal.transfer-requires-2-clause-d_bound
 transfer-requires-2-clause-d_bound c =
     let D = c.amount-d.ensures in
-    (left-fits _ _ _ _ _ _ _ _ _ _ _ c.requires.ready _ _ _ c.requires.able _ _ c.min.ensures D (λ k. omega (arith, c.type_inv.time k)), D.left-fits)
+    (left-fits _ _ _ _ _ _ _ _ _ _ _ c.requires.ready _ _ _ c.requires.able _ _ c.min.ensures D, D.left-fits)
 
 pub reslack-requires-clause-c_in_bounds : goal.reslack-requires-clause-c_in_bounds
 reslack-requires-clause-c_in_bounds c =
@@ -40,7 +45,6 @@ reslack-requires-clause-by_index c =
 pub reslack-requires-clause-by_index_2 : goal.reslack-requires-clause-by_index_2
 reslack-requires-clause-by_index_2 c =
     raise-fits _ _ _ _ _ _ _ _ _ _ _ c.requires.ready _ _ _ c.requires.able _ _ c.min.ensures c.amount-d.ensures
-    (λ k. omega (arith, c.type_inv.room k))
 
 pub returns-clause-pushed : goal.returns-clause-pushed
 returns-clause-pushed c =

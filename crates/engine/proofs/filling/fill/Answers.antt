@@ -5,16 +5,16 @@ use Rattle.engine.proofs.Steps.{ready-next, run-high, run-gap, run-turn}
 use Rattle.engine.proofs.filling.fill.Goals as goal
 use Rattle.engine.proofs.filling.fill.Goals.{else-h-gt1-via-then-h-gt1+else-not-stands, else-h-gt1-via-else-h-gt1}
 
-pub returns-then-n-h-clause-answer : goal.returns-then-n-h-clause-answer
-returns-then-n-h-clause-answer c =
+pub returns-then-given-h-clause-answer : goal.returns-then-given-h-clause-answer
+returns-then-given-h-clause-answer c =
     let R = c.loop-j.invariant.0 in
     let P = c.in-Some.ensures in
-    stuck-cut _ _ _ R.order R.state _ P.job c.if-n-h.true P.active
+    stuck-cut _ _ _ R.order R.state _ P.job c.if-given-h.true P.active
 
-pub returns-then-n-h-clause-fill_run : goal.returns-then-n-h-clause-fill_run
-returns-then-n-h-clause-fill_run c =
+pub returns-then-given-h-clause-fill_run : goal.returns-then-given-h-clause-fill_run
+returns-then-given-h-clause-fill_run c =
     let v = c.loop-j.invariant in
-    run-high _ _ _ _ _ _ _ _ _ _ _ _ v.1.0 v.1.1 _ c.in-Some.ensures c.if-n-h.true
+    run-high _ _ _ _ _ _ _ _ _ _ _ _ v.1.0 v.1.1 _ c.in-Some.ensures c.if-given-h.true
 
 pub returns-then-not-stands-clause-answer : goal.returns-then-not-stands-clause-answer
 returns-then-not-stands-clause-answer c =
@@ -35,7 +35,7 @@ loop-j-preserved c =
       ready-next _ _ _ _ _ _ _ _ _ _ _ _ _ _ _ v.0 k.w k.slack k.left k.height a.ensures.advanced.state,
       (
         suc v.1.0,
-        run-turn _ _ _ _ _ _ _ _ _ _ _ _ v.1.0 v.1.1 _ c.in-Some.ensures _ c.if-n-h.false
+        run-turn _ _ _ _ _ _ _ _ _ _ _ _ v.1.0 v.1.1 _ c.in-Some.ensures _ c.if-given-h.false
             (λ h.
             elim c.else-h-gt1.branch [
               | else-h-gt1-via-then-h-gt1+else-not-stands t ↦ t.if-not-stands.ensures

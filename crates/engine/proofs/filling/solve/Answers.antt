@@ -1,4 +1,5 @@
 use borrow.Author.Rules.{rules}
+use native.Mathlib.Omega.{arith}
 use Rattle.engine.proofs.Laws.{filled-front, copied-front}
 use Rattle.engine.proofs.Steps.{begin, solved}
 use Rattle.engine.proofs.filling.solve.Goals as goal
@@ -9,6 +10,7 @@ fill-requires-3 c =
     (copied-front _ c.args.room.now c.copy_from_slice.new.self _ (search rules) (search rules))
     (copied-front _ c.args.time.now c.copy_from_slice-2.new.self _ (search rules) (search rules))
     (filled-front _ _ c.fill-2.new.self _ (search rules)) (search rules) (search rules) (search rules) c.idle_row.auto.w (search rules)
+    (λ k. omega (arith, c.type_inv.time k)) (λ k. omega (arith, c.type_inv.cap k)) (λ k. omega (arith, c.type_inv.room k))
 
 pub returns-clause-run_of : goal.returns-clause-run_of
 returns-clause-run_of c =

@@ -9,8 +9,8 @@ use Rattle.engine.proofs.moves.find.Goals as goal
 pub returns-in-Some : goal.returns-in-Some
 returns-in-Some c =
     let s = c.loop-s.s - 1 in
-    let below : s < c.args.q = omega arith in
-    let long : s * c.args.m + c.args.m ≤ length c.args.slack.now = omega (arith, row-end s c.args.m c.args.q below) in
+    let below : s < c.args.given.now.q = omega arith in
+    let long : s * c.args.given.now.m + c.args.given.now.m ≤ length c.args.slack.now = omega (arith, row-end s c.args.given.now.m c.args.given.now.q below) in
     let low = c.requires.by_index c.args.j (omega arith) in
     let F = c.before_zero.ensures in
     let f = c.in-Some.ensures in
@@ -33,8 +33,8 @@ returns-in-Some c =
 pub loop-s-preserved-in_default : goal.loop-s-preserved-in_default
 loop-s-preserved-in_default c =
     let s = c.loop-s.s - 1 in
-    let below : s < c.args.q = omega arith in
-    let long : s * c.args.m + c.args.m ≤ length c.args.slack.now = omega (arith, row-end s c.args.m c.args.q below) in
+    let below : s < c.args.given.now.q = omega arith in
+    let long : s * c.args.given.now.m + c.args.given.now.m ≤ length c.args.slack.now = omega (arith, row-end s c.args.given.now.m c.args.given.now.q below) in
     let low = c.requires.by_index c.args.j (omega arith) in
     barred-more _ _ _ _ _ (omega arith) c.loop-s.invariant (λ k lk sp has fr e.
     c.in_default.ensures k lk

@@ -1,0 +1,13 @@
+// What amounts are asked for.
+
+// Times and classes of n jobs and of the idle job n, the jobs' caps in q stretches, and the rooms of m classes there.
+#[derive(Clone, Copy)]
+pub struct Instance<'a> {
+    pub time: &'a [u32],
+    pub class: &'a [usize],
+    pub cap: &'a [u32],
+    pub room: &'a [u32],
+    pub n: usize,
+    pub q: usize,
+    pub m: usize,
+}
