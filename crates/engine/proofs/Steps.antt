@@ -2,7 +2,7 @@
 use Prim.Native.Nat.{ℕ, suc, ◌+◌, ◌-◌, ◌*◌, ◌^◌, ◌≤◌, ◌<◌, min}
 use mathlib.Core.Path.{◌≡◌, refl, sym, ap, ◌∙◌}
 use mathlib.Core.Logic.{◌≢◌}
-use mathlib.Core.List.{List, []}
+use mathlib.Core.List.{List}
 use mathlib.Core.Bool.{Bool, true, false}
 use lib.ListN.{length, get_or, set, length-set}
 use lib.Seq.{get_or-set_same, get_or-set_other}
@@ -162,22 +162,6 @@ moved n q m time class cap room w w' slack slack' left left' h j i s d sq ne W L
       h-same = λ a. refl;
     }
 
--- a search looks at no rests
-pub able-with : (n q m : ℕ) (time class cap room w slack left left' h : List ℕ) (j i s : ℕ) →
-    Able (flow_of n q m time class cap room) (fill_of q m w slack left h) j i s →
-    Able (flow_of n q m time class cap room) (fill_of q m w slack left' h) j i s
-able-with n q m time class cap room w slack left left' h j i s A =
-    record { j-job = A.j-job; i-any = A.i-any; s-any = A.s-any; spare = A.spare; some = A.some; free = A.free; lower = A.lower }
-
-pub found-with : (n q m : ℕ) (time class cap room w slack left h : List ℕ) (j s i : ℕ) →
-    PushAt (flow_of n q m time class cap room) (fill_of q m w slack [] h) j s i →
-    PushAt (flow_of n q m time class cap room) (fill_of q m w slack left h) j s i
-found-with n q m time class cap room w slack left h j s i F = (
-  able-with n q m time class cap room w slack [] left h j i s F.0,
-  record { none = F.1.none },
-  λ a l A. F.2 a l (able-with n q m time class cap room w slack left [] h j a s A),
-)
-
 -- what is displaced fits: in the rest of job i, and in the slacks from its class on
 module _ (o : Flow) (m : ℕ) (x : Fill) (S : State o m x) (i s d : ℕ) (li : i ≤ o.n) (ls : s < o.q) (fit : d ≤ x.w i s) where
   pub rest-fits : x.left i + d ≤ o.time i
@@ -206,7 +190,7 @@ pub record Places (n q m : ℕ) (class cap w slack left : List ℕ) (j i s : ℕ
   pub under : get_or w (j * q + s) 0 ≤ get_or cap (j * q + s) 0
 
 module _ (n q m : ℕ) (time class cap room w slack left h : List ℕ) (R : Ready n q m time class cap room w slack left h)
-    (j i s : ℕ) (A : Able (flow_of n q m time class cap room) (fill_of q m w slack [] h) j i s) where
+    (j i s : ℕ) (A : Able (flow_of n q m time class cap room) (fill_of q m w slack left h) j i s) where
   pub places : Places n q m class cap w slack left j i s
   places =
       let cell : j * q + s < n * q = in_rows j q s n A.j-job A.s-any in
@@ -288,15 +272,14 @@ module _ (n q m : ℕ) (time class cap room w slack left h : List ℕ) (R : Read
       pub pushed : 0 < get_or left j 0 →
           Pushed (flow_of n q m time class cap room) m (fill_of q m w slack left h) (fill_of q m w' slack' left' h) j s
       pushed some =
-          let B = able-with n q m time class cap room w slack [] left h j i s A in
           let pos : 0 < d = D.greatest 1 some (omega (arith, A.spare)) A.some (flat 1 A.free) in
           record {
             advanced =
                 record {
-                  state = push-state _ m _ _ j i s d R.order R.state B pushed-moved D.cap-fits;
-                  less = push-less _ m _ _ j i s d R.order R.state B pushed-moved (2 ^ 32) pos;
+                  state = push-state _ m _ _ j i s d R.order R.state A pushed-moved D.cap-fits;
+                  less = push-less _ m _ _ j i s d R.order R.state A pushed-moved (2 ^ 32) pos;
                 };
-            barred = push-barred _ m _ _ j i s d R.order R.state B pushed-moved;
+            barred = push-barred _ m _ _ j i s d R.order R.state A pushed-moved;
           }
 
       pub displaced : Displaced (flow_of n q m time class cap room) m (fill_of q m w slack left h) (fill_of q m w' slack' left' h) j i s
@@ -316,7 +299,7 @@ module _ (n q m : ℕ) (time class cap room w slack left h : List ℕ) (R : Read
 
 -- the store of a rise
 pub rose : (n q m : ℕ) (time class cap room w slack left h : List ℕ) → Ready n q m time class cap room w slack left h →
-    (j : ℕ) → j < n → get_or h j 0 ≤ n → get_or left j 0 < 2 ^ 32 → Barred (flow_of n q m time class cap room) (fill_of q m w slack [] h) j 0 →
+    (j : ℕ) → j < n → get_or h j 0 ≤ n → get_or left j 0 < 2 ^ 32 → Barred (flow_of n q m time class cap room) (fill_of q m w slack left h) j 0 →
     Advanced (flow_of n q m time class cap room) m (fill_of q m w slack left h) (fill_of q m w slack left (set h j (get_or h j 0 + 1)))
 rose n q m time class cap room w slack left h R j lj low small B =
     let up : get_or (set h j (get_or h j 0 + 1)) j 0 ≡ suc (get_or h j 0)
@@ -360,13 +343,9 @@ ready-next n q m time class cap room w slack left h w' slack' left' h' R ew es e
 -- a discharge of job j under way: from the lists at its start to those of now, with the stretches from u on barred
 pub record Going (n q m : ℕ) (time class cap room w₀ slack₀ left₀ h₀ w slack left h : List ℕ) (j u : ℕ) : Type 0 where
   pub ready : Ready n q m time class cap room w slack left h
-  pub same_w : length w ≡ length w₀
-  pub same-slack : length slack ≡ length slack₀
-  pub same_left : length left ≡ length left₀
-  pub same-h : length h ≡ length h₀
   pub low : get_or h j 0 ≤ n
   pub within : u ≤ q
-  pub barred : Barred (flow_of n q m time class cap room) (fill_of q m w slack [] h) j u
+  pub barred : Barred (flow_of n q m time class cap room) (fill_of q m w slack left h) j u
   pub most : measure (2 ^ 32) n (fill_of q m w slack left h) ≤ measure (2 ^ 32) n (fill_of q m w₀ slack₀ left₀ h₀)
   pub less : get_or left j 0 ≡ 0 →
       measure (2 ^ 32) n (fill_of q m w slack left h) < measure (2 ^ 32) n (fill_of q m w₀ slack₀ left₀ h₀)
@@ -380,10 +359,6 @@ module _ (n q m : ℕ) (time class cap room w₀ slack₀ left₀ h₀ : List �
   going_start R some low =
       record {
         ready = R;
-        same_w = refl;
-        same-slack = refl;
-        same_left = refl;
-        same-h = refl;
         low = low;
         within = omega arith;
         barred = record { none = λ i s li lo hi. absurd (omega (arith, lo, hi)) };
@@ -394,23 +369,19 @@ module _ (n q m : ℕ) (time class cap room w₀ slack₀ left₀ h₀ : List �
       }
 
   module _ (w slack left h : List ℕ) (u : ℕ) (G : Going n q m time class cap room w₀ slack₀ left₀ h₀ w slack left h j u) where
-    pub going-push : (s i : ℕ) (w' slack' left' : List ℕ) → 0 < get_or left j 0 →
-        PushAt (flow_of n q m time class cap room) (fill_of q m w slack [] h) j s i →
-        Pushed (flow_of n q m time class cap room) m (fill_of q m w slack left h) (fill_of q m w' slack' left' h) j s →
-        length w' ≡ length w → length slack' ≡ length slack → length left' ≡ length left →
-        Displaced (flow_of n q m time class cap room) m (fill_of q m w slack left h) (fill_of q m w' slack' left' h) j i s →
-        Going n q m time class cap room w₀ slack₀ left₀ h₀ w' slack' left' h j (s + 1)
-    going-push s i w' slack' left' some F P ew es el D =
+    pub going-push : (s i : ℕ) (w' slack' left' h' : List ℕ) → 0 < get_or left j 0 →
+        PushAt (flow_of n q m time class cap room) (fill_of q m w slack left h) j s i →
+        Pushed (flow_of n q m time class cap room) m (fill_of q m w slack left h) (fill_of q m w' slack' left' h') j s →
+        Ready n q m time class cap room w' slack' left' h' →
+        Displaced (flow_of n q m time class cap room) m (fill_of q m w slack left h) (fill_of q m w' slack' left' h') j i s →
+        Going n q m time class cap room w₀ slack₀ left₀ h₀ w' slack' left' h' j (s + 1)
+    going-push s i w' slack' left' h' some F P R D =
         let sq : s < q = F.0.s-any in
-        let N : Barred (flow_of n q m time class cap room) (fill_of q m w' slack' left' h) j (suc s)
+        let N : Barred (flow_of n q m time class cap room) (fill_of q m w' slack' left' h') j (suc s)
         = P.barred (suc s) (omega arith) (record { none = F.1.none }) in
         record {
-          ready = ready-next _ _ _ _ _ _ _ _ _ _ _ _ _ _ _ G.ready ew es el refl P.advanced.state;
-          same_w = ew ∙ G.same_w;
-          same-slack = es ∙ G.same-slack;
-          same_left = el ∙ G.same_left;
-          same-h = G.same-h;
-          low = G.low;
+          ready = R;
+          low = omega (arith, G.low, D.moved.h-same j);
           within = omega arith;
           barred = record { none = λ i t li lo hi. N.none i t li (omega arith) hi };
           most = omega (arith, G.most, P.advanced.less);
@@ -418,26 +389,33 @@ module _ (n q m : ℕ) (time class cap room w₀ slack₀ left₀ h₀ : List �
           turns = suc G.turns;
           path =
               turns_more Fill (PushTurn (flow_of n q m time class cap room) m j) G.turns _ _ _ G.path
-              (record { s = s; i = i; some = some; found = found-with n q m time class cap room w slack left h j s i F; displaced = D });
+              (record { s = s; i = i; some = some; found = F; displaced = D });
         }
 
     pub going_done : get_or left j 0 ≡ 0 →
         Advanced (flow_of n q m time class cap room) m (fill_of q m w₀ slack₀ left₀ h₀) (fill_of q m w slack left h)
     going_done e = record { state = G.ready.state; less = G.less e }
 
-    pub going-rise : j < n → get_or left j 0 < 2 ^ 32 → Barred (flow_of n q m time class cap room) (fill_of q m w slack [] h) j 0 →
+    pub going-rise : j < n → Barred (flow_of n q m time class cap room) (fill_of q m w slack left h) j 0 →
         Advanced (flow_of n q m time class cap room) m (fill_of q m w₀ slack₀ left₀ h₀)
         (fill_of q m w slack left (set h j (get_or h j 0 + 1)))
-    going-rise lj small B =
+    going-rise lj B =
+        let small : get_or left j 0 < 2 ^ 32 = omega (arith, G.ready.small-times j, G.ready.state.rows j (omega arith)) in
         let A = rose n q m time class cap room w slack left h G.ready j lj G.low small B in
         record { state = A.state; less = omega (arith, A.less, G.most) }
+
+    pub ready-rise : j < n → Barred (flow_of n q m time class cap room) (fill_of q m w slack left h) j 0 →
+        Ready n q m time class cap room w slack left (set h j (get_or h j 0 + 1))
+    ready-rise lj B =
+        ready-next _ _ _ _ _ _ _ _ _ _ _ _ _ _ _ G.ready refl refl refl (length-set h j (get_or h j 0 + 1))
+        (going-rise lj B).state
 
     -- and as a run
     pub run-done : get_or left j 0 ≡ 0 →
         DischargeRun (flow_of n q m time class cap room) m j (fill_of q m w₀ slack₀ left₀ h₀) (fill_of q m w slack left h)
     run-done e = (fill_of q m w slack left h, record { turns = G.turns; path = G.path; ends = nothing_left e refl })
 
-    pub run-rise : j < length h → 0 < get_or left j 0 → Barred (flow_of n q m time class cap room) (fill_of q m w slack [] h) j 0 →
+    pub run-rise : j < length h → 0 < get_or left j 0 → Barred (flow_of n q m time class cap room) (fill_of q m w slack left h) j 0 →
         DischargeRun (flow_of n q m time class cap room) m j (fill_of q m w₀ slack₀ left₀ h₀)
         (fill_of q m w slack left (set h j (get_or h j 0 + 1)))
     run-rise lj some B = (

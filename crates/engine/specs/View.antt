@@ -2,6 +2,7 @@
 use Rattle.std.specs.Prelude.{◌≡◌, ◌≢◌, List, Option, Some, None, Bool, true, false, ℕ, suc, ◌+◌, ◌*◌, ◌-◌, ◌^◌, ◌≤◌, ◌<◌, min, length, get_or}
 use Rattle.std.proofs.Common.{ap, mul-lt-mul_of_pos_right, mul-le-mul_right, suc-mul, arith}
 use Rattle.engine.specs.declared.instance.Instance.{Instance}
+use Rattle.engine.specs.declared.instance.Filling.{Filling}
 use Rattle.engine.specs.declared.moves.Push.{Push}
 use Rattle.std.proofs.Math.Decide.{dec_lt}
 use Rattle.sums.specs.Gate.{gate}
@@ -26,8 +27,8 @@ fill_of q m w slack left h = record { w = grid q w; slack = grid m slack; left =
 abbrev pub flow_in : Instance → Flow
 flow_in g = flow_of g.n g.q g.m g.time.now g.class.now g.cap.now g.room.now
 
-abbrev pub fill_in : Instance → List ℕ → List ℕ → List ℕ → List ℕ → Fill
-fill_in g = fill_of g.q g.m
+abbrev pub fill_in : Instance → Filling → Fill
+fill_in g x = fill_of g.q g.m x.w.now x.slack.now x.left.now x.height.now
 
 -- the lists are long enough
 pub record Sizes (n q m : ℕ) (time class cap room w slack left h : List ℕ) : Type 0 where
@@ -120,8 +121,9 @@ pub record Ready (n q m : ℕ) (time class cap room w slack left h : List ℕ) :
   pub small-caps : (k : ℕ) → get_or cap k 0 < 2 ^ 32
   pub small-rooms : (k : ℕ) → get_or room k 0 < 2 ^ 32
 
-abbrev pub ReadyFor : Instance → List ℕ → List ℕ → List ℕ → List ℕ → Type 0
-ReadyFor g = Ready g.n g.q g.m g.time.now g.class.now g.cap.now g.room.now
+abbrev pub ReadyFor : Instance → Filling → Type 0
+ReadyFor g x =
+    Ready g.n g.q g.m g.time.now g.class.now g.cap.now g.room.now x.w.now x.slack.now x.left.now x.height.now
 
 -- the last stretch where job j may displace, and the last job there
 abbrev pub PushAt : Flow → Fill → ℕ → ℕ → ℕ → Type 0

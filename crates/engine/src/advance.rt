@@ -1,11 +1,11 @@
 // A job displaces others by the most that it can, until nothing of it is left or it rises. Each function serves this crate
 // alone and has a `requires`.
-ghost use Rattle.std.specs.Prelude.{ℕ, ◌+◌, ◌^◌, ◌<◌, ◌≤◌, length, get_or, []};
+ghost use Rattle.std.specs.Prelude.{ℕ, ◌+◌, ◌^◌, ◌<◌, ◌≤◌, length, get_or, ◌≡◌};
 ghost use Rattle.engine.specs.View.{Amount, Shifted, ReadyFor, Advanced, Pushed, flow_in, fill_in};
 ghost use Rattle.engine.specs.Run.{Displaced, DischargeRun};
 ghost use Rattle.amounts.specs.State.{Able};
 
-use super::instance::Instance;
+use super::instance::{Filling, Instance};
 use super::moves::{Push, find};
 use super::slices::{lower, raise, transfer};
 
@@ -42,31 +42,25 @@ pub fn reslack(xs: &mut [u32], base: usize, c: usize, e: usize, d: u32)
 }
 
 // Job j displaces job i in stretch s by the most that it can.
-pub fn push(
-    given: &Instance,
-    w: &mut [u32],
-    slack: &mut [u32],
-    left: &mut [u32],
-    height: &[usize],
-    j: usize,
-    s: usize,
-    i: usize,
-)
-    requires ready { ReadyFor given.now w.old slack.old left.old height.now }
-    requires nonzero { 0 < get_or left.old j 0 }
-    requires able { Able (flow_in given.now) (fill_in given.now w.old slack.old [] height.now) j i s }
+pub fn push(given: &Instance, filling: &mut Filling, j: usize, s: usize, i: usize)
+    requires ready { ReadyFor given.now filling.old }
+    requires nonzero { 0 < get_or filling.old.left.now j 0 }
+    requires able { Able (flow_in given.now) (fill_in given.now filling.old) j i s }
+    ensures same_reference { filling.new.w.ghost_name ≡ filling.old.w.ghost_name }
+    ensures ready_after { ReadyFor given.now filling.new }
     ensures pushed { Pushed (flow_in given.now) given.now.m
-        (fill_in given.now w.old slack.old left.old height.now)
-        (fill_in given.now w.new slack.new left.new height.now) j s }
+        (fill_in given.now filling.old) (fill_in given.now filling.new) j s }
     ensures displaced { Displaced (flow_in given.now) given.now.m
-        (fill_in given.now w.old slack.old left.old height.now)
-        (fill_in given.now w.new slack.new left.new height.now) j i s }
+        (fill_in given.now filling.old) (fill_in given.now filling.new) j i s }
 {
     let c = given.class[j];
     let e = given.class[i];
     let up = j * given.q + s;
     let down = i * given.q + s;
     let base = s * given.m;
+    let w = &mut *filling.w;
+    let slack = &mut *filling.slack;
+    let left = &mut *filling.left;
     let between = &slack[base + c.min(e)..base + e];
     let d = amount(given.cap, w, left, between, j, up, down);
     transfer(w, up, down, d);
@@ -75,30 +69,23 @@ pub fn push(
 }
 
 // Job j displaces until nothing of it is left, or it rises by one.
-pub fn discharge(
-    given: &Instance,
-    w: &mut [u32],
-    slack: &mut [u32],
-    left: &mut [u32],
-    height: &mut [usize],
-    j: usize,
-)
-    requires ready { ReadyFor given.now w.old slack.old left.old height.old }
-    requires j_lt_n { (j < given.now.n) × (0 < get_or left.old j 0) × (get_or height.old j 0 ≤ given.now.n) }
+pub fn discharge(given: &Instance, filling: &mut Filling, j: usize)
+    requires ready { ReadyFor given.now filling.old }
+    requires j_lt_n { (j < given.now.n) × (0 < get_or filling.old.left.now j 0) × (get_or filling.old.height.now j 0 ≤ given.now.n) }
+    ensures same_reference { filling.new.w.ghost_name ≡ filling.old.w.ghost_name }
+    ensures ready_after { ReadyFor given.now filling.new }
     ensures advanced { Advanced (flow_in given.now) given.now.m
-        (fill_in given.now w.old slack.old left.old height.old)
-        (fill_in given.now w.new slack.new left.new height.new) }
+        (fill_in given.now filling.old) (fill_in given.now filling.new) }
     ensures discharge_run { DischargeRun (flow_in given.now) given.now.m j
-        (fill_in given.now w.old slack.old left.old height.old)
-        (fill_in given.now w.new slack.new left.new height.new) }
+        (fill_in given.now filling.old) (fill_in given.now filling.new) }
 {
     let mut u = given.q;
-    while 0 < left[j] {
-        let Some(Push { stretch, job }) = find(given, w, slack, height, j, u) else {
-            height[j] += 1;
+    while 0 < filling.left[j] {
+        let Some(Push { stretch, job }) = find(given, filling, j, u) else {
+            filling.height[j] += 1;
             return;
         };
-        push(given, w, slack, left, height, j, stretch, job);
+        push(given, filling, j, stretch, job);
         u = stretch + 1;
     }
 }

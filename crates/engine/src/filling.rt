@@ -1,12 +1,12 @@
 // The engine: amounts over general caps and rooms, or the answer that a cut violates. `solve` serves the crates above and has
 // a `requires`; the others serve it.
-ghost use Rattle.std.specs.Prelude.{suc, ◌*◌, ◌<◌, ◌≤◌, length};
+ghost use Rattle.std.specs.Prelude.{suc, ◌*◌, ◌<◌, ◌≤◌, ◌≡◌, length};
 ghost use Rattle.engine.specs.View.{Sizes, ReadyFor, Answer, grid, flow_of, flow_in, fill_in};
 ghost use Rattle.engine.specs.Start.{Given, IdleRow};
 ghost use Rattle.engine.specs.Run.{FillRun, RunOf};
 
 use super::advance::discharge;
-use super::instance::Instance;
+use super::instance::{Filling, Instance};
 use super::moves::{pick, stands};
 
 // The idle job has the last room of each stretch.
@@ -20,28 +20,22 @@ pub fn idle_row(room: &[u32], w: &mut [u32], n: usize, q: usize, m: usize)
 }
 
 // Fills the amounts: true where nothing is left, and else there is a violating cut. Run.antt says in which turns.
-pub fn fill(
-    given: &Instance,
-    w: &mut [u32],
-    slack: &mut [u32],
-    left: &mut [u32],
-    height: &mut [usize],
-) -> bool
-    requires { ReadyFor given.now w.old slack.old left.old height.old }
-    ensures answer { Answer (flow_in given.now) given.now.m (grid given.now.q w.new) result }
+pub fn fill(given: &Instance, filling: &mut Filling) -> bool
+    requires { ReadyFor given.now filling.old }
+    ensures same_reference { filling.new.w.ghost_name ≡ filling.old.w.ghost_name }
+    ensures answer { Answer (flow_in given.now) given.now.m (grid given.now.q filling.new.w.now) result }
     ensures fill_run { FillRun (flow_in given.now) given.now.m
-        (fill_in given.now w.old slack.old left.old height.old)
-        (fill_in given.now w.new slack.new left.new height.new) result }
+        (fill_in given.now filling.old) (fill_in given.now filling.new) result }
 {
-    while let Some(j) = pick(left, given.n) {
-        let h = height[j];
+    while let Some(j) = pick(given, filling) {
+        let h = filling.height[j];
         if given.n < h {
             return false;
         }
-        if 1 < h && !stands(height, given.n, h - 1) {
+        if 1 < h && !stands(given, filling, h - 1) {
             return false;
         }
-        discharge(given, w, slack, left, height, j);
+        discharge(given, filling, j);
     }
     true
 }
@@ -83,5 +77,11 @@ pub fn solve(
         q,
         m,
     };
-    fill(&given, w, slack, left, height)
+    let mut filling = Filling {
+        w,
+        slack,
+        left,
+        height,
+    };
+    fill(&given, &mut filling)
 }

@@ -11,3 +11,12 @@ pub struct Instance<'a> {
     pub q: usize,
     pub m: usize,
 }
+
+// A filling under way: amounts and slacks of the stretches, what is left of the jobs, and their heights.
+#[derive(Drop)]
+pub struct Filling<'a> {
+    pub w: &'a mut [u32],
+    pub slack: &'a mut [u32],
+    pub left: &'a mut [u32],
+    pub height: &'a mut [usize],
+}

@@ -1,20 +1,26 @@
+use mathlib.Core.Path.{◌∙◌}
 use native.Mathlib.Omega.{arith}
-use Rattle.engine.proofs.Steps.{going-push, going-rise, run-rise}
+use Rattle.engine.proofs.Steps.{going-push, going-rise, ready-rise, run-rise}
 use Rattle.engine.proofs.advance.discharge.Goals as goal
+
+pub returns-in_default-clause-ready_after : goal.returns-in_default-clause-ready_after
+returns-in_default-clause-ready_after c =
+    ready-rise _ _ _ _ _ _ _ _ _ _ _ _ _ _ _ _ _ c.loop-filling.invariant.0 c.requires.j_lt_n.0 c.in_default.ensures
 
 pub returns-in_default-clause-advanced : goal.returns-in_default-clause-advanced
 returns-in_default-clause-advanced c =
-    going-rise _ _ _ _ _ _ _ _ _ _ _ _ _ _ _ _ _ c.loop-left.invariant c.requires.j_lt_n.0
-    (omega (arith, c.type_inv.left c.args.j)) c.in_default.ensures
+    going-rise _ _ _ _ _ _ _ _ _ _ _ _ _ _ _ _ _ c.loop-filling.invariant.0 c.requires.j_lt_n.0 c.in_default.ensures
 
 pub returns-in_default-clause-discharge_run : goal.returns-in_default-clause-discharge_run
 returns-in_default-clause-discharge_run c =
-    let G = c.loop-left.invariant in
+    let G = c.loop-filling.invariant.0 in
     run-rise _ _ _ _ _ _ _ _ _ _ _ _ _ _ _ _ _ G (omega (arith, c.requires.j_lt_n.0, G.ready.sizes.s-h))
-    c.loop-left-test.true c.in_default.ensures
+    c.loop-filling-test.true c.in_default.ensures
 
-pub loop-left-preserved : goal.loop-left-preserved
-loop-left-preserved c =
-    let p = c.push in
-    going-push _ _ _ _ _ _ _ _ _ _ _ _ _ _ _ _ _ c.loop-left.invariant _ _ _ _ _ c.loop-left-test.true
-    c.in-Some.ensures p.ensures.pushed p.auto.w p.auto.slack p.auto.left p.ensures.displaced
+pub loop-filling-preserved : goal.loop-filling-preserved
+loop-filling-preserved c =
+    let p = c.push.ensures in (
+      going-push _ _ _ _ _ _ _ _ _ _ _ _ _ _ _ _ _ c.loop-filling.invariant.0 _ _ _ _ _ _ c.loop-filling-test.true
+          c.in-Some.ensures p.pushed p.ready_after p.displaced,
+      p.same_reference ∙ c.loop-filling.invariant.1,
+    )

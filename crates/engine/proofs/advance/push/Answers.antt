@@ -1,6 +1,7 @@
 use borrow.Author.Rules.{rules}
 use native.Mathlib.Omega.{arith}
-use Rattle.engine.proofs.Steps.{places, up-fits, left-fits, raise-fits, lower-fits, pushed, displaced}
+use mathlib.Core.Path.{refl}
+use Rattle.engine.proofs.Steps.{places, up-fits, left-fits, raise-fits, lower-fits, ready-next, pushed, displaced}
 use Rattle.engine.proofs.advance.push.Goals as goal
 
 pub overflow_add-between-2 : goal.overflow_add-between-2
@@ -45,6 +46,14 @@ reslack-requires-clause-by_index c =
 pub reslack-requires-clause-by_index_2 : goal.reslack-requires-clause-by_index_2
 reslack-requires-clause-by_index_2 c =
     raise-fits _ _ _ _ _ _ _ _ _ _ _ c.requires.ready _ _ _ c.requires.able _ _ c.min.ensures c.amount-d.ensures
+
+pub returns-clause-ready_after : goal.returns-clause-ready_after
+returns-clause-ready_after c =
+    let P =
+    pushed _ _ _ _ _ _ _ _ _ _ _ c.requires.ready _ _ _ c.requires.able _ _ c.min.ensures c.amount-d.ensures _ _ _
+    c.transfer.ensures c.transfer-2.ensures c.reslack.ensures c.requires.nonzero in
+    ready-next _ _ _ _ _ _ _ _ _ _ _ _ _ _ _ c.requires.ready c.transfer.auto.xs c.reslack.auto.xs c.transfer-2.auto.xs refl
+    P.advanced.state
 
 pub returns-clause-pushed : goal.returns-clause-pushed
 returns-clause-pushed c =

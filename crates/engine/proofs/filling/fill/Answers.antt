@@ -1,7 +1,8 @@
+use mathlib.Core.Path.{◌∙◌}
 use native.Mathlib.Omega.{arith}
 use Prim.Native.Nat.{suc}
 use Rattle.amounts.specs.End.{done-feasible, stuck-cut, gap-cut}
-use Rattle.engine.proofs.Steps.{ready-next, run-high, run-gap, run-turn}
+use Rattle.engine.proofs.Steps.{run-high, run-gap, run-turn}
 use Rattle.engine.proofs.filling.fill.Goals as goal
 use Rattle.engine.proofs.filling.fill.Goals.{else-h-gt1-via-then-h-gt1+else-not-stands, else-h-gt1-via-else-h-gt1}
 
@@ -14,7 +15,7 @@ returns-then-given-h-clause-answer c =
 pub returns-then-given-h-clause-fill_run : goal.returns-then-given-h-clause-fill_run
 returns-then-given-h-clause-fill_run c =
     let v = c.loop-j.invariant in
-    run-high _ _ _ _ _ _ _ _ _ _ _ _ v.1.0 v.1.1 _ c.in-Some.ensures c.if-given-h.true
+    run-high _ _ _ _ _ _ _ _ _ _ _ _ v.2.0 v.2.1 _ c.in-Some.ensures c.if-given-h.true
 
 pub returns-then-not-stands-clause-answer : goal.returns-then-not-stands-clause-answer
 returns-then-not-stands-clause-answer c =
@@ -25,23 +26,23 @@ returns-then-not-stands-clause-answer c =
 pub returns-then-not-stands-clause-fill_run : goal.returns-then-not-stands-clause-fill_run
 returns-then-not-stands-clause-fill_run c =
     let v = c.loop-j.invariant in
-    run-gap _ _ _ _ _ _ _ _ _ _ _ _ v.1.0 v.1.1 _ c.in-Some.ensures (omega arith) c.if-not-stands.ensures
+    run-gap _ _ _ _ _ _ _ _ _ _ _ _ v.2.0 v.2.1 _ c.in-Some.ensures (omega arith) c.if-not-stands.ensures
 
 pub loop-j-preserved : goal.loop-j-preserved
 loop-j-preserved c =
     let v = c.loop-j.invariant in
-    let a = c.discharge in
-    let k = c.discharge.auto in (
-      ready-next _ _ _ _ _ _ _ _ _ _ _ _ _ _ _ v.0 k.w k.slack k.left k.height a.ensures.advanced.state,
+    let a = c.discharge.ensures in (
+      a.ready_after,
+      a.same_reference ∙ v.1,
       (
-        suc v.1.0,
-        run-turn _ _ _ _ _ _ _ _ _ _ _ _ v.1.0 v.1.1 _ c.in-Some.ensures _ c.if-given-h.false
+        suc v.2.0,
+        run-turn _ _ _ _ _ _ _ _ _ _ _ _ v.2.0 v.2.1 _ c.in-Some.ensures _ c.if-given-h.false
             (λ h.
             elim c.else-h-gt1.branch [
               | else-h-gt1-via-then-h-gt1+else-not-stands t ↦ t.if-not-stands.ensures
               | else-h-gt1-via-else-h-gt1 t ↦ absurd (omega (arith, t.if-h-gt1.false))
             ])
-            a.ensures.discharge_run,
+            a.discharge_run,
       ),
     )
 

@@ -1,3 +1,4 @@
+use mathlib.Core.Path.{◌≡◌}
 use Prim.Native.Nat.{ℕ, ◌^◌}
 use Rattle.amounts.specs.State.{Fill, measure}
 use Rattle.engine.specs.View.{ReadyFor, flow_in, fill_in}
@@ -6,9 +7,9 @@ use Rattle.engine.proofs.filling.fill.Given as goal
 
 abbrev pub invariant-loop-j : goal.invariant-loop-j
 invariant-loop-j l =
-    ReadyFor l.given l.w l.slack l.left l.height
+    ReadyFor l.given l.filling × (l.filling.w.ghost_name ≡ l.initial.filling.w.ghost_name)
     × ((k : ℕ) × Turns Fill (FillTurn (flow_in l.given) l.given.m) k
-    (fill_in l.given l.initial.w l.initial.slack l.initial.left l.initial.height) (fill_in l.given l.w l.slack l.left l.height))
+    (fill_in l.given l.initial.filling) (fill_in l.given l.filling))
 
 abbrev pub decreases-loop-j : goal.decreases-loop-j
-decreases-loop-j l = measure (2 ^ 32) l.given.n (fill_in l.given l.w l.slack l.left l.height)
+decreases-loop-j l = measure (2 ^ 32) l.given.n (fill_in l.given l.filling)

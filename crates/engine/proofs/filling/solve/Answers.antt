@@ -14,7 +14,9 @@ fill-requires-3 c =
 
 pub returns-clause-run_of : goal.returns-clause-run_of
 returns-clause-run_of c =
+    let run =
     solved _ _ _ _ _ _ _ _ _ _ _ _ _ _ _ _ c.requires.sizes c.requires.given (filled-front _ _ c.fill.new.self _ (search rules)) c.idle_row.ensures
     (copied-front _ c.args.room.now c.copy_from_slice.new.self _ (search rules) (search rules))
     (copied-front _ c.args.time.now c.copy_from_slice-2.new.self _ (search rules) (search rules))
-    (filled-front _ _ c.fill-2.new.self _ (search rules)) (search rules) (search rules) _ _ c.fill-3.ensures.fill_run
+    (filled-front _ _ c.fill-2.new.self _ (search rules)) (search rules) (search rules) _ _ c.fill-3.ensures.fill_run in
+    search (rules, run)

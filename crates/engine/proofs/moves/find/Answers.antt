@@ -10,7 +10,7 @@ pub returns-in-Some : goal.returns-in-Some
 returns-in-Some c =
     let s = c.loop-s.s - 1 in
     let below : s < c.args.given.now.q = omega arith in
-    let long : s * c.args.given.now.m + c.args.given.now.m ≤ length c.args.slack.now = omega (arith, row-end s c.args.given.now.m c.args.given.now.q below) in
+    let long : s * c.args.given.now.m + c.args.given.now.m ≤ length c.args.filling.now.slack.now = omega (arith, row-end s c.args.given.now.m c.args.given.now.q below) in
     let low = c.requires.by_index c.args.j (omega arith) in
     let F = c.before_zero.ensures in
     let f = c.in-Some.ensures in
@@ -19,7 +19,7 @@ returns-in-Some c =
         j-job = c.requires.j_lt_n.0;
         i-any = f.0;
         s-any = below;
-        spare = c.if-w-at.true;
+        spare = c.if-filling-at.true;
         some = f.1.0;
         free = free-upto _ _ _ _ _ low long F _ f.1.1;
         lower = omega (arith, f.1.2);
@@ -34,7 +34,7 @@ pub loop-s-preserved-in_default : goal.loop-s-preserved-in_default
 loop-s-preserved-in_default c =
     let s = c.loop-s.s - 1 in
     let below : s < c.args.given.now.q = omega arith in
-    let long : s * c.args.given.now.m + c.args.given.now.m ≤ length c.args.slack.now = omega (arith, row-end s c.args.given.now.m c.args.given.now.q below) in
+    let long : s * c.args.given.now.m + c.args.given.now.m ≤ length c.args.filling.now.slack.now = omega (arith, row-end s c.args.given.now.m c.args.given.now.q below) in
     let low = c.requires.by_index c.args.j (omega arith) in
     barred-more _ _ _ _ _ (omega arith) c.loop-s.invariant (λ k lk sp has fr e.
     c.in_default.ensures k lk
