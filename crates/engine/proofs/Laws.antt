@@ -11,7 +11,6 @@ use borrow.Rule.Slice.PartMut.{put_mid}
 use Rattle.std.specs.List.{between, fold}
 use Rattle.std.proofs.lemmas.List.{places}
 use Rattle.std.proofs.lemmas.List.Edits.{get_or-between, length-between}
-use Rattle.engine.specs.Start.{IdleRow}
 use Rattle.engine.specs.View.{Transferred, FirstZero, grid}
 use Rattle.amounts.specs.State.{Fill, Barred}
 use Rattle.amounts.specs.Below.{Free}
@@ -105,17 +104,4 @@ barred-more o x j u s z B new =
             | yes e ↦ rw e (new i li)
             | no e ↦ B.none i t li (omega arith) hi
           ];
-    }
-
-pub idle-more : (room xs ys : List ℕ) (n q m u : ℕ) → n * q + u < length ys → IdleRow room xs ys n q m u →
-    IdleRow room xs (set ys (n * q + u) (get_or room (u * m + (m - 1)) 0)) n q m (u + 1)
-idle-more room xs ys n q m u l R =
-    let v : ℕ = get_or room (u * m + (m - 1)) 0 in
-    record {
-      idle = λ s ls.
-          elim (ℕ_discrete s u) [
-            | yes e ↦ rw e (get_or-set_same ys (n * q + u) v 0 l)
-            | no e ↦ get_or-set_other ys (n * q + u) (n * q + s) v 0 (λ z. e (omega arith)) ∙ R.idle s (omega arith)
-          ];
-      below = λ k lk. get_or-set_other ys (n * q + u) k v 0 (λ z. omega arith) ∙ R.below k lk;
     }

@@ -21,44 +21,9 @@ use Rattle.amounts.specs.Start.{Begun, start-state}
 use Rattle.amounts.specs.Relabel.{rise-state, rise-less}
 use Rattle.amounts.specs.Push.{push-state, push-less, push-barred}
 use Rattle.engine.specs.Start.{Given, IdleRow, room_at, start-order, start-idle}
-use Rattle.engine.specs.Run.{
-  Turns,
-  Displaced,
-  PushTurn,
-  nothing_left,
-  rises,
-  DischargeRun,
-  FillTurn,
-  all_placed,
-  too-high,
-  gap_below,
-  FillRun,
-  RunOf,
-}
+use Rattle.engine.specs.Run.{Turns, Displaced, PushTurn, rises, DischargeRun, FillTurn, too-high, gap_below, FillRun, RunOf}
 use Rattle.engine.specs.RunLaws.{turns_more}
-use Rattle.engine.specs.View.{
-  grid,
-  row,
-  flow_of,
-  fill_of,
-  Sizes,
-  Transferred,
-  Lowered,
-  Raised,
-  Shifted,
-  Amount,
-  Picked,
-  Advanced,
-  Pushed,
-  Stands,
-  Ready,
-  PushAt,
-  Placed,
-  in_rows,
-  row-end,
-  other_row,
-  other-column,
-}
+use Rattle.engine.specs.View.{grid, row, flow_of, fill_of, Sizes, Transferred, Lowered, Raised, Shifted, Amount, Picked, Advanced, Pushed, Stands, Ready, PushAt, in_rows, row-end, other_row, other-column}
 
 -- the slacks at base, with those between two classes lowered or raised
 module _ (xs ys : List ℕ) (base c e d : ℕ) where
@@ -354,20 +319,6 @@ pub record Going (n q m : ℕ) (time class cap room w₀ slack₀ left₀ h₀ w
       (fill_of q m w₀ slack₀ left₀ h₀) (fill_of q m w slack left h)
 
 module _ (n q m : ℕ) (time class cap room w₀ slack₀ left₀ h₀ : List ℕ) (j : ℕ) where
-  pub going_start : Ready n q m time class cap room w₀ slack₀ left₀ h₀ → 0 < get_or left₀ j 0 → get_or h₀ j 0 ≤ n →
-      Going n q m time class cap room w₀ slack₀ left₀ h₀ w₀ slack₀ left₀ h₀ j q
-  going_start R some low =
-      record {
-        ready = R;
-        low = low;
-        within = omega arith;
-        barred = record { none = λ i s li lo hi. absurd (omega (arith, lo, hi)) };
-        most = omega arith;
-        less = λ e. absurd (omega arith);
-        turns = 0;
-        path = refl;
-      }
-
   module _ (w slack left h : List ℕ) (u : ℕ) (G : Going n q m time class cap room w₀ slack₀ left₀ h₀ w slack left h j u) where
     pub going-push : (s i : ℕ) (w' slack' left' h' : List ℕ) → 0 < get_or left j 0 →
         PushAt (flow_of n q m time class cap room) (fill_of q m w slack left h) j s i →
@@ -392,10 +343,6 @@ module _ (n q m : ℕ) (time class cap room w₀ slack₀ left₀ h₀ : List �
               (record { s = s; i = i; some = some; found = F; displaced = D });
         }
 
-    pub going_done : get_or left j 0 ≡ 0 →
-        Advanced (flow_of n q m time class cap room) m (fill_of q m w₀ slack₀ left₀ h₀) (fill_of q m w slack left h)
-    going_done e = record { state = G.ready.state; less = G.less e }
-
     pub going-rise : j < n → Barred (flow_of n q m time class cap room) (fill_of q m w slack left h) j 0 →
         Advanced (flow_of n q m time class cap room) m (fill_of q m w₀ slack₀ left₀ h₀)
         (fill_of q m w slack left (set h j (get_or h j 0 + 1)))
@@ -411,10 +358,6 @@ module _ (n q m : ℕ) (time class cap room w₀ slack₀ left₀ h₀ : List �
         (going-rise lj B).state
 
     -- and as a run
-    pub run-done : get_or left j 0 ≡ 0 →
-        DischargeRun (flow_of n q m time class cap room) m j (fill_of q m w₀ slack₀ left₀ h₀) (fill_of q m w slack left h)
-    run-done e = (fill_of q m w slack left h, record { turns = G.turns; path = G.path; ends = nothing_left e refl })
-
     pub run-rise : j < length h → 0 < get_or left j 0 → Barred (flow_of n q m time class cap room) (fill_of q m w slack left h) j 0 →
         DischargeRun (flow_of n q m time class cap room) m j (fill_of q m w₀ slack₀ left₀ h₀)
         (fill_of q m w slack left (set h j (get_or h j 0 + 1)))
@@ -438,9 +381,6 @@ module _ (n q m : ℕ) (time class cap room w₀ slack₀ left₀ h₀ : List �
 -- how a filling goes on and ends, as a run
 module _ (n q m : ℕ) (time class cap room w slack left h : List ℕ) (x : Fill) (k : ℕ)
     (path : Turns Fill (FillTurn (flow_of n q m time class cap room) m) k x (fill_of q m w slack left h)) where
-  pub run-placed : Placed (row left) n → FillRun (flow_of n q m time class cap room) m x (fill_of q m w slack left h) true
-  run-placed P = record { turns = k; path = path; ends = all_placed P refl }
-
   module _ (j : ℕ) (P : Picked (row left) n j) where
     pub run-high : n < get_or h j 0 → FillRun (flow_of n q m time class cap room) m x (fill_of q m w slack left h) false
     run-high s = record { turns = k; path = path; ends = too-high j P s refl }
