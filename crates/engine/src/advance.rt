@@ -71,7 +71,8 @@ pub fn push(given: &Instance, filling: &mut Filling, j: usize, s: usize, i: usiz
 // Job j displaces until nothing of it is left, or it rises by one.
 pub fn discharge(given: &Instance, filling: &mut Filling, j: usize)
     requires ready { ReadyFor given.now filling.old }
-    requires j_lt_n { (j < given.now.n) × (0 < get_or filling.old.left.now j 0) × (get_or filling.old.height.now j 0 ≤ given.now.n) }
+    requires j_lt_n { (j < given.now.n) × (0 < get_or filling.old.left.now j 0)
+        × (get_or filling.old.height.now j 0 ≤ given.now.n) }
     ensures same_reference { filling.new.w.ghost_name ≡ filling.old.w.ghost_name }
     ensures ready_after { ReadyFor given.now filling.new }
     ensures advanced { Advanced (flow_in given.now) given.now.m

@@ -1,4 +1,4 @@
-// What amounts are asked for.
+// What amounts are asked for, and the filling under way. Both lend what the caller of `solve` lent.
 
 // Times and classes of n jobs and of the idle job n, the jobs' caps in q stretches, and the rooms of m classes there.
 #[derive(Clone, Copy)]

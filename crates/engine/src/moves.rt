@@ -1,5 +1,5 @@
-// Which job goes on, and the step that it can take. Each function serves this crate alone and has a `requires`.
-ghost use Rattle.std.specs.Prelude.{ℕ, suc, ◌*◌, ◌<◌, ◌≤◌, length, get_or, []};
+// Which job goes on, and whom it can displace. Each function serves this crate alone and has a `requires`.
+ghost use Rattle.std.specs.Prelude.{ℕ, suc, ◌*◌, ◌<◌, ◌≤◌, length, get_or};
 ghost use Rattle.engine.specs.View.{PickedFirst, Aim, Found, Stands, row, flow_in, fill_in};
 ghost use Rattle.amounts.specs.State.{Barred};
 
