@@ -21,7 +21,7 @@ use Rattle.amounts.specs.Start.{Begun, start-state}
 use Rattle.amounts.specs.Relabel.{rise-state, rise-less}
 use Rattle.amounts.specs.Push.{push-state, push-less, push-barred}
 use Rattle.engine.specs.Start.{Given, IdleRow, room_at, start-order, start-idle}
-use Rattle.engine.specs.Run.{Turns, Displaced, PushTurn, rises, DischargeRun, FillTurn, too-high, gap_below, FillRun, RunOf}
+use Rattle.engine.specs.Run.{Turns, Displaced, PushTurn, DischargeRun, FillTurn, too-high, gap_below, FillRun, RunOf}
 use Rattle.engine.specs.RunLaws.{turns_more}
 use Rattle.engine.specs.View.{grid, row, flow_of, fill_of, Sizes, Transferred, Lowered, Raised, Shifted, Amount, Picked, Advanced, Pushed, Stands, Ready, PushAt, in_rows, row-end, other_row, other-column}
 
@@ -176,9 +176,6 @@ module _ (n q m : ℕ) (time class cap room w slack left h : List ℕ) (R : Read
 
   module _ (d first : ℕ) (is-first : first ≡ min (row class j) (row class i))
       (D : Amount cap w left (between (s * m + first) (s * m + row class i) slack) j (j * q + s) (i * q + s) d) where
-    pub up-fits : get_or w (j * q + s) 0 + d < 2 ^ 32
-    up-fits = omega (arith, D.cap-fits, R.small-caps (j * q + s))
-
     pub left-fits : get_or left i 0 + d < 2 ^ 32
     left-fits = omega (arith, R.small-times i, rest-fits _ m _ R.state i s d A.i-any A.s-any D.w_fits)
 
@@ -356,27 +353,6 @@ module _ (n q m : ℕ) (time class cap room w₀ slack₀ left₀ h₀ : List �
     ready-rise lj B =
         ready-next _ _ _ _ _ _ _ _ _ _ _ _ _ _ _ G.ready refl refl refl (length-set h j (get_or h j 0 + 1))
         (going-rise lj B).state
-
-    -- and as a run
-    pub run-rise : j < length h → 0 < get_or left j 0 → Barred (flow_of n q m time class cap room) (fill_of q m w slack left h) j 0 →
-        DischargeRun (flow_of n q m time class cap room) m j (fill_of q m w₀ slack₀ left₀ h₀)
-        (fill_of q m w slack left (set h j (get_or h j 0 + 1)))
-    run-rise lj some B = (
-      fill_of q m w slack left h,
-      record {
-        turns = G.turns;
-        path = G.path;
-        ends =
-            rises some (record { none = B.none })
-            (record {
-              w-same = refl;
-              slack-same = refl;
-              left-same = refl;
-              up = get_or-set_same h j (get_or h j 0 + 1) 0 lj ∙ add-one (get_or h j 0);
-              else = λ a ne. get_or-set_other h j a (get_or h j 0 + 1) 0 ne;
-            });
-      },
-    )
 
 -- how a filling goes on and ends, as a run
 module _ (n q m : ℕ) (time class cap room w slack left h : List ℕ) (x : Fill) (k : ℕ)

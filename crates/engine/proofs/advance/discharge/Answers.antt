@@ -1,6 +1,5 @@
 use mathlib.Core.Path.{◌∙◌}
-use native.Mathlib.Omega.{arith}
-use Rattle.engine.proofs.Steps.{going-push, going-rise, ready-rise, run-rise}
+use Rattle.engine.proofs.Steps.{going-push, going-rise, ready-rise}
 use Rattle.engine.proofs.advance.discharge.Goals as goal
 
 pub returns-in_default-clause-ready_after : goal.returns-in_default-clause-ready_after
@@ -10,12 +9,6 @@ returns-in_default-clause-ready_after c =
 pub returns-in_default-clause-advanced : goal.returns-in_default-clause-advanced
 returns-in_default-clause-advanced c =
     going-rise _ _ _ _ _ _ _ _ _ _ _ _ _ _ _ _ _ c.loop-filling.invariant.0 c.requires.j_lt_n.0 c.in_default.ensures
-
-pub returns-in_default-clause-discharge_run : goal.returns-in_default-clause-discharge_run
-returns-in_default-clause-discharge_run c =
-    let G = c.loop-filling.invariant.0 in
-    run-rise _ _ _ _ _ _ _ _ _ _ _ _ _ _ _ _ _ G (omega (arith, c.requires.j_lt_n.0, G.ready.sizes.s-h))
-    c.loop-filling-test.true c.in_default.ensures
 
 pub loop-filling-preserved : goal.loop-filling-preserved
 loop-filling-preserved c =

@@ -1,7 +1,7 @@
 use borrow.Author.Rules.{rules}
 use native.Mathlib.Omega.{arith}
 use mathlib.Core.Path.{refl}
-use Rattle.engine.proofs.Steps.{places, up-fits, left-fits, raise-fits, lower-fits, ready-next, pushed, displaced}
+use Rattle.engine.proofs.Steps.{places, left-fits, raise-fits, lower-fits, ready-next, pushed, displaced}
 use Rattle.engine.proofs.advance.push.Goals as goal
 
 pub overflow_add-between-2 : goal.overflow_add-between-2
@@ -23,11 +23,6 @@ pub transfer-requires-clause-up_in_bounds : goal.transfer-requires-clause-up_in_
 transfer-requires-clause-up_in_bounds c =
     let p = places _ _ _ _ _ _ _ _ _ _ _ c.requires.ready _ _ _ c.requires.able in
     (p.up-w, p.down-w, p.apart)
-
-pub transfer-requires-clause-d_bound : goal.transfer-requires-clause-d_bound
-transfer-requires-clause-d_bound c =
-    let D = c.amount-d.ensures in
-    (up-fits _ _ _ _ _ _ _ _ _ _ _ c.requires.ready _ _ _ c.requires.able _ _ c.min.ensures D, D.w_fits)
 
 pub transfer-requires-2-clause-d_bound : goal.transfer-requires-2-clause-d_bound
 transfer-requires-2-clause-d_bound c =
