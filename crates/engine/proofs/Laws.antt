@@ -1,16 +1,17 @@
 -- One store at a time: what the small loops keep.
-use Prim.Native.Nat.{ℕ, suc, ◌+◌, ◌-◌, ◌*◌, ◌≤◌, ◌<◌}
-use mathlib.Core.Path.{◌≡◌, refl, sym, ap, subst, ◌∙◌}
-use Rattle.engine.specs.declared.Move.{Move}
+use Prim.Native.Nat.{ℕ, zero, suc, min, ◌+◌, ◌-◌, ◌*◌, ◌≤◌, ◌<◌}
+use mathlib.Core.Path.{◌≡◌, sym, ap, ◌∙◌}
 use mathlib.Core.Logic.{◌≢◌}
-use mathlib.Core.List.{List}
-use mathlib.Core.Bool.{Bool}
-use lib.ListN.{length, get_or, set, length-set}
+use mathlib.Core.List.{List, [], ◌∷◌, ◌++◌}
+use lib.ListN.{length, get_or, set, length-set, take, replicate}
 use lib.Seq.{get_or-set_same, get_or-set_other}
 use native.Mathlib.Decide.{dec_lt, ℕ_discrete}
 use native.Mathlib.Omega.{arith}
-use Rattle.engine.specs.Start.{IdleRow}
-use Rattle.engine.specs.View.{Transferred, Lowered, Raised, Least, FirstZero, grid, Found, Stands}
+use borrow.Rule.Slice.PartMut.{put_mid}
+use Rattle.std.specs.List.{between, fold}
+use Rattle.std.proofs.lemmas.List.{places}
+use Rattle.std.proofs.lemmas.List.Edits.{get_or-between, length-between}
+use Rattle.engine.specs.View.{Transferred, FirstZero, grid}
 use Rattle.amounts.specs.State.{Fill, Barred}
 use Rattle.amounts.specs.Below.{Free}
 use Rattle.amounts.specs.Flow.{Flow}
@@ -28,64 +29,68 @@ transferred xs up down d lu ld ne fit =
       other = λ k a b. get_or-set_other ys down k v 0 b ∙ get_or-set_other xs up k (get_or xs up 0 + d) 0 a;
     }
 
-module _ (xs : List ℕ) (from d : ℕ) where
-  pub lowered_none : Lowered xs xs from from d
-  lowered_none = record { inside = λ k a b. absurd (omega arith); before = λ k a. refl; after = λ k a. refl }
+-- a list with ys in place of the k entries from a on
+module _ (a k : ℕ) (xs ys : List ℕ) (long : a + k ≤ length xs) (same : length ys ≡ k) where
+  pub part-before : (i : ℕ) → i < a → get_or (put_mid a k xs ys) i 0 ≡ get_or xs i 0
+  part-before i l = grind (arith, places)
 
-  pub lowered-more : (ys : List ℕ) (k : ℕ) → from ≤ k → k < length ys → d ≤ get_or xs k 0 → Lowered xs ys from k d →
-      Lowered xs (set ys k (get_or ys k 0 - d)) from (k + 1) d
-  lowered-more ys k lo hi fit L =
-      let v = get_or ys k 0 - d in
-      record {
-        inside = λ i a b.
-            elim (ℕ_discrete i k) [
-              | yes e ↦ rw e (omega (arith, get_or-set_same ys k v 0 hi, L.after k (omega arith)))
-              | no e ↦ omega (arith, get_or-set_other ys k i v 0 e, L.inside i a (omega arith))
-            ];
-        before = λ i a. get_or-set_other ys k i v 0 (λ e. omega arith) ∙ L.before i a;
-        after = λ i a. get_or-set_other ys k i v 0 (λ e. omega arith) ∙ L.after i (omega arith);
-      }
+  pub part-inside : (i : ℕ) → i < k → get_or (put_mid a k xs ys) (a + i) 0 ≡ get_or ys i 0
+  part-inside i l = grind (arith, places)
 
-  pub raised-none : Raised xs xs from from d
-  raised-none = record { inside = λ k a b. absurd (omega arith); before = λ k a. refl; after = λ k a. refl }
+  pub part-after : (i : ℕ) → a + k ≤ i → get_or (put_mid a k xs ys) i 0 ≡ get_or xs i 0
+  part-after i l = grind (arith, places)
 
-  pub raised-more : (ys : List ℕ) (k : ℕ) → from ≤ k → k < length ys → Raised xs ys from k d →
-      Raised xs (set ys k (get_or ys k 0 + d)) from (k + 1) d
-  raised-more ys k lo hi L =
-      let v = get_or ys k 0 + d in
-      record {
-        inside = λ i a b.
-            elim (ℕ_discrete i k) [
-              | yes e ↦ rw e (omega (arith, get_or-set_same ys k v 0 hi, L.after k (omega arith)))
-              | no e ↦ omega (arith, get_or-set_other ys k i v 0 e, L.inside i a (omega arith))
-            ];
-        before = λ i a. get_or-set_other ys k i v 0 (λ e. omega arith) ∙ L.before i a;
-        after = λ i a. get_or-set_other ys k i v 0 (λ e. omega arith) ∙ L.after i (omega arith);
-      }
+-- a list whose first k entries are v, or those of another list
+pub filled-front : (k v : ℕ) (ys zs : List ℕ) → ys ≡ replicate k v → (i : ℕ) → i < k → get_or (ys ++ zs) i 0 ≡ v
+filled-front k v ys zs e i l = rw e (grind (arith, places))
 
-  -- a least with one entry more: r' is the smaller of r and that entry
-  pub least_more : (k r r' : ℕ) → from ≤ k → r' ≤ r → r' ≤ get_or xs k 0 → ((v : ℕ) → v ≤ r → v ≤ get_or xs k 0 → v ≤ r') →
-      Least xs from k d r → Least xs from (k + 1) d r'
-  least_more k r r' lo a b g L =
-      record {
-        most = omega (arith, L.most);
-        under = λ i u v. elim (ℕ_discrete i k) [ yes e ↦ rw e b | no e ↦ omega (arith, L.under i u (omega arith)) ];
-        greatest = λ v z f. g v (L.greatest v z (λ i a b. f i a (omega arith))) (f k lo (omega arith));
-      }
+pub copied-front : (k : ℕ) (xs ys zs : List ℕ) → k ≤ length xs → ys ≡ take k xs → (i : ℕ) → i < k →
+    get_or (ys ++ zs) i 0 ≡ get_or xs i 0
+copied-front k xs ys zs long e i l = rw e (grind (arith, places))
 
--- the first zero of a stretch bounds what is free
-module _ (slack : List ℕ) (s m c t : ℕ) (F : FirstZero slack (s * m + c) (s * m + m) t) where
-  pub free-upto : (e : ℕ) → e ≤ t - s * m → Free (grid m slack s) c e
-  free-upto e le k lo hi = F.free (s * m + k) (omega arith) (omega arith)
+-- the least of d and the entries of a list
+pub least-start : (d : ℕ) (xs : List ℕ) → fold (λ a x. min a x) d xs ≤ d
+least-start d [] = omega arith
+least-start d (x ∷ xs) = omega (arith, least-start (min d x) xs)
 
-  pub upto-free : (e : ℕ) → e ≤ m → Free (grid m slack s) c e → e ≤ t - s * m
+pub least-under : (d : ℕ) (xs : List ℕ) (k : ℕ) → k < length xs → fold (λ a x. min a x) d xs ≤ get_or xs k 0
+least-under d [] k l = absurd (omega arith)
+least-under d (x ∷ xs) zero l = omega (arith, least-start (min d x) xs)
+least-under d (x ∷ xs) (suc k) l = least-under (min d x) xs k (omega arith)
+
+pub least-greatest : (d : ℕ) (xs : List ℕ) (v : ℕ) → v ≤ d → ((k : ℕ) → k < length xs → v ≤ get_or xs k 0) →
+    v ≤ fold (λ a x. min a x) d xs
+least-greatest d [] v le f = le
+least-greatest d (x ∷ xs) v le f =
+    least-greatest (min d x) xs v (omega (arith, f 0 (omega arith))) (λ k l. f (suc k) (omega arith))
+
+-- the first zero of the slacks of a stretch from class c on bounds what is free
+module _ (slack : List ℕ) (s m c r : ℕ) (low : c ≤ m) (long : s * m + m ≤ length slack)
+    (F : FirstZero (between (s * m + c) (s * m + m) slack) r) where
+  entry : (k : ℕ) → c ≤ k → k < m → get_or (between (s * m + c) (s * m + m) slack) (k - c) 0 ≡ grid m slack s k
+  entry k lo hi =
+      let z : s * m + c + (k - c) ≡ s * m + k = omega arith in
+      get_or-between slack (s * m + c) (s * m + m) (k - c) 0 (omega arith) ∙ ap (λ (i : ℕ). get_or slack i 0) z
+
+  pub size : length (between (s * m + c) (s * m + m) slack) ≡ m - c
+  size = omega (arith, length-between slack (s * m + c) (s * m + m) long)
+
+  pub free-upto : (e : ℕ) → e ≤ c + r → Free (grid m slack s) c e
+  free-upto e le k lo hi = omega (arith, size, F.high, entry k lo (omega (arith, size, F.high)), F.free (k - c) (omega arith))
+
+  pub upto-free : (e : ℕ) → e ≤ m → Free (grid m slack s) c e → e ≤ c + r
   upto-free e em fr =
-      elim (dec_lt (t - s * m) e) [
+      elim (dec_lt (c + r) e) [
         | no l ↦ omega arith
         | yes l ↦
-            let z : s * m + (t - s * m) ≡ t = omega (arith, F.low) in
-            let low : c ≤ t - s * m = omega (arith, F.low) in
-            absurd (omega (arith, ap (λ i. get_or slack i 0) z, F.zero-at (omega (arith, F.low)), fr (t - s * m) low l))
+            let z : c + r - c ≡ r = omega arith in
+            absurd (omega (
+              arith,
+              fr (c + r) (omega arith) l,
+              entry (c + r) (omega arith) (omega arith),
+              ap (λ (i : ℕ). get_or (between (s * m + c) (s * m + m) slack) i 0) z,
+              F.zero-at (omega (arith, size)),
+            ))
       ]
 
 -- one stretch more in which nobody can be displaced
@@ -100,27 +105,3 @@ barred-more o x j u s z B new =
             | no e ↦ B.none i t li (omega arith) hi
           ];
     }
-
--- what the search found, by its answer
-pub found_as : (o : Flow) (x : Fill) (j : ℕ) (r t : Move) → Found o x j r → r ≡ t → Found o x j t
-found_as o x j r t f e = subst (λ (r : Move). Found o x j r) e f
-
-pub idle-more : (room xs ys : List ℕ) (n q m u : ℕ) → n * q + u < length ys → IdleRow room xs ys n q m u →
-    IdleRow room xs (set ys (n * q + u) (get_or room (u * m + (m - 1)) 0)) n q m (u + 1)
-idle-more room xs ys n q m u l R =
-    let v : ℕ = get_or room (u * m + (m - 1)) 0 in
-    record {
-      idle = λ s ls.
-          elim (ℕ_discrete s u) [
-            | yes e ↦ rw e (get_or-set_same ys (n * q + u) v 0 l)
-            | no e ↦ get_or-set_other ys (n * q + u) (n * q + s) v 0 (λ z. e (omega arith)) ∙ R.idle s (omega arith)
-          ];
-      below = λ k lk. get_or-set_other ys (n * q + u) k v 0 (λ z. omega arith) ∙ R.below k lk;
-    }
-
--- a loop that counts down: what holds of each index from i on, and of i - 1, holds of each from i - 1 on
-pub from_more : (P : ℕ → Type 0) (i : ℕ) → ((a : ℕ) → i ≤ a → P a) → P (i - 1) → (a : ℕ) → i - 1 ≤ a → P a
-from_more P i old new a l = elim (ℕ_discrete a (i - 1)) [ yes e ↦ rw e new | no e ↦ old a (omega arith) ]
-
-pub stands-as : (h : ℕ → ℕ) (n g : ℕ) (r t : Bool) → Stands h n g r → r ≡ t → Stands h n g t
-stands-as h n g r t s e = subst (λ (r : Bool). Stands h n g r) e s

@@ -1,14 +1,18 @@
 -- The stores of a step, seen as a move, and the engine's loops as a run.
 use Prim.Native.Nat.{ℕ, suc, ◌+◌, ◌-◌, ◌*◌, ◌^◌, ◌≤◌, ◌<◌, min}
-use mathlib.Core.Path.{◌≡◌, refl, sym, ap, subst, ◌∙◌}
+use mathlib.Core.Path.{◌≡◌, refl, sym, ap, ◌∙◌}
 use mathlib.Core.Logic.{◌≢◌}
-use mathlib.Core.List.{List, []}
+use mathlib.Core.List.{List}
 use mathlib.Core.Bool.{Bool, true, false}
 use lib.ListN.{length, get_or, set, length-set}
 use lib.Seq.{get_or-set_same, get_or-set_other}
 use native.Mathlib.Numerals.{add-one}
 use native.Mathlib.Decide.{dec_lt}
 use native.Mathlib.Omega.{arith}
+use borrow.Rule.Slice.PartMut.{put_mid}
+use Rattle.std.specs.List.{between}
+use Rattle.std.proofs.lemmas.List.Edits.{get_or-between, length-between}
+use Rattle.engine.proofs.Laws.{part-before, part-inside, part-after}
 use Rattle.sums.specs.Sum.{sum-ge}
 use Rattle.sums.specs.Gate.{gate, gate-in, gate-out}
 use Rattle.amounts.specs.Flow.{Flow}
@@ -16,81 +20,71 @@ use Rattle.amounts.specs.State.{Fill, State, Able, Barred, Moved, measure, class
 use Rattle.amounts.specs.Start.{Begun, start-state}
 use Rattle.amounts.specs.Relabel.{rise-state, rise-less}
 use Rattle.amounts.specs.Push.{push-state, push-less, push-barred}
-use Rattle.engine.specs.Start.{Given, Filled, Copied, IdleRow, Level, room_at, start-order, start-idle}
-use Rattle.engine.specs.Run.{
-  Turns,
-  Displaced,
-  PushTurn,
-  nothing_left,
-  rises,
-  DischargeRun,
-  FillTurn,
-  all_placed,
-  too-high,
-  gap_below,
-  FillRun,
-  RunOf,
-}
+use Rattle.engine.specs.Start.{Given, IdleRow, room_at, start-order, start-idle}
+use Rattle.engine.specs.Run.{Turns, Displaced, PushTurn, DischargeRun, FillTurn, too-high, gap_below, FillRun, RunOf}
 use Rattle.engine.specs.RunLaws.{turns_more}
-use Rattle.engine.specs.declared.Move.TheVariants.{Push}
-use Rattle.engine.specs.View.{
-  grid,
-  row,
-  flow_of,
-  fill_of,
-  Sizes,
-  Transferred,
-  Lowered,
-  Raised,
-  Shifted,
-  Amount,
-  Picked,
-  Advanced,
-  Pushed,
-  Stands,
-  Ready,
-  Found,
-  in_rows,
-  row-end,
-  other_row,
-  other-column,
-}
+use Rattle.engine.specs.View.{grid, row, flow_of, fill_of, Sizes, Transferred, Lowered, Raised, Shifted, Amount, Picked, Advanced, Pushed, Stands, Ready, PushAt, in_rows, row-end, other_row, other-column}
 
+-- the slacks at base, with those between two classes lowered or raised
 module _ (xs ys : List ℕ) (base c e d : ℕ) where
-  pub shifted-lowered : c ≤ e → Lowered xs ys (base + c) (base + e) d → Shifted xs ys base c e d
-  shifted-lowered ce L =
+  pub shifted-lowered : c ≤ e → base + e ≤ length xs → length ys ≡ base + e - (base + c) →
+      Lowered (between (base + c) (base + e) xs) ys d → Shifted xs (put_mid (base + c) (base + e - (base + c)) xs ys) base c e d
+  shifted-lowered ce long same L =
+      let k : ℕ = base + e - (base + c) in
+      let zs = put_mid (base + c) k xs ys in
+      let room : base + c + k ≤ length xs = omega arith in
       record {
-        before = λ k l. L.before k (omega arith);
-        here = λ k.
-            elim (dec_lt k c) [
-              | yes u ↦ omega (arith, L.before (base + k) (omega arith), gate-out c (suc k) d u, gate-out e (suc k) d (omega arith))
+        before = λ i l. part-before (base + c) k xs ys room same i (omega arith);
+        here = λ i.
+            elim (dec_lt i c) [
+              | yes u ↦ omega (arith, part-before (base + c) k xs ys room same (base + i) (omega arith), gate-out c (suc i) d u, gate-out e (suc i) d (omega arith))
               | no u ↦
-                  elim (dec_lt k e) [
+                  elim (dec_lt i e) [
                     | yes v ↦
-                        let at = L.inside (base + k) (omega arith) (omega arith) in
-                        omega (arith, at, gate-in c (suc k) d (omega arith), gate-out e (suc k) d v)
+                        let z : base + c + (i - c) ≡ base + i = omega arith in
+                        omega (
+                          arith,
+                          ap (λ (t : ℕ). get_or zs t 0) z,
+                          ap (λ (t : ℕ). get_or xs t 0) z,
+                          part-inside (base + c) k xs ys room same (i - c) (omega arith),
+                          get_or-between xs (base + c) (base + e) (i - c) 0 (omega arith),
+                          L.each (i - c) (omega (arith, length-between xs (base + c) (base + e) long)),
+                          gate-in c (suc i) d (omega arith),
+                          gate-out e (suc i) d v,
+                        )
                     | no v ↦
-                        let at = L.after (base + k) (omega arith) in
-                        omega (arith, at, gate-in c (suc k) d (omega arith), gate-in e (suc k) d (omega arith))
+                        omega (arith, part-after (base + c) k xs ys room same (base + i) (omega arith), gate-in c (suc i) d (omega arith), gate-in e (suc i) d (omega arith))
                   ]
             ];
       }
 
-  pub shifted-raised : e ≤ c → Raised xs ys (base + e) (base + c) d → Shifted xs ys base c e d
-  shifted-raised ec L =
+  pub shifted-raised : e ≤ c → base + c ≤ length xs → length ys ≡ base + c - (base + e) →
+      Raised (between (base + e) (base + c) xs) ys d → Shifted xs (put_mid (base + e) (base + c - (base + e)) xs ys) base c e d
+  shifted-raised ec long same L =
+      let k : ℕ = base + c - (base + e) in
+      let zs = put_mid (base + e) k xs ys in
+      let room : base + e + k ≤ length xs = omega arith in
       record {
-        before = λ k l. L.before k (omega arith);
-        here = λ k.
-            elim (dec_lt k e) [
-              | yes u ↦ omega (arith, L.before (base + k) (omega arith), gate-out e (suc k) d u, gate-out c (suc k) d (omega arith))
+        before = λ i l. part-before (base + e) k xs ys room same i (omega arith);
+        here = λ i.
+            elim (dec_lt i e) [
+              | yes u ↦ omega (arith, part-before (base + e) k xs ys room same (base + i) (omega arith), gate-out e (suc i) d u, gate-out c (suc i) d (omega arith))
               | no u ↦
-                  elim (dec_lt k c) [
+                  elim (dec_lt i c) [
                     | yes v ↦
-                        let at = L.inside (base + k) (omega arith) (omega arith) in
-                        omega (arith, at, gate-in e (suc k) d (omega arith), gate-out c (suc k) d v)
+                        let z : base + e + (i - e) ≡ base + i = omega arith in
+                        omega (
+                          arith,
+                          ap (λ (t : ℕ). get_or zs t 0) z,
+                          ap (λ (t : ℕ). get_or xs t 0) z,
+                          part-inside (base + e) k xs ys room same (i - e) (omega arith),
+                          get_or-between xs (base + e) (base + c) (i - e) 0 (omega arith),
+                          L.each (i - e) (omega (arith, length-between xs (base + e) (base + c) long)),
+                          gate-in e (suc i) d (omega arith),
+                          gate-out c (suc i) d v,
+                        )
                     | no v ↦
-                        let at = L.after (base + k) (omega arith) in
-                        omega (arith, at, gate-in e (suc k) d (omega arith), gate-in c (suc k) d (omega arith))
+                        omega (arith, part-after (base + e) k xs ys room same (base + i) (omega arith), gate-in e (suc i) d (omega arith), gate-in c (suc i) d (omega arith))
                   ]
             ];
       }
@@ -133,22 +127,6 @@ moved n q m time class cap room w w' slack slack' left left' h j i s d sq ne W L
       h-same = λ a. refl;
     }
 
--- a search looks at no times, rooms and rests
-pub able-with : (n q m : ℕ) (time time' class cap room room' w slack left left' h : List ℕ) (j i s : ℕ) →
-    Able (flow_of n q m time class cap room) (fill_of q m w slack left h) j i s →
-    Able (flow_of n q m time' class cap room') (fill_of q m w slack left' h) j i s
-able-with n q m time time' class cap room room' w slack left left' h j i s A =
-    record { j-job = A.j-job; i-any = A.i-any; s-any = A.s-any; spare = A.spare; some = A.some; free = A.free; lower = A.lower }
-
-found-with : (n q m : ℕ) (time class cap room w slack left h : List ℕ) (j s i : ℕ) →
-    Found (flow_of n q m [] class cap []) (fill_of q m w slack [] h) j (Push s i) →
-    Found (flow_of n q m time class cap room) (fill_of q m w slack left h) j (Push s i)
-found-with n q m time class cap room w slack left h j s i F = (
-  able-with n q m [] time class cap [] room w slack [] left h j i s F.0,
-  record { none = F.1.none },
-  λ a l A. F.2 a l (able-with n q m time [] class cap room [] w slack left [] h j a s A),
-)
-
 -- what is displaced fits: in the rest of job i, and in the slacks from its class on
 module _ (o : Flow) (m : ℕ) (x : Fill) (S : State o m x) (i s d : ℕ) (li : i ≤ o.n) (ls : s < o.q) (fit : d ≤ x.w i s) where
   pub rest-fits : x.left i + d ≤ o.time i
@@ -177,7 +155,7 @@ pub record Places (n q m : ℕ) (class cap w slack left : List ℕ) (j i s : ℕ
   pub under : get_or w (j * q + s) 0 ≤ get_or cap (j * q + s) 0
 
 module _ (n q m : ℕ) (time class cap room w slack left h : List ℕ) (R : Ready n q m time class cap room w slack left h)
-    (j i s : ℕ) (A : Able (flow_of n q m [] class cap []) (fill_of q m w slack [] h) j i s) where
+    (j i s : ℕ) (A : Able (flow_of n q m time class cap room) (fill_of q m w slack left h) j i s) where
   pub places : Places n q m class cap w slack left j i s
   places =
       let cell : j * q + s < n * q = in_rows j q s n A.j-job A.s-any in
@@ -196,30 +174,55 @@ module _ (n q m : ℕ) (time class cap room w slack left h : List ℕ) (R : Read
         under = omega (arith, A.spare);
       }
 
-  module _ (d : ℕ) (D : Amount cap w slack left j (j * q + s) (i * q + s) (s * m + row class j) (s * m + row class i) d) where
-    pub left-fits : ((k : ℕ) → get_or time k 0 < 2 ^ 32) → get_or left i 0 + d < 2 ^ 32
-    left-fits small = omega (arith, small i, rest-fits _ m _ R.state i s d A.i-any A.s-any D.w_fits)
+  module _ (d first : ℕ) (is-first : first ≡ min (row class j) (row class i))
+      (D : Amount cap w left (between (s * m + first) (s * m + row class i) slack) j (j * q + s) (i * q + s) d) where
+    pub left-fits : get_or left i 0 + d < 2 ^ 32
+    left-fits = omega (arith, R.small-times i, rest-fits _ m _ R.state i s d A.i-any A.s-any D.w_fits)
 
-    pub raise-fits : ((k : ℕ) → get_or room k 0 < 2 ^ 32) →
-        (k : ℕ) → s * m + row class i ≤ k → k < s * m + row class j → get_or slack k 0 + d < 2 ^ 32
-    raise-fits small k lo hi =
+    pub raise-fits : (k : ℕ) → s * m + row class i ≤ k → k < s * m + row class j → get_or slack k 0 + d < 2 ^ 32
+    raise-fits k lo hi =
         let t : ℕ = k - s * m in
         let z : s * m + t ≡ k = omega arith in
         omega (
           arith,
-          small (s * m + min t (m - 1)),
+          R.small-rooms (s * m + min t (m - 1)),
           ap (λ v. get_or slack v 0) z,
           slack-fits _ m _ R.state i s d A.i-any A.s-any D.w_fits t (omega arith)
               (omega (arith, class-top _ _ R.order j (omega (arith, A.j-job)))),
         )
 
-    -- places of stretch s in the slacks, seen by class
+    -- the slacks between the two classes
+    abbrev lent : List ℕ
+    lent = between (s * m + first) (s * m + row class i) slack
+
+    lent-length : length lent ≡ s * m + row class i - (s * m + first)
+    lent-length = length-between slack (s * m + first) (s * m + row class i) places.to-slack
+
+    lent-fits : (k : ℕ) → row class j ≤ k → k < row class i → d ≤ grid m slack s k
+    lent-fits k lo hi =
+        let z : s * m + first + (k - row class j) ≡ s * m + k = omega (arith, is-first) in
+        omega (
+          arith,
+          ap (λ (v : ℕ). get_or slack v 0) z,
+          get_or-between slack (s * m + first) (s * m + row class i) (k - row class j) 0 (omega (arith, is-first)),
+          D.slack-fits (k - row class j) (omega (arith, is-first, lent-length)),
+        )
+
+    pub lower-fits : (k : ℕ) → s * m + row class j ≤ k → k < s * m + row class i → d ≤ get_or slack k 0
+    lower-fits k lo hi =
+        let z : s * m + (k - s * m) ≡ k = omega arith in
+        omega (arith, ap (λ (v : ℕ). get_or slack v 0) z, lent-fits (k - s * m) (omega arith) (omega arith))
+
     flat : (v : ℕ) → ((k : ℕ) → row class j ≤ k → k < row class i → v ≤ grid m slack s k) →
-        (k : ℕ) → s * m + row class j ≤ k → k < s * m + row class i → v ≤ get_or slack k 0
-    flat v f k lo hi =
-        let t : ℕ = k - s * m in
-        let z : s * m + t ≡ k = omega arith in
-        omega (arith, ap (λ u. get_or slack u 0) z, f t (omega arith) (omega arith))
+        (k : ℕ) → k < length lent → v ≤ get_or lent k 0
+    flat v f k l =
+        let z : s * m + first + k ≡ s * m + (row class j + k) = omega (arith, is-first, lent-length) in
+        omega (
+          arith,
+          ap (λ (u : ℕ). get_or slack u 0) z,
+          get_or-between slack (s * m + first) (s * m + row class i) k 0 (omega (arith, is-first, lent-length)),
+          f (row class j + k) (omega arith) (omega (arith, is-first, lent-length)),
+        )
 
     module _ (w' slack' left' : List ℕ) (W : Transferred w w' (j * q + s) (i * q + s) d) (L : Transferred left left' i j d)
         (S : Shifted slack slack' (s * m) (row class j) (row class i) d) where
@@ -231,15 +234,14 @@ module _ (n q m : ℕ) (time class cap room w slack left h : List ℕ) (R : Read
       pub pushed : 0 < get_or left j 0 →
           Pushed (flow_of n q m time class cap room) m (fill_of q m w slack left h) (fill_of q m w' slack' left' h) j s
       pushed some =
-          let B = able-with n q m [] time class cap [] room w slack [] left h j i s A in
           let pos : 0 < d = D.greatest 1 some (omega (arith, A.spare)) A.some (flat 1 A.free) in
           record {
             advanced =
                 record {
-                  state = push-state _ m _ _ j i s d R.order R.state B pushed-moved D.cap-fits;
-                  less = push-less _ m _ _ j i s d R.order R.state B pushed-moved (2 ^ 32) pos;
+                  state = push-state _ m _ _ j i s d R.order R.state A pushed-moved D.cap-fits;
+                  less = push-less _ m _ _ j i s d R.order R.state A pushed-moved (2 ^ 32) pos;
                 };
-            barred = push-barred _ m _ _ j i s d R.order R.state B pushed-moved;
+            barred = push-barred _ m _ _ j i s d R.order R.state A pushed-moved;
           }
 
       pub displaced : Displaced (flow_of n q m time class cap room) m (fill_of q m w slack left h) (fill_of q m w' slack' left' h) j i s
@@ -251,7 +253,7 @@ module _ (n q m : ℕ) (time class cap room w slack left h : List ℕ) (R : Read
                   left-fits = D.left-fits;
                   cap-fits = D.cap-fits;
                   w_fits = D.w_fits;
-                  slack-fits = λ k lo hi. D.slack-fits (s * m + k) (omega arith) (omega arith);
+                  slack-fits = lent-fits;
                   greatest = λ v a b c f. D.greatest v a b c (flat v f);
                 };
             moved = pushed-moved;
@@ -259,7 +261,7 @@ module _ (n q m : ℕ) (time class cap room w slack left h : List ℕ) (R : Read
 
 -- the store of a rise
 pub rose : (n q m : ℕ) (time class cap room w slack left h : List ℕ) → Ready n q m time class cap room w slack left h →
-    (j : ℕ) → j < n → get_or h j 0 ≤ n → get_or left j 0 < 2 ^ 32 → Barred (flow_of n q m [] class cap []) (fill_of q m w slack [] h) j 0 →
+    (j : ℕ) → j < n → get_or h j 0 ≤ n → get_or left j 0 < 2 ^ 32 → Barred (flow_of n q m time class cap room) (fill_of q m w slack left h) j 0 →
     Advanced (flow_of n q m time class cap room) m (fill_of q m w slack left h) (fill_of q m w slack left (set h j (get_or h j 0 + 1)))
 rose n q m time class cap room w slack left h R j lj low small B =
     let up : get_or (set h j (get_or h j 0 + 1)) j 0 ≡ suc (get_or h j 0)
@@ -295,18 +297,17 @@ ready-next n q m time class cap room w slack left h w' slack' left' h' R ew es e
           };
       order = R.order;
       state = S;
+      small-times = R.small-times;
+      small-caps = R.small-caps;
+      small-rooms = R.small-rooms;
     }
 
 -- a discharge of job j under way: from the lists at its start to those of now, with the stretches from u on barred
 pub record Going (n q m : ℕ) (time class cap room w₀ slack₀ left₀ h₀ w slack left h : List ℕ) (j u : ℕ) : Type 0 where
   pub ready : Ready n q m time class cap room w slack left h
-  pub same_w : length w ≡ length w₀
-  pub same-slack : length slack ≡ length slack₀
-  pub same_left : length left ≡ length left₀
-  pub same-h : length h ≡ length h₀
   pub low : get_or h j 0 ≤ n
   pub within : u ≤ q
-  pub barred : Barred (flow_of n q m [] class cap []) (fill_of q m w slack [] h) j u
+  pub barred : Barred (flow_of n q m time class cap room) (fill_of q m w slack left h) j u
   pub most : measure (2 ^ 32) n (fill_of q m w slack left h) ≤ measure (2 ^ 32) n (fill_of q m w₀ slack₀ left₀ h₀)
   pub less : get_or left j 0 ≡ 0 →
       measure (2 ^ 32) n (fill_of q m w slack left h) < measure (2 ^ 32) n (fill_of q m w₀ slack₀ left₀ h₀)
@@ -315,42 +316,20 @@ pub record Going (n q m : ℕ) (time class cap room w₀ slack₀ left₀ h₀ w
       (fill_of q m w₀ slack₀ left₀ h₀) (fill_of q m w slack left h)
 
 module _ (n q m : ℕ) (time class cap room w₀ slack₀ left₀ h₀ : List ℕ) (j : ℕ) where
-  pub going_start : Ready n q m time class cap room w₀ slack₀ left₀ h₀ → 0 < get_or left₀ j 0 → get_or h₀ j 0 ≤ n →
-      Going n q m time class cap room w₀ slack₀ left₀ h₀ w₀ slack₀ left₀ h₀ j q
-  going_start R some low =
-      record {
-        ready = R;
-        same_w = refl;
-        same-slack = refl;
-        same_left = refl;
-        same-h = refl;
-        low = low;
-        within = omega arith;
-        barred = record { none = λ i s li lo hi. absurd (omega (arith, lo, hi)) };
-        most = omega arith;
-        less = λ e. absurd (omega arith);
-        turns = 0;
-        path = refl;
-      }
-
   module _ (w slack left h : List ℕ) (u : ℕ) (G : Going n q m time class cap room w₀ slack₀ left₀ h₀ w slack left h j u) where
-    pub going-push : (s i : ℕ) (w' slack' left' : List ℕ) → 0 < get_or left j 0 →
-        Found (flow_of n q m [] class cap []) (fill_of q m w slack [] h) j (Push s i) →
-        Pushed (flow_of n q m time class cap room) m (fill_of q m w slack left h) (fill_of q m w' slack' left' h) j s →
-        length w' ≡ length w → length slack' ≡ length slack → length left' ≡ length left →
-        Displaced (flow_of n q m time class cap room) m (fill_of q m w slack left h) (fill_of q m w' slack' left' h) j i s →
-        Going n q m time class cap room w₀ slack₀ left₀ h₀ w' slack' left' h j (s + 1)
-    going-push s i w' slack' left' some F P ew es el D =
+    pub going-push : (s i : ℕ) (w' slack' left' h' : List ℕ) → 0 < get_or left j 0 →
+        PushAt (flow_of n q m time class cap room) (fill_of q m w slack left h) j s i →
+        Pushed (flow_of n q m time class cap room) m (fill_of q m w slack left h) (fill_of q m w' slack' left' h') j s →
+        Ready n q m time class cap room w' slack' left' h' →
+        Displaced (flow_of n q m time class cap room) m (fill_of q m w slack left h) (fill_of q m w' slack' left' h') j i s →
+        Going n q m time class cap room w₀ slack₀ left₀ h₀ w' slack' left' h' j (s + 1)
+    going-push s i w' slack' left' h' some F P R D =
         let sq : s < q = F.0.s-any in
-        let N : Barred (flow_of n q m time class cap room) (fill_of q m w' slack' left' h) j (suc s)
+        let N : Barred (flow_of n q m time class cap room) (fill_of q m w' slack' left' h') j (suc s)
         = P.barred (suc s) (omega arith) (record { none = F.1.none }) in
         record {
-          ready = ready-next _ _ _ _ _ _ _ _ _ _ _ _ _ _ _ G.ready ew es el refl P.advanced.state;
-          same_w = ew ∙ G.same_w;
-          same-slack = es ∙ G.same-slack;
-          same_left = el ∙ G.same_left;
-          same-h = G.same-h;
-          low = G.low;
+          ready = R;
+          low = omega (arith, G.low, D.moved.h-same j);
           within = omega arith;
           barred = record { none = λ i t li lo hi. N.none i t li (omega arith) hi };
           most = omega (arith, G.most, P.advanced.less);
@@ -358,87 +337,66 @@ module _ (n q m : ℕ) (time class cap room w₀ slack₀ left₀ h₀ : List �
           turns = suc G.turns;
           path =
               turns_more Fill (PushTurn (flow_of n q m time class cap room) m j) G.turns _ _ _ G.path
-              (record { s = s; i = i; some = some; found = found-with n q m time class cap room w slack left h j s i F; displaced = D });
+              (record { s = s; i = i; some = some; found = F; displaced = D });
         }
 
-    pub going_done : get_or left j 0 ≡ 0 →
-        Advanced (flow_of n q m time class cap room) m (fill_of q m w₀ slack₀ left₀ h₀) (fill_of q m w slack left h)
-    going_done e = record { state = G.ready.state; less = G.less e }
-
-    pub going-rise : j < n → get_or left j 0 < 2 ^ 32 → Barred (flow_of n q m [] class cap []) (fill_of q m w slack [] h) j 0 →
+    pub going-rise : j < n → Barred (flow_of n q m time class cap room) (fill_of q m w slack left h) j 0 →
         Advanced (flow_of n q m time class cap room) m (fill_of q m w₀ slack₀ left₀ h₀)
         (fill_of q m w slack left (set h j (get_or h j 0 + 1)))
-    going-rise lj small B =
+    going-rise lj B =
+        let small : get_or left j 0 < 2 ^ 32 = omega (arith, G.ready.small-times j, G.ready.state.rows j (omega arith)) in
         let A = rose n q m time class cap room w slack left h G.ready j lj G.low small B in
         record { state = A.state; less = omega (arith, A.less, G.most) }
 
-    -- and as a run
-    pub run-done : get_or left j 0 ≡ 0 →
-        DischargeRun (flow_of n q m time class cap room) m j (fill_of q m w₀ slack₀ left₀ h₀) (fill_of q m w slack left h)
-    run-done e = (fill_of q m w slack left h, record { turns = G.turns; path = G.path; ends = nothing_left e refl })
-
-    pub run-rise : j < length h → 0 < get_or left j 0 → Barred (flow_of n q m [] class cap []) (fill_of q m w slack [] h) j 0 →
-        DischargeRun (flow_of n q m time class cap room) m j (fill_of q m w₀ slack₀ left₀ h₀)
-        (fill_of q m w slack left (set h j (get_or h j 0 + 1)))
-    run-rise lj some B = (
-      fill_of q m w slack left h,
-      record {
-        turns = G.turns;
-        path = G.path;
-        ends =
-            rises some (record { none = B.none })
-            (record {
-              w-same = refl;
-              slack-same = refl;
-              left-same = refl;
-              up = get_or-set_same h j (get_or h j 0 + 1) 0 lj ∙ add-one (get_or h j 0);
-              else = λ a ne. get_or-set_other h j a (get_or h j 0 + 1) 0 ne;
-            });
-      },
-    )
+    pub ready-rise : j < n → Barred (flow_of n q m time class cap room) (fill_of q m w slack left h) j 0 →
+        Ready n q m time class cap room w slack left (set h j (get_or h j 0 + 1))
+    ready-rise lj B =
+        ready-next _ _ _ _ _ _ _ _ _ _ _ _ _ _ _ G.ready refl refl refl (length-set h j (get_or h j 0 + 1))
+        (going-rise lj B).state
 
 -- how a filling goes on and ends, as a run
-module _ (n q m : ℕ) (time class cap room w slack left h : List ℕ) (R : Ready n q m time class cap room w slack left h)
-    (x : Fill) (k j : ℕ) (P : Picked (row left) n j)
+module _ (n q m : ℕ) (time class cap room w slack left h : List ℕ) (x : Fill) (k : ℕ)
     (path : Turns Fill (FillTurn (flow_of n q m time class cap room) m) k x (fill_of q m w slack left h)) where
-  pub run-placed : j ≡ n → FillRun (flow_of n q m time class cap room) m x (fill_of q m w slack left h) true
-  run-placed e = record { turns = k; path = path; ends = all_placed (subst (λ v. Picked (row left) n v) e P) refl }
+  module _ (j : ℕ) (P : Picked (row left) n j) where
+    pub run-high : n < get_or h j 0 → FillRun (flow_of n q m time class cap room) m x (fill_of q m w slack left h) false
+    run-high s = record { turns = k; path = path; ends = too-high j P s refl }
 
-  pub run-high : j < n → n < get_or h j 0 → FillRun (flow_of n q m time class cap room) m x (fill_of q m w slack left h) false
-  run-high l s = record { turns = k; path = path; ends = too-high j P l s refl }
+    pub run-gap : 1 < get_or h j 0 → Stands (row h) n (get_or h j 0 - 1) false →
+        FillRun (flow_of n q m time class cap room) m x (fill_of q m w slack left h) false
+    run-gap s S = record { turns = k; path = path; ends = gap_below j P s S refl }
 
-  pub run-gap : j < n → 1 < get_or h j 0 → Stands (row h) n (get_or h j 0 - 1) false →
-      FillRun (flow_of n q m time class cap room) m x (fill_of q m w slack left h) false
-  run-gap l s S = record { turns = k; path = path; ends = gap_below j P l s S refl }
-
-  pub run-turn : (y : Fill) → j < n → get_or h j 0 ≤ n → (1 < get_or h j 0 → Stands (row h) n (get_or h j 0 - 1) true) →
-      DischargeRun (flow_of n q m time class cap room) m j (fill_of q m w slack left h) y →
-      Turns Fill (FillTurn (flow_of n q m time class cap room) m) (suc k) x y
-  run-turn y l low held D =
-      turns_more Fill (FillTurn (flow_of n q m time class cap room) m) k _ _ _ path
-      (record { j = j; picked = P; job = l; low = low; held = held; discharged = D })
+    pub run-turn : (y : Fill) → get_or h j 0 ≤ n → (1 < get_or h j 0 → Stands (row h) n (get_or h j 0 - 1) true) →
+        DischargeRun (flow_of n q m time class cap room) m j (fill_of q m w slack left h) y →
+        Turns Fill (FillTurn (flow_of n q m time class cap room) m) (suc k) x y
+    run-turn y low held D =
+        turns_more Fill (FillTurn (flow_of n q m time class cap room) m) k _ _ _ path
+        (record { j = j; picked = P; low = low; held = held; discharged = D })
 
 -- the stores of the start, and the whole run
 module _ (n q m : ℕ) (time class cap room w slack left h w1 w2 slack' left' h' : List ℕ)
-    (Z : Sizes n q m time class cap room w slack left h) (G : Given n q m time class room) (F : Filled w1 (n * q) 0)
-    (I : IdleRow room w1 w2 n q m q) (C : Copied room slack' (q * m)) (D : Copied time left' n) (L : Level h' n)
-    (same_left : length left' ≡ length left) where
-  begun : Begun (flow_of n q m time class cap room) m (fill_of q m w2 slack' (set left' n 0) h')
+    (Z : Sizes n q m time class cap room w slack left h) (G : Given n q m time class room)
+    (F : (k : ℕ) → k < n * q → get_or w1 k 0 ≡ 0) (I : IdleRow room w1 w2 n q m q)
+    (C : (k : ℕ) → k < q * m → get_or slack' k 0 ≡ get_or room k 0)
+    (D : (k : ℕ) → k < n → get_or left' k 0 ≡ get_or time k 0) (L : (k : ℕ) → k < n → get_or h' k 0 ≡ 1)
+    (same_left : length left' ≡ length left) (same-h : length h' ≡ length h) where
+  begun : Begun (flow_of n q m time class cap room) m (fill_of q m w2 slack' (set left' n 0) (set h' n 0))
   begun =
       record {
-        no-amount = λ j s lj ls. I.below (j * q + s) (in_rows j q s n lj ls) ∙ F.each (j * q + s) (in_rows j q s n lj ls);
+        no-amount = λ j s lj ls. I.below (j * q + s) (in_rows j q s n lj ls) ∙ F (j * q + s) (in_rows j q s n lj ls);
         all-idle = λ s ls. I.idle s ls ∙ sym (room_at n q m time class cap room G s (m - 1) (omega (arith, G.classes)));
-        all-slack = λ s k ls lk. C.each (s * m + k) (in_rows s m k q ls lk) ∙ sym (room_at n q m time class cap room G s k lk);
-        all_left = λ j lj. get_or-set_other left' n j 0 0 (λ e. omega (arith, e)) ∙ D.each j lj;
+        all-slack = λ s k ls lk. C (s * m + k) (in_rows s m k q ls lk) ∙ sym (room_at n q m time class cap room G s k lk);
+        all_left = λ j lj. get_or-set_other left' n j 0 0 (λ e. omega (arith, e)) ∙ D j lj;
         none_left = get_or-set_same left' n 0 0 (omega (arith, Z.s-left));
-        one = L.one;
-        grounded = L.grounded;
+        one = λ j lj. get_or-set_other h' n j 0 0 (λ e. omega (arith, e)) ∙ L j lj;
+        grounded = get_or-set_same h' n 0 0 (omega (arith, Z.s-h));
       }
 
-  pub begin : length w1 ≡ length w → length w2 ≡ length w1 → length slack' ≡ length slack → length h' ≡ length h →
-      Ready n q m time class cap room w2 slack' (set left' n 0) h'
-  begin e1 e2 e3 e4 =
-      let same : length (set left' n 0) ≡ length left' = length-set left' n 0 in
+  pub begin : length w1 ≡ length w → length w2 ≡ length w1 → length slack' ≡ length slack →
+      ((k : ℕ) → get_or time k 0 < 2 ^ 32) → ((k : ℕ) → get_or cap k 0 < 2 ^ 32) → ((k : ℕ) → get_or room k 0 < 2 ^ 32) →
+      Ready n q m time class cap room w2 slack' (set left' n 0) (set h' n 0)
+  begin e1 e2 e3 times caps rooms =
+      let left-length : length (set left' n 0) ≡ length left' = length-set left' n 0 in
+      let h-length : length (set h' n 0) ≡ length h' = length-set h' n 0 in
       record {
         sizes =
             record {
@@ -452,13 +410,14 @@ module _ (n q m : ℕ) (time class cap room w slack left h w1 w2 slack' left' h'
               s-h = omega (arith, Z.s-h);
             };
         order = start-order n q m time class cap room G;
-        state =
-            start-state _ m _ (start-order n q m time class cap room G) begun
-            (start-idle n q m time class cap room G);
+        state = start-state _ m _ (start-order n q m time class cap room G) begun (start-idle n q m time class cap room G);
+        small-times = times;
+        small-caps = caps;
+        small-rooms = rooms;
       }
 
   pub solved : (y : Fill) (r : Bool) →
-      FillRun (flow_of n q m time class cap room) m (fill_of q m w2 slack' (set left' n 0) h') y r →
+      FillRun (flow_of n q m time class cap room) m (fill_of q m w2 slack' (set left' n 0) (set h' n 0)) y r →
       RunOf (flow_of n q m time class cap room) m y.w r
   solved y r R =
       record {
@@ -475,7 +434,7 @@ module _ (n q m : ℕ) (time class cap room w slack left h w1 w2 slack' left' h'
         classes = G.classes;
         class-high = λ j l. omega (arith, G.high j l);
         class-idle = G.idle-class;
-        start = fill_of q m w2 slack' (set left' n 0) h';
+        start = fill_of q m w2 slack' (set left' n 0) (set h' n 0);
         end = y;
         begun = begun;
         run = R;

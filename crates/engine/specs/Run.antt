@@ -4,9 +4,8 @@
 use Rattle.std.specs.Prelude.{ℕ, zero, suc, ◌+◌, ◌-◌, ◌≤◌, ◌<◌, ◌≡◌, ◌≢◌, Bool, true, false}
 use Rattle.amounts.specs.Flow.{Flow}
 use Rattle.amounts.specs.Start.{Begun}
-use Rattle.amounts.specs.State.{Fill, Moved}
-use Rattle.engine.specs.View.{Found, Picked, Stands}
-use Rattle.engine.specs.declared.Move.TheVariants.{Push, Rise}
+use Rattle.amounts.specs.State.{Fill, Moved, Barred}
+use Rattle.engine.specs.View.{PushAt, Picked, Placed, Stands}
 
 -- k turns from x to y
 abbrev pub Turns : (X : Type 0) → (X → X → Type 0) → ℕ → X → X → Type 0
@@ -39,7 +38,7 @@ pub record PushTurn (o : Flow) (m j : ℕ) (x y : Fill) : Type 0 where
   pub s : ℕ
   pub i : ℕ
   pub some : 0 < x.left j
-  pub found : Found o x j (Push s i)
+  pub found : PushAt o x j s i
   pub displaced : Displaced o m x y j i s
 
 pub record Risen (x y : Fill) (j : ℕ) : Type 0 where
@@ -51,7 +50,7 @@ pub record Risen (x y : Fill) (j : ℕ) : Type 0 where
 
 pub data DischargeEnd (o : Flow) (j : ℕ) (x y : Fill) : Type 0 where
   nothing_left : x.left j ≡ 0 → y ≡ x → DischargeEnd o j x y
-  rises : 0 < x.left j → Found o x j Rise → Risen x y j → DischargeEnd o j x y
+  rises : 0 < x.left j → Barred o x j 0 → Risen x y j → DischargeEnd o j x y
 
 abbrev pub DischargeRun : Flow → ℕ → ℕ → Fill → Fill → Type 0
 DischargeRun o m j x y = (z : Fill) × Run Fill Fill (PushTurn o m j) (DischargeEnd o j) x z y
@@ -60,15 +59,14 @@ DischargeRun o m j x y = (z : Fill) × Run Fill Fill (PushTurn o m j) (Discharge
 pub record FillTurn (o : Flow) (m : ℕ) (x y : Fill) : Type 0 where
   pub j : ℕ
   pub picked : Picked x.left o.n j
-  pub job : j < o.n
   pub low : x.h j ≤ o.n
   pub held : 1 < x.h j → Stands x.h o.n (x.h j - 1) true
   pub discharged : DischargeRun o m j x y
 
 pub data FillEnd (o : Flow) (x : Fill) (r : Bool) : Type 0 where
-  all_placed : Picked x.left o.n o.n → r ≡ true → FillEnd o x r
-  too-high : (j : ℕ) → Picked x.left o.n j → j < o.n → o.n < x.h j → r ≡ false → FillEnd o x r
-  gap_below : (j : ℕ) → Picked x.left o.n j → j < o.n → 1 < x.h j → Stands x.h o.n (x.h j - 1) false →
+  all_placed : Placed x.left o.n → r ≡ true → FillEnd o x r
+  too-high : (j : ℕ) → Picked x.left o.n j → o.n < x.h j → r ≡ false → FillEnd o x r
+  gap_below : (j : ℕ) → Picked x.left o.n j → 1 < x.h j → Stands x.h o.n (x.h j - 1) false →
       r ≡ false → FillEnd o x r
 
 abbrev pub FillRun : Flow → ℕ → Fill → Fill → Bool → Type 0

@@ -6,7 +6,7 @@ use Rattle.sums.specs.Gate.{gate}
 use Rattle.amounts.specs.Flow.{Flow}
 use Rattle.amounts.specs.Start.{Begun}
 use Rattle.amounts.specs.State.{Fill, Moved, Able, Barred}
-use Rattle.engine.specs.View.{Found, Picked}
+use Rattle.engine.specs.View.{PushAt, Picked, Placed}
 use Rattle.engine.specs.Run.{
   Turns,
   Run,
@@ -26,7 +26,6 @@ use Rattle.engine.specs.Run.{
   SameFlow,
   RunOf,
 }
-use Rattle.engine.specs.declared.Move.TheVariants.{Push}
 
 -- one turn more at the end
 pub turns_more : (X : Type 0) (turn : X → X → Type 0) (k : ℕ) (x y z : X) →
@@ -99,16 +98,21 @@ module _ (m : ℕ) (o p : Flow) (A : Agree m o p) where
     picked_same j k P R =
         elim (dec_lt j k) [
           | yes l ↦
-              let b : j < o.n = omega (arith, R.within, A.n-same) in
-              absurd (omega (arith, P.active b, R.first j l, S.left-same j (omega arith)))
+              let b : j < o.n = P.job in
+              absurd (omega (arith, P.active, R.first j l, S.left-same j (omega arith)))
           | no l ↦
               elim (dec_lt k j) [
                 | yes r ↦
-                    let b : k < o.n = omega (arith, P.within) in
-                    absurd (omega (arith, R.active (omega (arith, A.n-same)), P.first k r, S.left-same k (omega arith)))
+                    let b : k < o.n = omega (arith, R.job, A.n-same) in
+                    absurd (omega (arith, R.active, P.first k r, S.left-same k (omega arith)))
                 | no r ↦ omega arith
               ]
         ]
+
+    placed-picked : (k : ℕ) → Placed x.left o.n → Picked y.left p.n k → ⊥
+    placed-picked k P R =
+        let b : k < o.n = omega (arith, R.job, A.n-same) in
+        omega (arith, R.active, P k b, S.left-same k (omega arith))
 
     able-same : (j i s : ℕ) → Able o x j i s → Able p y j i s
     able-same j i s B =
@@ -200,7 +204,7 @@ module _ (m : ℕ) (o p : Flow) (A : Agree m o p) (x y : Fill) (S : Same o m x y
   able-back : (j i s : ℕ) → Able p y j i s → Able o x j i s
   able-back = able-same m p o (agree-sym m o p A) y x (same-sym m o p A x y S)
 
-  stretch-same : (j s i t k : ℕ) → Found o x j (Push s i) → Found p y j (Push t k) → s ≡ t
+  stretch-same : (j s i t k : ℕ) → PushAt o x j s i → PushAt p y j t k → s ≡ t
   stretch-same j s i t k F G =
       elim (dec_lt s t) [
         | yes l ↦ absurd (able-barred o x j k t (suc s) l (able-back j k t G.0) F.1)
@@ -211,7 +215,7 @@ module _ (m : ℕ) (o p : Flow) (A : Agree m o p) (x y : Fill) (S : Same o m x y
             ]
       ]
 
-  job-same : (j s i k : ℕ) → Found o x j (Push s i) → Found p y j (Push s k) → i ≡ k
+  job-same : (j s i k : ℕ) → PushAt o x j s i → PushAt p y j s k → i ≡ k
   job-same j s i k F G =
       elim (dec_lt i k) [
         | yes l ↦ absurd (F.2 k l (able-back j k s G.0))
@@ -233,7 +237,7 @@ module _ (m : ℕ) (o p : Flow) (A : Agree m o p) (x y : Fill) (S : Same o m x y
   push-same j x' y' G H =
       let B = G.found.0 in
       let es : H.s ≡ G.s = sym (stretch-same j G.s G.i H.s H.i G.found H.found) in
-      let F : Found p y j (Push G.s H.i) = subst (λ v. Found p y j (Push v H.i)) es H.found in
+      let F : PushAt p y j G.s H.i = subst (λ v. PushAt p y j v H.i) es H.found in
       let ei : H.i ≡ G.i = sym (job-same j G.s G.i H.i G.found F) in
       let D₁ : Displaced p m y y' j H.i G.s = subst (λ v. Displaced p m y y' j H.i v) es H.displaced in
       let D : Displaced p m y y' j G.i G.s = subst (λ v. Displaced p m y y' j v G.s) ei D₁ in
@@ -278,30 +282,29 @@ module _ (m : ℕ) (o p : Flow) (A : Agree m o p) where
   turn-same : (x x' y y' : Fill) → Same o m x y → FillTurn o m x x' → FillTurn p m y y' → Same o m x' y'
   turn-same x x' y y' S T U =
       let e : U.j ≡ T.j = sym (picked_same m o p A x y S T.j U.j T.picked U.picked) in
-      discharge-same T.j T.job x x' y y' S T.discharged (subst (λ v. DischargeRun p m v y y') e U.discharged)
+      discharge-same T.j T.picked.job x x' y y' S T.discharged (subst (λ v. DischargeRun p m v y y') e U.discharged)
 
   end_same : (x y : Fill) (r t : Bool) → Same o m x y → FillEnd o x r → FillEnd p y t → r ≡ t
   end_same x y r t S (all_placed a u) (all_placed b v) = u ∙ sym v
-  end_same x y r t S (all_placed a u) (too-high k b l h v) =
-      absurd (omega (arith, A.n-same, picked_same m o p A x y S o.n k a b))
-  end_same x y r t S (all_placed a u) (gap_below k b l h g v) =
-      absurd (omega (arith, A.n-same, picked_same m o p A x y S o.n k a b))
-  end_same x y r t S (too-high j a l h u) (all_placed b v) =
-      absurd (omega (arith, A.n-same, picked_same m o p A x y S j p.n a b))
-  end_same x y r t S (gap_below j a l h g u) (all_placed b v) =
-      absurd (omega (arith, A.n-same, picked_same m o p A x y S j p.n a b))
-  end_same x y r t S (too-high j a l h u) (too-high k b i f v) = u ∙ sym v
-  end_same x y r t S (too-high j a l h u) (gap_below k b i f g v) = u ∙ sym v
-  end_same x y r t S (gap_below j a l h g u) (too-high k b i f v) = u ∙ sym v
-  end_same x y r t S (gap_below j a l h g u) (gap_below k b i f c v) = u ∙ sym v
+  end_same x y r t S (all_placed a u) (too-high k b h v) = absurd (placed-picked m o p A x y S k a b)
+  end_same x y r t S (all_placed a u) (gap_below k b h g v) = absurd (placed-picked m o p A x y S k a b)
+  end_same x y r t S (too-high j a h u) (all_placed b v) =
+      absurd (placed-picked m p o (agree-sym m o p A) y x (same-sym m o p A x y S) j b a)
+  end_same x y r t S (gap_below j a h g u) (all_placed b v) =
+      absurd (placed-picked m p o (agree-sym m o p A) y x (same-sym m o p A x y S) j b a)
+  end_same x y r t S (too-high j a h u) (too-high k b f v) = u ∙ sym v
+  end_same x y r t S (too-high j a h u) (gap_below k b f g v) = u ∙ sym v
+  end_same x y r t S (gap_below j a h g u) (too-high k b f v) = u ∙ sym v
+  end_same x y r t S (gap_below j a h g u) (gap_below k b f c v) = u ∙ sym v
 
   end-turn : (x y y' : Fill) (r : Bool) → Same o m x y → FillEnd o x r → FillTurn p m y y' → ⊥
-  end-turn x y y' r S (all_placed a u) T =
-      omega (arith, T.job, A.n-same, picked_same m o p A x y S o.n T.j a T.picked)
-  end-turn x y y' r S (too-high j a l h u) T =
+  end-turn x y y' r S (all_placed a u) T = placed-picked m o p A x y S T.j a T.picked
+  end-turn x y y' r S (too-high j a h u) T =
+      let l = a.job in
       let e : j ≡ T.j = picked_same m o p A x y S j T.j a T.picked in
       omega (arith, T.low, A.n-same, S.h-same j (omega arith), ap y.h e)
-  end-turn x y y' r S (gap_below j a l h g u) T =
+  end-turn x y y' r S (gap_below j a h g u) T =
+      let l = a.job in
       let e : j ≡ T.j = picked_same m o p A x y S j T.j a T.picked in
       let z : x.h j ≡ y.h T.j = S.h-same j (omega arith) ∙ ap y.h e in
       let b = T.held (omega arith) in

@@ -1,8 +1,9 @@
 -- Flat lists seen as functions, and what the small functions do to them.
-use Rattle.std.specs.Prelude.{◌≡◌, ◌≢◌, List, Bool, true, false, ℕ, suc, ◌+◌, ◌*◌, ◌-◌, ◌^◌, ◌≤◌, ◌<◌, min, length, get_or}
+use Rattle.std.specs.Prelude.{◌≡◌, ◌≢◌, List, Option, Some, None, Bool, true, false, ℕ, suc, ◌+◌, ◌*◌, ◌-◌, ◌^◌, ◌≤◌, ◌<◌, min, length, get_or}
 use Rattle.std.proofs.Common.{ap, mul-lt-mul_of_pos_right, mul-le-mul_right, suc-mul, arith}
-use Rattle.engine.specs.declared.Move.{Move}
-use Rattle.engine.specs.declared.Move.TheVariants.{Push, Rise}
+use Rattle.engine.specs.declared.instance.Instance.{Instance}
+use Rattle.engine.specs.declared.instance.Filling.{Filling}
+use Rattle.engine.specs.declared.moves.Push.{Push}
 use Rattle.std.proofs.Math.Decide.{dec_lt}
 use Rattle.sums.specs.Gate.{gate}
 use Rattle.amounts.specs.Flow.{Flow, Feasible, Cut}
@@ -22,6 +23,13 @@ flow_of n q m time class cap room =
 abbrev pub fill_of : ℕ → ℕ → List ℕ → List ℕ → List ℕ → List ℕ → Fill
 fill_of q m w slack left h = record { w = grid q w; slack = grid m slack; left = row left; h = row h }
 
+-- what the code is given, as a flow, and its amounts, as a filling
+abbrev pub flow_in : Instance → Flow
+flow_in g = flow_of g.n g.q g.m g.time.now g.class.now g.cap.now g.room.now
+
+abbrev pub fill_in : Instance → Filling → Fill
+fill_in g x = fill_of g.q g.m x.w.now x.slack.now x.left.now x.height.now
+
 -- the lists are long enough
 pub record Sizes (n q m : ℕ) (time class cap room w slack left h : List ℕ) : Type 0 where
   pub s-time : suc n ≤ length time
@@ -39,55 +47,56 @@ pub record Transferred (xs ys : List ℕ) (up down d : ℕ) : Type 0 where
   pub less : get_or ys down 0 + d ≡ get_or xs down 0
   pub other : (k : ℕ) → k ≢ up → k ≢ down → get_or ys k 0 ≡ get_or xs k 0
 
--- d less at each place of from..to
-pub record Lowered (xs ys : List ℕ) (from to d : ℕ) : Type 0 where
-  pub inside : (k : ℕ) → from ≤ k → k < to → get_or ys k 0 + d ≡ get_or xs k 0
-  pub before : (k : ℕ) → k < from → get_or ys k 0 ≡ get_or xs k 0
-  pub after : (k : ℕ) → to ≤ k → get_or ys k 0 ≡ get_or xs k 0
+-- d less at each place, d more at each place
+pub record Lowered (xs ys : List ℕ) (d : ℕ) : Type 0 where
+  pub each : (k : ℕ) → k < length xs → get_or ys k 0 + d ≡ get_or xs k 0
 
-pub record Raised (xs ys : List ℕ) (from to d : ℕ) : Type 0 where
-  pub inside : (k : ℕ) → from ≤ k → k < to → get_or ys k 0 ≡ get_or xs k 0 + d
-  pub before : (k : ℕ) → k < from → get_or ys k 0 ≡ get_or xs k 0
-  pub after : (k : ℕ) → to ≤ k → get_or ys k 0 ≡ get_or xs k 0
+pub record Raised (xs ys : List ℕ) (d : ℕ) : Type 0 where
+  pub each : (k : ℕ) → k < length xs → get_or ys k 0 ≡ get_or xs k 0 + d
 
--- the least of d and the entries of from..to
-pub record Least (xs : List ℕ) (from to d r : ℕ) : Type 0 where
-  pub most : r ≤ d
-  pub under : (k : ℕ) → from ≤ k → k < to → r ≤ get_or xs k 0
-  pub greatest : (v : ℕ) → v ≤ d → ((k : ℕ) → from ≤ k → k < to → v ≤ get_or xs k 0) → v ≤ r
+-- the first entry that is 0, or the end
+pub record FirstZero (xs : List ℕ) (r : ℕ) : Type 0 where
+  pub high : r ≤ length xs
+  pub free : (k : ℕ) → k < r → 0 < get_or xs k 0
+  pub zero-at : r < length xs → get_or xs r 0 ≡ 0
 
--- the first entry of from..to that is 0, or to
-pub record FirstZero (xs : List ℕ) (from to r : ℕ) : Type 0 where
-  pub low : from ≤ r
-  pub high : r ≤ to
-  pub free : (k : ℕ) → from ≤ k → k < r → 0 < get_or xs k 0
-  pub zero-at : r < to → get_or xs r 0 ≡ 0
-
--- the most that job j can displace: the amounts at up and down, and the slacks of from..to
-pub record Amount (cap w slack left : List ℕ) (j up down from to r : ℕ) : Type 0 where
+-- the most that job j can displace: the amounts at up and down, and the slacks
+pub record Amount (cap w left slack : List ℕ) (j up down r : ℕ) : Type 0 where
   pub left-fits : r ≤ get_or left j 0
   pub cap-fits : get_or w up 0 + r ≤ get_or cap up 0
   pub w_fits : r ≤ get_or w down 0
-  pub slack-fits : (k : ℕ) → from ≤ k → k < to → r ≤ get_or slack k 0
+  pub slack-fits : (k : ℕ) → k < length slack → r ≤ get_or slack k 0
   pub greatest : (v : ℕ) → v ≤ get_or left j 0 → get_or w up 0 + v ≤ get_or cap up 0 → v ≤ get_or w down 0 →
-      ((k : ℕ) → from ≤ k → k < to → v ≤ get_or slack k 0) → v ≤ r
+      ((k : ℕ) → k < length slack → v ≤ get_or slack k 0) → v ≤ r
 
 -- d less from class c on, and d more from class e on, in the slacks at base
 pub record Shifted (xs ys : List ℕ) (base c e d : ℕ) : Type 0 where
   pub here : (k : ℕ) → get_or ys (base + k) 0 + gate c (suc k) d ≡ get_or xs (base + k) 0 + gate e (suc k) d
   pub before : (k : ℕ) → k < base → get_or ys k 0 ≡ get_or xs k 0
 
--- the first job with something left, or n
-pub record Picked (left : ℕ → ℕ) (n r : ℕ) : Type 0 where
-  pub within : r ≤ n
-  pub active : r < n → 0 < left r
-  pub first : (a : ℕ) → a < r → left a ≡ 0
+-- the first job with something left
+pub record Picked (left : ℕ → ℕ) (n j : ℕ) : Type 0 where
+  pub job : j < n
+  pub active : 0 < left j
+  pub first : (a : ℕ) → a < j → left a ≡ 0
 
--- the last job with something in s, of a class up to t, one below the height h; past n: there is none
-pub record Aim (class w height : List ℕ) (n q s t h r : ℕ) : Type 0 where
-  pub found : r ≤ n → (0 < get_or w (r * q + s) 0) × (get_or class r 0 ≤ t) × (h ≡ get_or height r 0 + 1)
-  pub missing : n < r → (i : ℕ) → i ≤ n → 0 < get_or w (i * q + s) 0 → get_or class i 0 ≤ t → h ≢ get_or height i 0 + 1
-  pub last : (i : ℕ) → r < i → i ≤ n → 0 < get_or w (i * q + s) 0 → get_or class i 0 ≤ t → h ≢ get_or height i 0 + 1
+-- nothing is left of any job
+abbrev pub Placed : (ℕ → ℕ) → ℕ → Type 0
+Placed left n = (a : ℕ) → a < n → left a ≡ 0
+
+abbrev pub PickedFirst : (ℕ → ℕ) → ℕ → Option ℕ → Type 0
+PickedFirst left n (Some j) = Picked left n j
+PickedFirst left n None = Placed left n
+
+-- job i has something in s, a class up to t, and is one below the height h
+abbrev pub Aimed : List ℕ → List ℕ → List ℕ → ℕ → ℕ → ℕ → ℕ → ℕ → Type 0
+Aimed class w height q s t h i = (0 < get_or w (i * q + s) 0) × (get_or class i 0 ≤ t) × (h ≡ get_or height i 0 + 1)
+
+-- the last such job
+abbrev pub Aim : List ℕ → List ℕ → List ℕ → ℕ → ℕ → ℕ → ℕ → ℕ → Option ℕ → Type 0
+Aim class w height n q s t h (Some i) =
+    (i ≤ n) × Aimed class w height q s t h i × ((a : ℕ) → i < a → a ≤ n → ¬ Aimed class w height q s t h a)
+Aim class w height n q s t h None = (a : ℕ) → a ≤ n → ¬ Aimed class w height q s t h a
 
 pub record Advanced (o : Flow) (m : ℕ) (x y : Fill) : Type 0 where
   pub state : State o m y
@@ -108,11 +117,22 @@ pub record Ready (n q m : ℕ) (time class cap room w slack left h : List ℕ) :
   pub sizes : Sizes n q m time class cap room w slack left h
   pub order : Classed (flow_of n q m time class cap room) m
   pub state : State (flow_of n q m time class cap room) m (fill_of q m w slack left h)
+  pub small-times : (k : ℕ) → get_or time k 0 < 2 ^ 32
+  pub small-caps : (k : ℕ) → get_or cap k 0 < 2 ^ 32
+  pub small-rooms : (k : ℕ) → get_or room k 0 < 2 ^ 32
 
--- what a search for a step of job j answers: the last stretch where it may displace, and the last job there; or that it rises
-abbrev pub Found : Flow → Fill → ℕ → Move → Type 0
-Found o x j (Push s i) = Able o x j i s × Barred o x j (suc s) × ((a : ℕ) → i < a → ¬ Able o x j a s)
-Found o x j Rise = Barred o x j 0
+abbrev pub ReadyFor : Instance → Filling → Type 0
+ReadyFor g x =
+    Ready g.n g.q g.m g.time.now g.class.now g.cap.now g.room.now x.w.now x.slack.now x.left.now x.height.now
+
+-- the last stretch where job j may displace, and the last job there
+abbrev pub PushAt : Flow → Fill → ℕ → ℕ → ℕ → Type 0
+PushAt o x j s i = Able o x j i s × Barred o x j (suc s) × ((a : ℕ) → i < a → ¬ Able o x j a s)
+
+-- what a search for them answers
+abbrev pub Found : Flow → Fill → ℕ → Option Push → Type 0
+Found o x j (Some p) = PushAt o x j p.stretch p.job
+Found o x j None = Barred o x j 0
 
 -- how it ends
 abbrev pub Answer : Flow → ℕ → (ℕ → ℕ → ℕ) → Bool → Type 0

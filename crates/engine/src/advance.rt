@@ -1,40 +1,30 @@
 // A job displaces others by the most that it can, until nothing of it is left or it rises. Each function serves this crate
 // alone and has a `requires`.
-ghost use Rattle.std.specs.Prelude.{ℕ, ◌+◌, ◌^◌, ◌<◌, ◌≤◌, length, get_or, set, [], ◌≡◌};
-ghost use Rattle.engine.specs.View.{Amount, Shifted, Ready, Advanced, Pushed, flow_of, fill_of};
+ghost use Rattle.std.specs.Prelude.{ℕ, ◌+◌, ◌^◌, ◌<◌, ◌≤◌, length, get_or, ◌≡◌};
+ghost use Rattle.engine.specs.View.{Amount, Shifted, ReadyFor, Advanced, Pushed, flow_in, fill_in};
 ghost use Rattle.engine.specs.Run.{Displaced, DischargeRun};
 ghost use Rattle.amounts.specs.State.{Able};
 
-use super::Move;
-use super::moves::find;
-use super::slices::{least, lower, raise, transfer};
-
-pub fn lesser(a: u32, b: u32) -> u32
-    ensures { (result ≤ a) × (result ≤ b) × ((v : ℕ) → v ≤ a → v ≤ b → v ≤ result) }
-{
-    if a < b { a } else { b }
-}
+use super::instance::{Filling, Instance};
+use super::moves::{Push, find};
+use super::slices::{lower, raise, transfer};
 
 // The most that job j can displace.
 pub fn amount(
     cap: &[u32],
     w: &[u32],
-    slack: &[u32],
     left: &[u32],
+    slack: &[u32],
     j: usize,
     up: usize,
     down: usize,
-    from: usize,
-    to: usize,
 ) -> u32
-    requires j_in_bounds { (j < length left.now) × (up < length cap.now) × (up < length w.now) × (down < length w.now)
-        × (to ≤ length slack.now) }
+    requires j_in_bounds { (j < length left.now) × (up < length cap.now) × (up < length w.now) × (down < length w.now) }
     requires up_bound { get_or w.now up 0 ≤ get_or cap.now up 0 }
-    ensures { Amount cap.now w.now slack.now left.now j up down from to result }
+    ensures { Amount cap.now w.now left.now slack.now j up down result }
 {
-    let a = lesser(left[j], cap[up] - w[up]);
-    let b = lesser(a, w[down]);
-    least(slack, from, to, b)
+    let most = left[j].min(cap[up] - w[up]).min(w[down]);
+    slack.iter().fold(most, |d, spare| d.min(*spare))
 }
 
 // The slacks after d of class e gave way to class c.
@@ -45,90 +35,58 @@ pub fn reslack(xs: &mut [u32], base: usize, c: usize, e: usize, d: u32)
     ensures { Shifted xs.old xs.new base c e d }
 {
     if c < e {
-        lower(xs, base + c, base + e, d);
+        lower(&mut xs[base + c..base + e], d);
     } else {
-        raise(xs, base + e, base + c, d);
+        raise(&mut xs[base + e..base + c], d);
     }
 }
 
 // Job j displaces job i in stretch s by the most that it can.
-pub fn push(
-    time: &[u32],
-    class: &[usize],
-    cap: &[u32],
-    room: &[u32],
-    w: &mut [u32],
-    slack: &mut [u32],
-    left: &mut [u32],
-    height: &[usize],
-    n: usize,
-    q: usize,
-    m: usize,
-    j: usize,
-    s: usize,
-    i: usize,
-)
-    requires ready { Ready n q m time.now class.now cap.now room.now w.old slack.old left.old height.now }
-    requires nonzero { 0 < get_or left.old j 0 }
-    requires able { Able (flow_of n q m [] class.now cap.now []) (fill_of q m w.old slack.old [] height.now) j i s }
-    ensures pushed { Pushed (flow_of n q m time.now class.now cap.now room.now) m
-        (fill_of q m w.old slack.old left.old height.now)
-        (fill_of q m w.new slack.new left.new height.now) j s }
-    ensures displaced { Displaced (flow_of n q m time.now class.now cap.now room.now) m
-        (fill_of q m w.old slack.old left.old height.now)
-        (fill_of q m w.new slack.new left.new height.now) j i s }
+pub fn push(given: &Instance, filling: &mut Filling, j: usize, s: usize, i: usize)
+    requires ready { ReadyFor given.now filling.old }
+    requires nonzero { 0 < get_or filling.old.left.now j 0 }
+    requires able { Able (flow_in given.now) (fill_in given.now filling.old) j i s }
+    ensures same_reference { filling.new.w.ghost_name ≡ filling.old.w.ghost_name }
+    ensures ready_after { ReadyFor given.now filling.new }
+    ensures pushed { Pushed (flow_in given.now) given.now.m
+        (fill_in given.now filling.old) (fill_in given.now filling.new) j s }
+    ensures displaced { Displaced (flow_in given.now) given.now.m
+        (fill_in given.now filling.old) (fill_in given.now filling.new) j i s }
 {
-    let c = class[j];
-    let e = class[i];
-    let up = j * q + s;
-    let down = i * q + s;
-    let base = s * m;
-    let d = amount(cap, w, slack, left, j, up, down, base + c, base + e);
+    let c = given.class[j];
+    let e = given.class[i];
+    let up = j * given.q + s;
+    let down = i * given.q + s;
+    let base = s * given.m;
+    let w = &mut *filling.w;
+    let slack = &mut *filling.slack;
+    let left = &mut *filling.left;
+    let between = &slack[base + c.min(e)..base + e];
+    let d = amount(given.cap, w, left, between, j, up, down);
     transfer(w, up, down, d);
     transfer(left, i, j, d);
     reslack(slack, base, c, e, d);
 }
 
-// Job j rises by one.
-pub fn rise(height: &mut [usize], j: usize)
-    requires { (j < length height.old) × (get_or height.old j 0 + 1 < 2 ^ 64) }
-    ensures { height.new ≡ set height.old j (get_or height.old j 0 + 1) }
+// Job j displaces until nothing of it is left, or it rises by one.
+pub fn discharge(given: &Instance, filling: &mut Filling, j: usize)
+    requires ready { ReadyFor given.now filling.old }
+    requires j_lt_n { (j < given.now.n) × (0 < get_or filling.old.left.now j 0)
+        × (get_or filling.old.height.now j 0 ≤ given.now.n) }
+    ensures same_reference { filling.new.w.ghost_name ≡ filling.old.w.ghost_name }
+    ensures ready_after { ReadyFor given.now filling.new }
+    ensures advanced { Advanced (flow_in given.now) given.now.m
+        (fill_in given.now filling.old) (fill_in given.now filling.new) }
+    ensures discharge_run { DischargeRun (flow_in given.now) given.now.m j
+        (fill_in given.now filling.old) (fill_in given.now filling.new) }
 {
-    height[j] = height[j] + 1;
-}
-
-// Job j displaces until nothing of it is left, or it rises.
-pub fn discharge(
-    time: &[u32],
-    class: &[usize],
-    cap: &[u32],
-    room: &[u32],
-    w: &mut [u32],
-    slack: &mut [u32],
-    left: &mut [u32],
-    height: &mut [usize],
-    n: usize,
-    q: usize,
-    m: usize,
-    j: usize,
-)
-    requires ready { Ready n q m time.now class.now cap.now room.now w.old slack.old left.old height.old }
-    requires j_lt_n { (j < n) × (0 < get_or left.old j 0) × (get_or height.old j 0 ≤ n) }
-    ensures advanced { Advanced (flow_of n q m time.now class.now cap.now room.now) m
-        (fill_of q m w.old slack.old left.old height.old)
-        (fill_of q m w.new slack.new left.new height.new) }
-    ensures discharge_run { DischargeRun (flow_of n q m time.now class.now cap.now room.now) m j
-        (fill_of q m w.old slack.old left.old height.old)
-        (fill_of q m w.new slack.new left.new height.new) }
-{
-    let mut u = q;
-    while 0 < left[j] {
-        let Move::Push(s, i) = find(class, cap, w, slack, height, n, q, m, j, u) else {
-            return rise(height, j);
+    let mut u = given.q;
+    while 0 < filling.left[j] {
+        let Some(Push { stretch, job }) = find(given, filling, j, u) else {
+            filling.height[j] += 1;
+            return;
         };
-        push(
-            time, class, cap, room, w, slack, left, height, n, q, m, j, s, i,
-        );
-        u = s + 1;
+        push(given, filling, j, stretch, job);
+        u = stretch + 1;
     }
 }

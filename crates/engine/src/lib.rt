@@ -4,12 +4,6 @@
 
 mod advance; // a job displaces others until nothing of it is left, or it rises
 pub mod filling; // solve
-mod moves; // which job goes on, and its step
+mod instance; // what amounts are asked for, and a filling under way
+mod moves; // which job goes on, and whom it displaces
 mod slices; // small work on lent slices
-
-// A step of a job: to displace in a stretch a job, or to rise.
-#[derive(Clone, Copy)]
-pub enum Move {
-    Push(usize, usize),
-    Rise,
-}

@@ -1,107 +1,70 @@
-// Which job goes on, and the step that it can take. Each function serves this crate alone and has a `requires`.
-ghost use Rattle.std.specs.Prelude.{ℕ, suc, ◌*◌, ◌<◌, ◌≤◌, length, get_or, []};
-ghost use Rattle.engine.specs.View.{Picked, Aim, Found, Stands, row, flow_of, fill_of};
+// Which job goes on, and whom it can displace. Each function serves this crate alone and has a `requires`.
+ghost use Rattle.std.specs.Prelude.{ℕ, suc, ◌*◌, ◌<◌, ◌≤◌, length, get_or};
+ghost use Rattle.engine.specs.View.{PickedFirst, Aim, Found, Stands, row, flow_in, fill_in};
 ghost use Rattle.amounts.specs.State.{Barred};
 
-use super::Move;
-use super::slices::first_zero;
+use super::instance::{Filling, Instance};
+use super::slices::before_zero;
 
-// The first job with something left, or n.
-pub fn pick(left: &[u32], n: usize) -> usize
-    requires { n < length left.now }
-    ensures { Picked (row left.now) n result }
+// Whom a job displaces: a job in a stretch.
+#[derive(Clone, Copy)]
+pub struct Push {
+    pub stretch: usize,
+    pub job: usize,
+}
+
+// The first job with something left.
+pub fn pick(given: &Instance, filling: &Filling) -> Option<usize>
+    requires { given.now.n < length filling.now.left.now }
+    ensures { PickedFirst (row filling.now.left.now) given.now.n result }
 {
-    let mut a: usize = 0;
-    while a < n {
-        if 0 < left[a] {
-            return a;
-        }
-        a += 1;
-    }
-    n
+    filling.left[..given.n].iter().position(|rest| 0 < *rest)
 }
 
 // Whether one of the jobs stands at the height g.
-pub fn stands(height: &[usize], n: usize, g: usize) -> bool
-    requires { n ≤ length height.now }
-    ensures { Stands (row height.now) n g result }
+pub fn stands(given: &Instance, filling: &Filling, g: usize) -> bool
+    requires { given.now.n ≤ length filling.now.height.now }
+    ensures { Stands (row filling.now.height.now) given.now.n g result }
 {
-    let mut a: usize = 0;
-    while a < n {
-        if height[a] == g {
-            return true;
-        }
-        a += 1;
-    }
-    false
+    filling.height[..given.n].contains(&g)
 }
 
-// The last job that one of height h can displace in stretch s, up to the class tight; n + 1 where there is none.
-pub fn aim(
-    class: &[usize],
-    w: &[u32],
-    height: &[usize],
-    n: usize,
-    q: usize,
-    s: usize,
-    tight: usize,
-    h: usize,
-) -> usize
-    requires { (n < length class.now) × (n < length height.now) × (s < q) × (suc n * q ≤ length w.now) }
-    ensures { Aim class.now w.now height.now n q s tight h result }
+// The last job that one of height h can displace in stretch s, up to the class tight.
+pub fn aim(given: &Instance, filling: &Filling, s: usize, tight: usize, h: usize) -> Option<usize>
+    requires { (given.now.n < length given.now.class.now) × (given.now.n < length filling.now.height.now)
+        × (s < given.now.q) × (suc given.now.n * given.now.q ≤ length filling.now.w.now) }
+    ensures { Aim given.now.class.now filling.now.w.now filling.now.height.now given.now.n given.now.q s tight h result }
 {
-    if h == 0 {
-        return n + 1;
+    let below = h.checked_sub(1)?;
+    for i in (0..=given.n).rev() {
+        if filling.height[i] == below && given.class[i] <= tight && 0 < filling.w[i * given.q + s] {
+            return Some(i);
+        }
     }
-    let below = h - 1;
-    let mut i = n + 1;
-    while 0 < i {
-        i -= 1;
-        if height[i] == below {
-            if class[i] <= tight {
-                if 0 < w[i * q + s] {
-                    return i;
-                }
+    None
+}
+
+// Whom job j displaces in the stretches below u, where it displaces nobody from u on; from the last to the first.
+pub fn find(given: &Instance, filling: &Filling, j: usize, u: usize) -> Option<Push>
+    requires j_lt_n { (j < given.now.n) × (u ≤ given.now.q)
+        × (given.now.n < length given.now.class.now) × (given.now.n < length filling.now.height.now) }
+    requires q_in_bounds { (given.now.n * given.now.q ≤ length given.now.cap.now)
+        × (suc given.now.n * given.now.q ≤ length filling.now.w.now) × (given.now.q * given.now.m ≤ length filling.now.slack.now) }
+    requires by_index { (a : ℕ) → a ≤ given.now.n → get_or given.now.class.now a 0 ≤ given.now.m }
+    requires barred { Barred (flow_in given.now) (fill_in given.now filling.now) j u }
+    ensures { Found (flow_in given.now) (fill_in given.now filling.now) j result }
+{
+    let c = given.class[j];
+    let h = filling.height[j];
+    for s in (0..u).rev() {
+        let at = j * given.q + s;
+        if filling.w[at] < given.cap[at] {
+            let base = s * given.m;
+            let tight = c + before_zero(&filling.slack[base + c..base + given.m]);
+            if let Some(i) = aim(given, filling, s, tight, h) {
+                return Some(Push { stretch: s, job: i });
             }
         }
     }
-    n + 1
-}
-
-// A step of job j in the stretches below u, where none is from u on; from the last to the first.
-pub fn find(
-    class: &[usize],
-    cap: &[u32],
-    w: &[u32],
-    slack: &[u32],
-    height: &[usize],
-    n: usize,
-    q: usize,
-    m: usize,
-    j: usize,
-    u: usize,
-) -> Move
-    requires j_lt_n { (j < n) × (u ≤ q) × (n < length class.now) × (n < length height.now) }
-    requires q_in_bounds { (n * q ≤ length cap.now) × (suc n * q ≤ length w.now) × (q * m ≤ length slack.now) }
-    requires by_index { (a : ℕ) → a ≤ n → get_or class.now a 0 ≤ m }
-    requires barred { Barred (flow_of n q m [] class.now cap.now []) (fill_of q m w.now slack.now [] height.now) j u }
-    ensures { Found (flow_of n q m [] class.now cap.now [])
-        (fill_of q m w.now slack.now [] height.now) j result }
-{
-    let c = class[j];
-    let h = height[j];
-    let mut s = u;
-    while 0 < s {
-        s -= 1;
-        let at = j * q + s;
-        if w[at] < cap[at] {
-            let base = s * m;
-            let t = first_zero(slack, base + c, base + m);
-            let i = aim(class, w, height, n, q, s, t - base, h);
-            if i <= n {
-                return Move::Push(s, i);
-            }
-        }
-    }
-    Move::Rise
+    None
 }

@@ -1,12 +1,14 @@
+use mathlib.Core.Path.{◌≡◌}
 use Prim.Native.Nat.{◌^◌}
 use Rattle.amounts.specs.State.{measure}
-use Rattle.engine.specs.View.{fill_of}
+use Rattle.engine.specs.View.{fill_in}
 use Rattle.engine.proofs.Steps.{Going}
 use Rattle.engine.proofs.advance.discharge.Given as goal
 
-abbrev pub invariant-loop-left : goal.invariant-loop-left
-invariant-loop-left l =
-    Going l.n l.q l.m l.time l.class l.cap l.room l.initial.w l.initial.slack l.initial.left l.initial.height l.w l.slack l.left l.height l.j l.u
+abbrev pub invariant-loop-filling : goal.invariant-loop-filling
+invariant-loop-filling l =
+    Going l.given.n l.given.q l.given.m l.given.time.now l.given.class.now l.given.cap.now l.given.room.now l.initial.filling.w.now l.initial.filling.slack.now l.initial.filling.left.now l.initial.filling.height.now l.filling.w.now l.filling.slack.now l.filling.left.now l.filling.height.now l.j l.u
+    × (l.filling.w.ghost_name ≡ l.initial.filling.w.ghost_name)
 
-abbrev pub decreases-loop-left : goal.decreases-loop-left
-decreases-loop-left l = measure (2 ^ 32) l.n (fill_of l.q l.m l.w l.slack l.left l.height)
+abbrev pub decreases-loop-filling : goal.decreases-loop-filling
+decreases-loop-filling l = measure (2 ^ 32) l.given.n (fill_in l.given l.filling)

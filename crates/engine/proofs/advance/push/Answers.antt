@@ -1,83 +1,61 @@
-use Prim.Native.Nat.{◌+◌, ◌*◌}
-use Rattle.engine.proofs.Steps.{places, left-fits, raise-fits, pushed, displaced}
+use borrow.Author.Rules.{rules}
 use native.Mathlib.Omega.{arith}
+use mathlib.Core.Path.{refl}
+use Rattle.engine.proofs.Steps.{places, left-fits, raise-fits, lower-fits, ready-next, pushed, displaced}
 use Rattle.engine.proofs.advance.push.Goals as goal
 
-pub overflow_mul-up : goal.overflow_mul-up
-overflow_mul-up c =
-    let p = places _ _ _ _ _ _ _ _ _ _ _ c.requires.ready _ _ _ c.requires.able in
-    omega (arith, p.up-w)
-
-pub overflow_add-up : goal.overflow_add-up
-overflow_add-up c =
-    let p = places _ _ _ _ _ _ _ _ _ _ _ c.requires.ready _ _ _ c.requires.able in
-    omega (arith, p.up-w)
-
-pub overflow_mul-down : goal.overflow_mul-down
-overflow_mul-down c =
-    let p = places _ _ _ _ _ _ _ _ _ _ _ c.requires.ready _ _ _ c.requires.able in
-    omega (arith, p.down-w)
-
-pub overflow_add-down : goal.overflow_add-down
-overflow_add-down c =
-    let p = places _ _ _ _ _ _ _ _ _ _ _ c.requires.ready _ _ _ c.requires.able in
-    omega (arith, p.down-w)
-
-pub overflow_mul-base : goal.overflow_mul-base
-overflow_mul-base c =
-    let p = places _ _ _ _ _ _ _ _ _ _ _ c.requires.ready _ _ _ c.requires.able in
-    omega (arith, p.from-slack)
-
-pub overflow_add-base : goal.overflow_add-base
-overflow_add-base c =
-    let p = places _ _ _ _ _ _ _ _ _ _ _ c.requires.ready _ _ _ c.requires.able in
-    omega (arith, p.from-slack)
-
-pub overflow_add-base-2 : goal.overflow_add-base-2
-overflow_add-base-2 c =
+pub overflow_add-between-2 : goal.overflow_add-between-2
+overflow_add-between-2 c =
     let p = places _ _ _ _ _ _ _ _ _ _ _ c.requires.ready _ _ _ c.requires.able in
     omega (arith, p.to-slack)
 
-pub amount-d-requires : goal.amount-d-requires
-amount-d-requires c = let p = places _ _ _ _ _ _ _ _ _ _ _ c.requires.ready _ _ _ c.requires.able in record {
-  j_in_bounds = (p.j-left, p.up-cap, p.up-w, p.down-w, p.to-slack);
-  up_bound = p.under;
-}
-
-pub transfer-requires : goal.transfer-requires
-transfer-requires c =
+pub offset_bounds-slack-base : goal.offset_bounds-slack-base
+offset_bounds-slack-base c =
     let p = places _ _ _ _ _ _ _ _ _ _ _ c.requires.ready _ _ _ c.requires.able in
-    let D = c.amount-d.ensures in
-    let small = c.type_inv.cap (c.args.j * c.args.q + c.args.s) in record {
-      up_in_bounds = (p.up-w, p.down-w, p.apart);
-      d_bound = (omega (arith, D.cap-fits, small), D.w_fits);
-    }
+    omega (arith, p.to-slack, c.min.ensures)
 
-pub transfer-requires-2 : goal.transfer-requires-2
-transfer-requires-2 c =
+pub slice_bounds-between-end : goal.slice_bounds-between-end
+slice_bounds-between-end c =
     let p = places _ _ _ _ _ _ _ _ _ _ _ c.requires.ready _ _ _ c.requires.able in
-    let D = c.amount-d.ensures in
-    let fits = left-fits _ _ _ _ _ _ _ _ _ _ _ c.requires.ready _ _ _ c.requires.able _ D (λ k. omega (arith, c.type_inv.time k)) in record {
-      up_in_bounds = (p.i-left, p.j-left, p.differ);
-      d_bound = (fits, D.left-fits);
-    }
+    search (rules, p.to-slack)
 
-pub reslack-requires : goal.reslack-requires
-reslack-requires c =
+pub transfer-requires-clause-up_in_bounds : goal.transfer-requires-clause-up_in_bounds
+transfer-requires-clause-up_in_bounds c =
     let p = places _ _ _ _ _ _ _ _ _ _ _ c.requires.ready _ _ _ c.requires.able in
-    let D = c.amount-d.ensures in
-    let fits = raise-fits _ _ _ _ _ _ _ _ _ _ _ c.requires.ready _ _ _ c.requires.able _ D (λ k. omega (arith, c.type_inv.room k)) in record {
-      c_in_bounds = (p.from-slack, p.to-slack);
-      by_index = D.slack-fits;
-      by_index_2 = fits;
-    }
+    (p.up-w, p.down-w, p.apart)
 
-pub returns : goal.returns
-returns c =
+pub transfer-requires-2-clause-d_bound : goal.transfer-requires-2-clause-d_bound
+transfer-requires-2-clause-d_bound c =
     let D = c.amount-d.ensures in
-    let W = c.transfer.ensures in
-    let L = c.transfer-2.ensures in
-    let S = c.reslack.ensures in record {
-      pushed = pushed _ _ _ _ _ _ _ _ _ _ _ c.requires.ready _ _ _ c.requires.able _ D _ _ _ W L S c.requires.nonzero;
-      displaced = displaced _ _ _ _ _ _ _ _ _ _ _ c.requires.ready _ _ _ c.requires.able _ D _ _ _ W L S;
-    }
+    (left-fits _ _ _ _ _ _ _ _ _ _ _ c.requires.ready _ _ _ c.requires.able _ _ c.min.ensures D, D.left-fits)
+
+pub reslack-requires-clause-c_in_bounds : goal.reslack-requires-clause-c_in_bounds
+reslack-requires-clause-c_in_bounds c =
+    let p = places _ _ _ _ _ _ _ _ _ _ _ c.requires.ready _ _ _ c.requires.able in
+    (p.from-slack, p.to-slack)
+
+pub reslack-requires-clause-by_index : goal.reslack-requires-clause-by_index
+reslack-requires-clause-by_index c =
+    lower-fits _ _ _ _ _ _ _ _ _ _ _ c.requires.ready _ _ _ c.requires.able _ _ c.min.ensures c.amount-d.ensures
+
+pub reslack-requires-clause-by_index_2 : goal.reslack-requires-clause-by_index_2
+reslack-requires-clause-by_index_2 c =
+    raise-fits _ _ _ _ _ _ _ _ _ _ _ c.requires.ready _ _ _ c.requires.able _ _ c.min.ensures c.amount-d.ensures
+
+pub returns-clause-ready_after : goal.returns-clause-ready_after
+returns-clause-ready_after c =
+    let P =
+    pushed _ _ _ _ _ _ _ _ _ _ _ c.requires.ready _ _ _ c.requires.able _ _ c.min.ensures c.amount-d.ensures _ _ _
+    c.transfer.ensures c.transfer-2.ensures c.reslack.ensures c.requires.nonzero in
+    ready-next _ _ _ _ _ _ _ _ _ _ _ _ _ _ _ c.requires.ready c.transfer.auto.xs c.reslack.auto.xs c.transfer-2.auto.xs refl
+    P.advanced.state
+
+pub returns-clause-pushed : goal.returns-clause-pushed
+returns-clause-pushed c =
+    pushed _ _ _ _ _ _ _ _ _ _ _ c.requires.ready _ _ _ c.requires.able _ _ c.min.ensures c.amount-d.ensures _ _ _ c.transfer.ensures
+    c.transfer-2.ensures c.reslack.ensures c.requires.nonzero
+
+pub returns-clause-displaced : goal.returns-clause-displaced
+returns-clause-displaced c =
+    displaced _ _ _ _ _ _ _ _ _ _ _ c.requires.ready _ _ _ c.requires.able _ _ c.min.ensures c.amount-d.ensures _ _ _ c.transfer.ensures
+    c.transfer-2.ensures c.reslack.ensures

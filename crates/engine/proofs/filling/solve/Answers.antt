@@ -1,23 +1,22 @@
-use mathlib.Core.Path.{◌∙◌}
-use lib.ListN.{length-set}
+use borrow.Author.Rules.{rules}
+use native.Mathlib.Omega.{arith}
+use Rattle.engine.proofs.Laws.{filled-front, copied-front}
 use Rattle.engine.proofs.Steps.{begin, solved}
 use Rattle.engine.proofs.filling.solve.Goals as goal
 
-pub fill-requires : goal.fill-requires
-fill-requires c =
-    begin _ _ _ _ _ _ _ _ _ _ _ _ _ _ _ _ c.requires.sizes c.requires.given c.put_all.ensures c.idle_row.ensures c.copy.ensures
-    c.copy-2.ensures c.level.ensures c.copy-2.auto.xs c.put_all.auto.xs c.idle_row.auto.w
-    c.copy.auto.xs c.level.auto.height
+pub fill-requires-3 : goal.fill-requires-3
+fill-requires-3 c =
+    begin _ _ _ _ _ _ _ _ _ _ _ _ _ _ _ _ c.requires.sizes c.requires.given (filled-front _ _ c.fill.new.self _ (search rules)) c.idle_row.ensures
+    (copied-front _ c.args.room.now c.copy_from_slice.new.self _ (search rules) (search rules))
+    (copied-front _ c.args.time.now c.copy_from_slice-2.new.self _ (search rules) (search rules))
+    (filled-front _ _ c.fill-2.new.self _ (search rules)) (search rules) (search rules) (search rules) c.idle_row.auto.w (search rules)
+    (λ k. omega (arith, c.type_inv.time k)) (λ k. omega (arith, c.type_inv.cap k)) (λ k. omega (arith, c.type_inv.room k))
 
-pub shape_of-left : goal.shape_of-left
-shape_of-left c =
-    (simp length-set at c.fill.auto.left) ∙ c.copy-2.auto.xs
-
-pub returns : goal.returns
-returns c =
+pub returns-clause-run_of : goal.returns-clause-run_of
+returns-clause-run_of c =
     let run =
-    solved _ _ _ _ _ _ _ _ _ _ _ _ _ _ _ _ c.requires.sizes c.requires.given c.put_all.ensures c.idle_row.ensures c.copy.ensures
-    c.copy-2.ensures c.level.ensures c.copy-2.auto.xs _ _ c.fill.ensures.fill_run in record {
-      answer = c.fill.ensures.answer;
-      run_of = run;
-    }
+    solved _ _ _ _ _ _ _ _ _ _ _ _ _ _ _ _ c.requires.sizes c.requires.given (filled-front _ _ c.fill.new.self _ (search rules)) c.idle_row.ensures
+    (copied-front _ c.args.room.now c.copy_from_slice.new.self _ (search rules) (search rules))
+    (copied-front _ c.args.time.now c.copy_from_slice-2.new.self _ (search rules) (search rules))
+    (filled-front _ _ c.fill-2.new.self _ (search rules)) (search rules) (search rules) _ _ c.fill-3.ensures.fill_run in
+    search (rules, run)

@@ -1,11 +1,6 @@
-use mathlib.Core.List.{[]}
-use Prim.Native.Nat.{◌≤◌}
 use Rattle.amounts.specs.State.{Barred}
-use Rattle.engine.specs.View.{flow_of, fill_of}
+use Rattle.engine.specs.View.{flow_in, fill_in}
 use Rattle.engine.proofs.moves.find.Given as goal
 
 abbrev pub invariant-loop-s : goal.invariant-loop-s
-invariant-loop-s l = (l.s ≤ l.u) × Barred (flow_of l.n l.q l.m [] l.class l.cap []) (fill_of l.q l.m l.w l.slack [] l.height) l.j l.s
-
-abbrev pub decreases-loop-s : goal.decreases-loop-s
-decreases-loop-s l = l.s
+invariant-loop-s l = Barred (flow_in l.given) (fill_in l.given l.filling) l.j l.s

@@ -1,11 +1,7 @@
-use mathlib.Core.Path.{◌≡◌}
-use Prim.Native.Nat.{◌≤◌, ◌-◌}
-use lib.ListN.{length}
-use Rattle.engine.specs.View.{Raised}
+use Rattle.std.proofs.Common.{ℕ, ◌+◌, ◌<◌, ◌≤◌, get_or, ◌≡◌}
 use Rattle.engine.proofs.slices.raise.Given as goal
 
-abbrev pub invariant-loop-k : goal.invariant-loop-k
-invariant-loop-k l = (l.from ≤ l.k) × (l.k ≤ l.to) × (length l.xs ≡ length l.initial.xs) × Raised l.initial.xs l.xs l.from l.k l.d
-
-abbrev pub decreases-loop-k : goal.decreases-loop-k
-decreases-loop-k l = l.to - l.k
+abbrev pub invariant-loop-x : goal.invariant-loop-x
+invariant-loop-x l =
+    ((k : ℕ) → k < l.x-index → get_or l.xs k 0 ≡ get_or l.initial.xs k 0 + l.d)
+    × ((k : ℕ) → l.x-index ≤ k → get_or l.xs k 0 ≡ get_or l.initial.xs k 0)
