@@ -18,23 +18,7 @@ pub fn leads_of(dues: [i32; 16], k: usize) -> [u32; 16]
     requires { (k ≤ 16) × DuesInRange k dues }
     ensures { RowOf (λ i. lead last_due (get_or dues i (pos 0))) k result }
 {
-    let mut r = [0u32; 16];
-    let mut i: usize = 0;
-    while i < k {
-        r[i] = lead_of(dues[i]);
-        i += 1;
-    }
-    r
-}
-
-// What a job of one class owes for another: nothing unless they are the same.
-fn owed_in(of: u32, class: u32, minutes: u32) -> u32
-    ensures { result ≡ only (eqb of class) minutes }
-{
-    if of == class {
-        return minutes;
-    }
-    0
+    std::array::from_fn(|i| if i < k { lead_of(dues[i]) } else { 0 })
 }
 
 // What the jobs of a class owe by the time of the lead g.
@@ -42,14 +26,13 @@ fn class_owes(t: Table, class: u32, g: u32) -> u32
     requires { Fine t }
     ensures { (result ≡ owes_by t class g) × (result ≤ 4800000) }
 {
-    let n = t.n;
-    let mut r: u32 = 0;
-    let mut j: usize = 0;
-    while j < n {
-        r += owed_in(t.classes[j], class, owed(t.times[j], t.leads[j], g));
-        j += 1;
+    let mut owes: u32 = 0;
+    for j in 0..t.n {
+        if t.classes[j] == class {
+            owes += owed(t.times[j], t.leads[j], g);
+        }
     }
-    r
+    owes
 }
 
 // The two sums of the first k classes at a reach, by the leads of their due times.
@@ -60,12 +43,9 @@ pub fn sums_of(t: Table, reach: u32, leads: [u32; 16], k: usize) -> Sums
 {
     let mut owed: u32 = 0;
     let mut on_hand: u32 = 0;
-    let mut i: usize = 0;
-    while i < k {
-        let g = leads[i];
-        on_hand += t.procs[i] * (reach - g);
-        i += 1;
-        owed += class_owes(t, i as u32, g);
+    for i in 0..k {
+        on_hand += t.procs[i] * (reach - leads[i]);
+        owed += class_owes(t, i as u32 + 1, leads[i]);
     }
     Sums { owed, on_hand }
 }

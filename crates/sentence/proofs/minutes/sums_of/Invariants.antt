@@ -8,8 +8,6 @@ use Rattle.sentence.proofs.minutes.sums_of.Given as goal
 
 abbrev pub invariant-loop-i : goal.invariant-loop-i
 invariant-loop-i l =
-    (l.i ≤ l.k) × (l.owed ≤ 4800000 * l.i) × (l.on_hand ≤ 16 * most_reach * l.i) × (l.owed ≡ sum l.i (λ i. owes_by l.t (suc i) (get_or l.leads i 0)))
+    (l.owed ≤ 4800000 * l.i) × (l.on_hand ≤ 16 * most_reach * l.i) × (l.owed ≡ sum l.i (λ i. owes_by l.t (suc i) (get_or l.leads i 0)))
     × (l.on_hand ≡ sum l.i (λ i. get_or l.t.procs i 0 * (l.reach - get_or l.leads i 0)))
 
-abbrev pub decreases-loop-i : goal.decreases-loop-i
-decreases-loop-i l = l.k - l.i
