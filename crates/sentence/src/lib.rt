@@ -32,13 +32,6 @@ pub struct Sums {
     pub on_hand: u32,
 }
 
-// A staircase that stands, with its minutes owed and on hand, or one that does not.
-#[derive(Clone, Copy)]
-pub enum Weighed {
-    Stands(u32, u32),
-    Falls,
-}
-
 // What is read of a line: the number under way (its last eight digits, whether it has any, whether a minus sign stands before it), how
 // many numbers are done, the first of them, and each second one.
 #[derive(Clone, Copy)]

@@ -1,25 +1,14 @@
-// Minutes owed and minutes on hand of a staircase. All serve this crate alone; all but `owed_in` have a `requires`.
-ghost use Rattle.std.specs.Prelude.{◌≡◌, ℕ, suc, ◌-◌, ◌*◌, ◌<◌, ◌≤◌, pos, eqb, get_or};
-ghost use Rattle.sums.specs.Sum.{sum};
-ghost use Rattle.sums.specs.Arrays.{RowOf};
-ghost use Rattle.sums.specs.Lists.{only};
-ghost use Rattle.order.specs.Lead.{lead, last_due, most_reach};
+// Minutes owed and minutes on hand of a staircase. Both serve this crate alone and have a `requires`.
+ghost use Rattle.std.specs.Prelude.{◌≡◌, ◌≤◌, length};
+ghost use Rattle.order.specs.Lead.{most_reach};
 ghost use Rattle.table.specs.Tabled.{Fine};
 ghost use Rattle.reason.specs.Asked.{owes_by};
-ghost use Rattle.sentence.specs.Inside.{DuesInRange};
+ghost use Rattle.sentence.specs.Inside.{StepsReached, owed_to, hand_to};
 
 use super::Sums;
 use reason::weight::owed;
 use table::Table;
 use table::lead::lead_of;
-
-// The lead of each of k due times.
-pub fn leads_of(dues: [i32; 16], k: usize) -> [u32; 16]
-    requires { (k ≤ 16) × DuesInRange k dues }
-    ensures { RowOf (λ i. lead last_due (get_or dues i (pos 0))) k result }
-{
-    std::array::from_fn(|i| if i < k { lead_of(dues[i]) } else { 0 })
-}
 
 // What the jobs of a class owe by the time of the lead g.
 fn class_owes(t: Table, class: u32, g: u32) -> u32
@@ -35,17 +24,17 @@ fn class_owes(t: Table, class: u32, g: u32) -> u32
     owes
 }
 
-// The two sums of the first k classes at a reach, by the leads of their due times.
-pub fn sums_of(t: Table, reach: u32, leads: [u32; 16], k: usize) -> Sums
-    requires { Fine t × (reach ≤ most_reach) × (k ≤ 16) × ((i : ℕ) → i < k → get_or leads i 0 ≤ reach) }
-    ensures { (result.owed ≡ sum k (λ i. owes_by t (suc i) (get_or leads i 0)))
-        × (result.on_hand ≡ sum k (λ i. get_or t.procs i 0 * (reach - get_or leads i 0))) × (result.owed ≤ 76800000) }
+// The two sums of due times that are reached, one for each class from the first on.
+pub fn sums_of(t: Table, reach: u32, dues: &[i32]) -> Sums
+    requires { Fine t × (reach ≤ most_reach) × (length dues.now ≤ 16) × StepsReached reach dues.now }
+    ensures { (result.owed ≡ owed_to t dues.now) × (result.on_hand ≡ hand_to t reach dues.now) × (result.owed ≤ 76800000) }
 {
     let mut owed: u32 = 0;
     let mut on_hand: u32 = 0;
-    for i in 0..k {
-        on_hand += t.procs[i] * (reach - leads[i]);
-        owed += class_owes(t, i as u32 + 1, leads[i]);
+    for (i, due) in dues.iter().enumerate() {
+        let lead = lead_of(*due);
+        owed += class_owes(t, i as u32 + 1, lead);
+        on_hand += t.procs[i] * (reach - lead);
     }
     Sums { owed, on_hand }
 }
