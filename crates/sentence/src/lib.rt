@@ -32,12 +32,11 @@ pub struct Sums {
     pub on_hand: u32,
 }
 
-// What is read of a line: the number under way (its last eight digits, whether it has any, whether a minus sign stands before it), how
-// many numbers are done, the first of them, and each second one.
+// What is read of a line: the number under way, its last eight digits, whether a minus sign stands before it, how many numbers are done,
+// the first of them, and each second one.
 #[derive(Clone, Copy)]
 pub struct Numbers {
-    pub value: u32,
-    pub digits: bool,
+    pub number: Option<u32>,
     pub minus: bool,
     pub done: u32,
     pub first: u32,
