@@ -91,10 +91,7 @@ fn job_line(order: Order, bound: i32, job: u32, time: u32, out: &mut [u8]) -> us
     requires { Accepted (order_of order) × (bound_in_range bound ≡ true) × (86 ≤ length out.old) }
     ensures { Put out.old 0 (job_composed (order_of order) bound job time) out.new result × (result ≤ 86) }
 {
-    if job == 0 {
-        return 0;
-    }
-    if order.jobs < job {
+    if job == 0 || order.jobs < job {
         return 0;
     }
     let i = (job - 1) as usize;

@@ -26,14 +26,10 @@ fn time_of(order: Order, job: u32) -> u32
     requires { Accepted (order_of order) }
     ensures { result ≡ (job_of (order_of order) job).time }
 {
-    if job == 0 {
-        return 0;
+    match job.checked_sub(1) {
+        Some(i) if i < order.jobs => order.times[i as usize],
+        _ => 0,
     }
-    if order.jobs < job {
-        return 0;
-    }
-    let i = (job - 1) as usize;
-    order.times[i]
 }
 
 // Whether a line begins with j, as that of a job does.

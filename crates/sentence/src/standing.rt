@@ -1,4 +1,4 @@
-// Whether a staircase that is handed in stands. All serve this crate alone and have a `requires`.
+// Whether a staircase that is handed in stands. All serve this crate alone; `steps_fit` and `weigh` have a `requires`.
 ghost use Rattle.std.specs.Prelude.{◌≡◌, true, ◌↔◌, ◌≤◌, length};
 ghost use Rattle.std.specs.List.{list_all};
 ghost use Rattle.order.specs.Lead.{last_due};
