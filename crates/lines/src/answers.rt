@@ -1,5 +1,5 @@
 // The lines of a refusal and of an answer at a bound. All serve this crate and those above, and have a `requires`.
-ghost use Rattle.std.specs.Prelude.{◌≡◌, true, ◌++◌, ◌+◌, ◌≤◌, min, length, take};
+ghost use Rattle.std.specs.Prelude.{◌≡◌, true, ◌++◌, ◌+◌, ◌≤◌, length, take};
 ghost use Rattle.order.specs.Refusals.{Accepted, bound_in_range};
 ghost use Rattle.order.specs.Table.{order_of};
 ghost use Rattle.profile.specs.Reason.{over_end, stairs};
@@ -37,26 +37,15 @@ fn put_job(out: &mut [u8], at: usize, job: u32) -> usize
     put_bytes(out, b, b"\n")
 }
 
-fn lesser(a: usize, b: usize) -> usize
-    ensures { result ≡ min a b }
-{
-    if a < b {
-        return a;
-    }
-    b
-}
-
 // The first due times, as many as are counted.
 fn put_dues(out: &mut [u8], at: usize, dues: [i32; 16], count: u32) -> usize
     requires { at + 192 ≤ length out.old }
     ensures { Put out.old at (signed_numbers (take count dues)) out.new result × (result ≤ at + 192) }
 {
-    let n = lesser(count as usize, 16);
+    let n = (count as usize).min(16);
     let mut next = at;
-    let mut i: usize = 0;
-    while i < n {
-        next = put_signed(out, next, dues[i]);
-        i += 1;
+    for due in &dues[..n] {
+        next = put_signed(out, next, *due);
     }
     next
 }

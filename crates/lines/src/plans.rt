@@ -44,10 +44,8 @@ fn put_rows(out: &mut [u8], at: usize, rows: &[u32], count: usize) -> usize
         × (result ≤ at + 50 * count) }
 {
     let mut next = at;
-    let mut i: usize = 0;
-    while i < count {
+    for i in 0..count {
         next = put_row_at(out, next, rows, i);
-        i += 1;
     }
     next
 }

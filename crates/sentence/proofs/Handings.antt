@@ -2,9 +2,9 @@
 use Rattle.std.specs.Prelude.{Option, None, Some}
 use Prim.Native.Nat.{ℕ, ◌≤◌, ◌<◌}
 use mathlib.Core.Path.{◌≡◌, refl, sym, ap, ◌∙◌}
-use mathlib.Core.Bool.{Bool, true, false, cond, not, ◌&&◌}
+use mathlib.Core.Bool.{Bool, true, false, cond, ◌&&◌}
 use mathlib.Core.List.{List, []}
-use borrow.Author.Tests.{le-leb, lt-leb, not-true, not-false}
+use borrow.Author.Tests.{le-leb, lt-leb}
 use lib.Dec.{eqb}
 use lib.IntN.{ℤ}
 use lib.ListN.{length, take, drop}
@@ -25,7 +25,7 @@ module _ (o : Order) (bound : ℤ) (why : Why) where
 
   module _ (r : Reason) (e : why.reason ≡ Some r) (b : Bool) where
     -- a job
-    module _ (j time : ℕ) (f : r ≡ Job j time) (z : b ≡ all_zero (drop 0 why.dues)) where
+    module _ (j time : ℕ) (f : r ≡ Job j time) (z : b ≡ all_zero why.dues) where
       job-told : handed o why ≡ handed_by o (Some (Job j time)) why.dues
       job-told = ap (λ (t : Option Reason). handed_by o t why.dues) e ∙ ap (λ (s : Reason). handed_by o (Some s) why.dues) f
 
@@ -37,17 +37,17 @@ module _ (o : Order) (bound : ℤ) (why : Why) where
       neither true c e = e
       neither false c e = refl
 
-      pub job-beside : not b ≡ true → composed o bound (handed o why) ≡ []
+      pub job-beside : b ≡ false → composed o bound (handed o why) ≡ []
       job-beside h =
           ap (composed o bound) job-told
           ∙ (ap (λ (c : Bool). composed o bound (cond c (found (over_end j)) nothing))
-          (neither (eqb time (job_of o j).time) (all_zero why.dues) (sym z ∙ not-true b h)) ∙ composed-nothing o bound)
+          (neither (eqb time (job_of o j).time) (all_zero why.dues) (sym z ∙ h)) ∙ composed-nothing o bound)
 
-      pub job-handed : not b ≡ false → job_composed o bound j time ≡ composed o bound (handed o why)
+      pub job-handed : b ≡ true → job_composed o bound j time ≡ composed o bound (handed o why)
       job-handed h =
           sym (ap (composed o bound) job-told
           ∙ ap (λ (c : Bool). composed o bound (cond c (found (over_end j)) nothing))
-          (both (eqb time (job_of o j).time) (all_zero why.dues) (sym z ∙ not-false b h)))
+          (both (eqb time (job_of o j).time) (all_zero why.dues) (sym z ∙ h)))
 
   -- a staircase
   pub stairs-told : (r : Reason) → why.reason ≡ Some r → (k : ℕ) → r ≡ Stairs k →
@@ -69,12 +69,12 @@ module _ (o : Order) (bound : ℤ) (dues : List ℤ) (k : ℕ) where
         ap (λ (c : Bool). cond (c && all_zero (drop k dues)) (found (stairs (take k dues))) nothing) (le-leb k (length dues) few)
         ∙ ap (λ (c : Bool). cond c (found (stairs (take k dues))) nothing) (sym z)
 
-    pub stairs-beside : not b ≡ true → composed o bound (handed_by o (Some (Stairs k)) dues) ≡ []
+    pub stairs-beside : b ≡ false → composed o bound (handed_by o (Some (Stairs k)) dues) ≡ []
     stairs-beside h =
-        ap (composed o bound) (within ∙ ap (λ (c : Bool). cond c (found (stairs (take k dues))) nothing) (not-true b h))
+        ap (composed o bound) (within ∙ ap (λ (c : Bool). cond c (found (stairs (take k dues))) nothing) (h))
         ∙ composed-nothing o bound
 
-    pub stairs-handed : not b ≡ false →
+    pub stairs-handed : b ≡ true →
         composed o bound (found (stairs (take k dues))) ≡ composed o bound (handed_by o (Some (Stairs k)) dues)
     stairs-handed h =
-        sym (ap (composed o bound) (within ∙ ap (λ (c : Bool). cond c (found (stairs (take k dues))) nothing) (not-false b h)))
+        sym (ap (composed o bound) (within ∙ ap (λ (c : Bool). cond c (found (stairs (take k dues))) nothing) (h)))

@@ -8,7 +8,10 @@ use native.Mathlib.Omega.{arith}
 use lib.Dec.{eqb}
 use lib.IntN.{ℤ}
 use lib.ListN.{length}
-use Rattle.sums.specs.Same.{same_list}
+use Rattle.std.specs.Prelude.{nat_eq}
+use Rattle.std.specs.Cmp.Lexicographic.{told_text}
+use lib.Pointwise.{pointwise}
+use mathlib.Core.Bool.{true≢false}
 use Rattle.order.specs.Order.{Order}
 use Rattle.order.specs.Refusals.{Accepted}
 use Rattle.profile.specs.Reason.{Reason, over_end, stairs, Stands}
@@ -18,7 +21,7 @@ use Rattle.reason.specs.declared.Why.{Why}
 use Rattle.sentence.specs.Handed.{handed}
 use Rattle.sentence.specs.HandedLaws.{Fitting, handed-own}
 use Rattle.sentence.specs.Line.{line_of, composed, read_back}
-use Rattle.sentence.specs.LineLaws.{bytes-tell, line-some, composed-line, composed-stands, stands-short, reads-to, reads_none}
+use Rattle.sentence.specs.LineLaws.{line-some, composed-line, composed-stands, stands-short, reads-to, reads_none}
 use Rattle.sentence.specs.ScanLaws.{Short, candidate-found}
 use Rattle.sentence.specs.Scanning.{candidate}
 
@@ -26,19 +29,14 @@ use Rattle.sentence.specs.Scanning.{candidate}
 abbrev pub HasLine : Order → ℤ → Why → List ℕ → Type 0
 HasLine o bound why line = (composed o bound (handed o why) ≡ line) × (1 ≤ length line)
 
--- no line is composed
-pub empty-line : (o : Order) (bound : ℤ) (why : Why) (line : List ℕ) → length (composed o bound (handed o why)) ≡ 0 →
-    (false ≡ true) ↔ HasLine o bound why line
-empty-line o bound why line e =
-    (λ f. let z : ◌≡◌ {A = ℕ} 0 1 = cc in absurd (omega arith), λ h. absurd (omega (arith, ap length h.0, h.1)))
-
 -- the bytes are compared
-pub compared : (o : Order) (bound : ℤ) (why : Why) (line text : List ℕ) (b : Bool) → b ≡ same_list eqb text line →
+pub compared : (o : Order) (bound : ℤ) (why : Why) (line text : List ℕ) (b : Bool) → b ≡ pointwise nat_eq text line →
     text ≡ composed o bound (handed o why) → ¬ (length text ≡ 0) → (b ≡ true) ↔ HasLine o bound why line
-compared o bound why line text b e is some = (
-  λ t. let same = (bytes-tell text line).0 (sym e ∙ t) in (sym is ∙ same, omega (arith, ap length same)),
-  λ h. e ∙ (bytes-tell text line).1 (is ∙ h.0),
-)
+compared o bound why line text true e is some =
+    let same = told_text text line true e in
+    (λ _. (sym is ∙ same, omega (arith, some, ap length same)), λ _. refl)
+compared o bound why line text false e is some =
+    (λ t. absurd (true≢false (sym t)), λ h. absurd (told_text text line false e (is ∙ h.0)))
 
 short-fits : (r : Reason) → Short r → Fitting r
 short-fits (over_end j) h = tt

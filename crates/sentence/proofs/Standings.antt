@@ -4,7 +4,7 @@ use mathlib.Core.Path.{◌≡◌, refl, sym, ap, ◌∙◌, subst}
 use mathlib.Core.List.{List, ◌++◌}
 use native.Mathlib.Omega.{arith}
 use lib.IntN.{ℤ, pos}
-use lib.ListN.{length, get_or, take}
+use lib.ListN.{length, get_or}
 use Rattle.sums.specs.Lists.{nth, tabulate}
 use Rattle.order.specs.Class.{classes}
 use Rattle.order.specs.Lead.{reach_at, last_due}
@@ -24,12 +24,15 @@ use Rattle.table.specs.Passed.{listing}
 use Rattle.table.specs.Tabled.{Tabled}
 use Rattle.table.specs.declared.Listing.{Listing}
 use Rattle.table.specs.declared.Table.{Table}
-use Rattle.sentence.specs.Inside.{owed_to, hand_to, StepsReached, StepsFit, SumsTold, WeighedTold}
+use Rattle.sentence.specs.Inside.{owed_to, hand_to, StepsReached, StepsFit, WeighedTold}
 use Rattle.sentence.specs.Line.{classes_from, sums_text, line_of, composed}
 use Rattle.sentence.specs.LineLaws.{composed-line}
 use Rattle.sentence.specs.WeighLaws.{steps-reached, weighed-told}
-use Rattle.sentence.specs.declared.Weighed.{Weighed}
-use Rattle.sentence.specs.declared.Weighed.TheVariants.{Stands as Overfull, Falls}
+use Rattle.sentence.specs.declared.Sums.{Sums}
+use Rattle.std.specs.Prelude.{ltb}
+use Rattle.std.specs.declared.option.Option.{Option}
+use Rattle.std.specs.declared.option.Option.TheVariants.{Some, None}
+use Rattle.std.specs.Bool.{then_some}
 use Rattle.sentence.proofs.Classes.{classes-told}
 
 module _ (o : Order) (a : Acceptable o) (t : Table) (m : Tabled last_due o t) (bound : ℤ) (reach : ℕ)
@@ -60,38 +63,38 @@ module _ (o : Order) (a : Acceptable o) (t : Table) (m : Tabled last_due o t) (b
       at (suc k) h l z = named (get_or t.by_need k 0) ((beside-once o t m).are k l).0 z
 
   -- due times that fit are reached, and their sums decide
-  module _ (none : ¬ (0 < r)) (dues : List ℤ) (k : ℕ) (few : k ≤ length dues) (most : k ≤ 16) (fit : StepsFit o dues k) where
-    pub reached : StepsReached reach dues k
-    reached = subst (λ (x : ℕ). StepsReached x dues k) (sym e) (steps-reached o a bound (all-in-time none) dues k fit)
+  module _ (none : ¬ (0 < r)) (dues : List ℤ) (most : length dues ≤ 16) (fit : StepsFit o dues) where
+    pub reached : StepsReached reach dues
+    reached = subst (λ (x : ℕ). StepsReached x dues) (sym e) (steps-reached o a bound (all-in-time none) dues fit)
 
-    pub weighed : k ≤ t.s → (w : Weighed) → SumsTold (owed_to t dues k) (hand_to t reach dues k) w → WeighedTold o bound
-        (take k dues) w
-    weighed classed w h =
-        weighed-told o a bound (all-in-time none) t m dues k few most
-        (steps-reached o a bound (all-in-time none) dues k fit) fit (omega (arith, m.classed)) w
-        (subst (λ (x : ℕ). SumsTold (owed_to t dues k) (hand_to t x dues k) w) e h)
+    pub weighed : length dues ≤ t.s → (s : Sums) → s.owed ≡ owed_to t dues → s.on_hand ≡ hand_to t reach dues → s.owed ≤ 76800000 →
+        WeighedTold o bound dues (then_some (ltb s.on_hand s.owed) s)
+    weighed classed s owed hand small =
+        weighed-told o a bound (all-in-time none) t m dues most
+        (steps-reached o a bound (all-in-time none) dues fit) fit (omega (arith, m.classed)) s owed
+        (hand ∙ ap (λ (x : ℕ). hand_to t x dues) e) small
 
 -- what is told at a bound as the machine reads it back
-pub told-at-bound : (o : Order) (read bound : ℤ) (dues : List ℤ) (w : Weighed) → read ≡ bound → WeighedTold o read dues w →
+pub told-at-bound : (o : Order) (read bound : ℤ) (dues : List ℤ) (w : Option Sums) → read ≡ bound → WeighedTold o read dues w →
     WeighedTold o bound dues w
 told-at-bound o read bound dues w e h = subst (λ (z : ℤ). WeighedTold o z dues w) e h
 
--- what is told of a staircase that stands
-pub weighed-stands : (o : Order) (bound : ℤ) (dues : List ℤ) (w : Weighed) (owed hand : ℕ) → w ≡ Overfull owed hand →
-    WeighedTold o bound dues w → WeighedTold o bound dues (Overfull owed hand)
-weighed-stands o bound dues w owed hand e h = subst (WeighedTold o bound dues) e h
+-- what is told of a staircase that stands, and of another
+pub weighed-stands : (o : Order) (bound : ℤ) (dues : List ℤ) (w : Option Sums) (s : Sums) → w ≡ Some s →
+    WeighedTold o bound dues w → WeighedTold o bound dues (Some s)
+weighed-stands o bound dues w s e h = subst (WeighedTold o bound dues) e h
 
-pub weighed-falls : (o : Order) (bound : ℤ) (dues : List ℤ) (w : Weighed) → w ≡ Falls → WeighedTold o bound dues w →
+pub weighed-falls : (o : Order) (bound : ℤ) (dues : List ℤ) (w : Option Sums) → w ≡ None → WeighedTold o bound dues w →
     ¬ Stands o bound (stairs dues)
 weighed-falls o bound dues w e h = subst (WeighedTold o bound dues) e h
 
 -- its line
-pub stairs-line : (o : Order) (bound : ℤ) → processor_count o ≤ 16 → (l : Listing) → l ≡ listing o → (dues : List ℤ) (owed hand : ℕ) →
-    WeighedTold o bound dues (Overfull owed hand) →
-    classes_from l.memories 0 dues ++ sums_text owed (pos hand) ≡ composed o bound (found (stairs dues))
+pub stairs-line : (o : Order) (bound : ℤ) → processor_count o ≤ 16 → (l : Listing) → l ≡ listing o → (dues : List ℤ) (s : Sums) →
+    WeighedTold o bound dues (Some s) →
+    classes_from l.memories 0 dues ++ sums_text s.owed (pos s.on_hand) ≡ composed o bound (found (stairs dues))
 unfolding line_of
-stairs-line o bound few l e dues owed hand h =
-    ap (λ (l : List ℕ). l ++ sums_text owed (pos hand)) (classes-told o few l e dues h.0.1.profile.of-classes)
-    ∙ (ap (λ (n : ℕ). classes_from (classes o) 0 dues ++ sums_text n (pos hand)) h.1
+stairs-line o bound few l e dues s h =
+    ap (λ (l : List ℕ). l ++ sums_text s.owed (pos s.on_hand)) (classes-told o few l e dues h.0.1.profile.of-classes)
+    ∙ (ap (λ (n : ℕ). classes_from (classes o) 0 dues ++ sums_text n (pos s.on_hand)) h.1
     ∙ (ap (λ (z : ℤ). classes_from (classes o) 0 dues ++ sums_text (minutes_owed o bound dues) z) h.2
     ∙ sym (composed-line o bound (stairs dues) h.0)))

@@ -6,6 +6,5 @@ pub mod Inside
 pub mod Scanning
 pub mod ScanLaws
 pub mod LineLaws
-pub mod StepLaws
 pub mod WeighLaws
 pub mod LengthLaws

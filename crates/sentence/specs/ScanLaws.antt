@@ -2,7 +2,7 @@
 use Rattle.std.specs.Prelude.{ℕ, zero, suc, ◌+◌, ◌-◌, ◌*◌, ◌/◌, ◌%◌, ◌<◌, ◌≤◌, ◌≡◌, refl, Bool, true, false, List, [], ◌∷◌, ◌++◌, eqb, ℤ, pos, negsuc, nat_abs, length, get_or, set}
 use Rattle.std.proofs.Common.{sym, ap, ◌∙◌, append_assoc, append-nil, arith, lt-ltb, le-ltb, eq-eqb, ne_eqb, length-append}
 use Rattle.std.proofs.Math.Decide.{dec_lt}
-use Rattle.std.proofs.lemmas.Bool.{lt-leb}
+use Rattle.std.specs.declared.option.Option.TheVariants.{None, Some}
 use Rattle.std.proofs.Math.Seq.{append_snoc}
 use Rattle.std.specs.Int.Signed.{mag}
 use Rattle.sums.specs.Lists.{All, tabulate, nth}
@@ -38,12 +38,12 @@ Short (stairs dues) = (length dues ≤ 16) × All (λ (d : ℤ). mag d < 1000000
 -- outside a number, behind a minus sign or not
 abbrev outside : Bool → ℕ → ℕ → List ℤ → Numbers
 outside minus done first dues =
-    record { value = 0; digits = false; minus = minus; done = done; first = first; dues = dues }
+    record { number = None; minus = minus; done = done; first = first; dues = dues }
 
 -- inside a number
 abbrev inside : ℕ → Bool → ℕ → ℕ → List ℤ → Numbers
 inside value minus done first dues =
-    record { value = value; digits = true; minus = minus; done = done; first = first; dues = dues }
+    record { number = Some value; minus = minus; done = done; first = first; dues = dues }
 
 -- one text behind the other
 scan-append : (s : Numbers) (xs ys : List ℕ) → scan_from s (xs ++ ys) ≡ scan_from (scan_from s xs) ys
@@ -116,12 +116,12 @@ signed-whole (negsuc n) h =
 
 -- the second number, the fourth, .. is stored, and no other
 stored-even : (dues : List ℤ) (i : ℕ) (z : ℤ) → stored_at dues (2 * i) z ≡ dues
-stored-even dues i z = rw (eq-eqb (2 * i % 2) 0 (omega arith)) refl
+stored-even dues i z = rw (ne_eqb (2 * i % 2) 1 (omega arith)) refl
 
 stored-odd : (dues : List ℤ) (i : ℕ) (z : ℤ) → i < 16 → stored_at dues (2 * i + 1) z ≡ set dues i z
 stored-odd dues i z h =
     let half : (2 * i + 1) / 2 ≡ i = omega arith in
-    rw (ne_eqb ((2 * i + 1) % 2) 0 (omega arith), half, lt-leb 16 i h) refl
+    rw (eq-eqb ((2 * i + 1) % 2) 1 (omega arith), half, lt-ltb i 16 h) refl
 
 -- one due time more in its place
 set_more : (n : ℕ) (dues : List ℤ) (d : ℤ) → length dues < n →
@@ -142,7 +142,7 @@ stored-class dues due m few short =
 
 -- numbers are counted
 more-is : (done : ℕ) → done < 100 → one_more done ≡ done + 1
-more-is done h = rw (lt-ltb done 100 h) refl
+more-is done h = omega arith
 
 counted : (value : ℕ) (minus : Bool) (done first : ℕ) (dues : List ℤ) → done < 100 →
     inside value minus (one_more done) first dues ≡ inside value minus (done + 1) first dues

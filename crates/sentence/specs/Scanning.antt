@@ -1,7 +1,8 @@
 -- The numbers in a line, byte by byte, and the reason that they would be of: the first number is a job's, the second, fourth, .. are due
 -- times. What a line reads back to does not rest on this: the reason is only tried.
-use Rattle.std.specs.Prelude.{Some}
-use Rattle.std.specs.Prelude.{ℕ, ◌+◌, ◌-◌, ◌*◌, ◌/◌, ◌%◌, Bool, true, false, cond, List, [], ◌∷◌, ltb, leb, eqb, ℤ, pos, neg_ℤ, get_or, set}
+use Rattle.std.specs.Prelude.{ℕ, ◌+◌, ◌-◌, ◌*◌, ◌/◌, ◌%◌, min, Bool, true, false, cond, List, [], ◌∷◌, ltb, eqb, ℤ, pos, neg_ℤ, get_or, set}
+use Rattle.std.specs.declared.option.Option.{Option}
+use Rattle.std.specs.declared.option.Option.TheVariants.{None, Some}
 use Rattle.order.specs.Order.{Order}
 use Rattle.profile.specs.Reason.{over_end}
 use Rattle.profile.specs.Search.{found}
@@ -15,33 +16,37 @@ signed_of true n = neg_ℤ (pos n)
 signed_of false n = pos n
 
 abbrev pub stored_at : List ℤ → ℕ → ℤ → List ℤ
-stored_at dues done z = cond (eqb (done % 2) 0) dues (cond (leb 16 (done / 2)) dues (set dues (done / 2) z))
+stored_at dues done z = cond (eqb (done % 2) 1) (cond (ltb (done / 2) 16) (set dues (done / 2) z) dues) dues
 
 abbrev pub first_of : ℕ → ℕ → ℕ → ℕ
 first_of done value first = cond (eqb done 0) value first
 
--- one number more, counted up to 100: no line has as many
+-- one number more, as far as a word of 32 bits counts
 abbrev pub one_more : ℕ → ℕ
-one_more done = cond (ltb done 100) (done + 1) done
+one_more done = min (done + 1) 4294967295
 
 -- behind a byte that is no digit the number is done, if there was one
+abbrev pub ended : Numbers → Bool → Option ℕ → Numbers
+ended s minus None = record { number = None; minus = minus; done = s.done; first = s.first; dues = s.dues }
+ended s minus (Some value) = record {
+  number = None;
+  minus = minus;
+  done = one_more s.done;
+  first = first_of s.done value s.first;
+  dues = stored_at s.dues s.done (signed_of s.minus value);
+}
+
 abbrev pub other_byte : Numbers → ℕ → Numbers
-other_byte s b = cond s.digits
-    (record {
-      value = 0;
-      digits = false;
-      minus = eqb b 45;
-      done = one_more s.done;
-      first = first_of s.done s.value s.first;
-      dues = stored_at s.dues s.done (signed_of s.minus s.value);
-    })
-    (record { value = 0; digits = false; minus = eqb b 45; done = s.done; first = s.first; dues = s.dues })
+other_byte s b = ended s (eqb b 45) s.number
 
 -- a digit goes behind the last seven
+abbrev pub so_far : Option ℕ → ℕ
+so_far None = 0
+so_far (Some value) = value
+
 abbrev pub with_digit : Numbers → ℕ → Numbers
 with_digit s digit = record {
-  value = s.value % 10000000 * 10 + digit;
-  digits = true;
+  number = Some (so_far s.number % 10000000 * 10 + digit);
   minus = s.minus;
   done = s.done;
   first = s.first;
@@ -56,7 +61,7 @@ scan_from s [] = s
 scan_from s (b ∷ bs) = scan_from (stepped s b) bs
 
 abbrev pub scan_start : Numbers
-scan_start = record { value = 0; digits = false; minus = false; done = 0; first = 0; dues = sixteen [] }
+scan_start = record { number = None; minus = false; done = 0; first = 0; dues = sixteen [] }
 
 abbrev pub scanned : List ℕ → Numbers
 scanned line = scan_from scan_start line

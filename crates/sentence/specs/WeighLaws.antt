@@ -1,9 +1,10 @@
--- The two sums of a staircase, as the loops make them, are document 01's, where every job is in time.
-use Rattle.std.specs.Prelude.{ℕ, suc, ◌+◌, ◌-◌, ◌*◌, ◌≤◌, ◌<◌, ◌≡◌, true, List, [], ◌∷◌, ℤ, pos, length, get_or, take, ◌<ℤ◌}
-use Rattle.std.proofs.Common.{sym, ap, ◌∙◌, subst, arith, length-take-le, get_or-take}
+-- The two sums of a staircase, as the code makes them, are document 01's, where every job is in time.
+use Rattle.std.specs.Prelude.{ℕ, suc, ◌+◌, ◌-◌, ◌*◌, ◌≤◌, ◌<◌, ◌≡◌, true, List, [], ◌∷◌, ℤ, pos, ltb, length, get_or, ◌<ℤ◌}
+use Rattle.std.proofs.Common.{sym, ap, ◌∙◌, subst, arith, lt-ltb, le-ltb}
+use Rattle.std.proofs.Math.Decide.{dec_lt}
 use Rattle.sums.specs.Sum.{sum, sum-none, sum-cong}
 use Rattle.sums.specs.Lists.{All}
-use Rattle.sums.specs.Members.{All-nth, All-from}
+use Rattle.sums.specs.Members.{All-nth, All-at, All-from}
 use Rattle.sums.specs.Totals.{sum_first}
 use Rattle.order.specs.Order.{Job, Order, job_count, Numbers, no_job, job_of, end_at, end_of}
 use Rattle.order.specs.Class.{classes, processors_in}
@@ -20,10 +21,9 @@ use Rattle.table.specs.Tabled.{Tabled}
 use Rattle.table.specs.declared.Table.{Table}
 use Rattle.reason.specs.Asked.{owes_by}
 use Rattle.reason.specs.Matching.{owes_same}
-use Rattle.sentence.specs.declared.Weighed.{Weighed}
-use Rattle.sentence.specs.declared.Weighed.TheVariants.{Stands as Overfull, Falls}
-use Rattle.sentence.specs.Inside.{owed_to, hand_to, StepsReached, StepsFit, SumsTold, WeighedTold}
-use Rattle.sentence.specs.StepLaws.{steps-chosen, chosen-steps}
+use Rattle.std.specs.Bool.{then_some}
+use Rattle.sentence.specs.declared.Sums.{Sums}
+use Rattle.sentence.specs.Inside.{owed_to, hand_to, StepsReached, StepsFit, WeighedTold}
 
 -- sums over the classes from one on, as sums over places
 owed-places : (o : Order) (bound : ℤ) (i : ℕ) (dues : List ℤ) →
@@ -81,11 +81,11 @@ module _ (o : Order) (a : Acceptable o) (bound : ℤ)
   reach-whole = let w = job-within 1 (omega arith, a.some-job) in sym (pos-cut (end_at bound last_due) (omega (arith, w.1, w.2)))
 
   -- due times of jobs are in range, and their ends are not negative
-  pub steps-reached : (dues : List ℤ) (k : ℕ) → StepsFit o dues k → StepsReached reach dues k
-  steps-reached dues k h = record {
-    in-range = λ i l. let j = in-due o _ (h i l).due in
+  pub steps-reached : (dues : List ℤ) → StepsFit o dues → StepsReached reach dues
+  steps-reached dues h = record {
+    in-range = λ i l. let j = in-due o _ (All-at _ dues (pos 0) h.due i l) in
         subst (λ (z : ℤ). due_in_range z ≡ true) (sym j.2) (job-within j.0 j.1).0;
-    within = λ i l. let j = in-due o _ (h i l).due in omega (
+    within = λ i l. let j = in-due o _ (All-at _ dues (pos 0) h.due i l) in omega (
       arith,
       ap (lead last_due) j.2,
       (job-within j.0 j.1).1,
@@ -103,63 +103,59 @@ module _ (o : Order) (a : Acceptable o) (bound : ℤ)
     owes_is k due r =
         class-owes last_due bound reach reach-whole o jobs-reached k due r ∙ owes_same o t m k (lead last_due due)
 
-    module _ (dues : List ℤ) (k : ℕ) (few : k ≤ length dues) (most : k ≤ 16) (r : StepsReached reach dues k) where
-      size : length (take k dues) ≡ k
-      size = length-take-le k dues few
-
-      reached-at : (i : ℕ) → i < k → Reached last_due reach (get_or dues i (pos 0))
+    module _ (dues : List ℤ) (most : length dues ≤ 16) (r : StepsReached reach dues) where
+      reached-at : (i : ℕ) → i < length dues → Reached last_due reach (get_or dues i (pos 0))
       reached-at i l = record { at_most = due-by-last _ (r.in-range i l); within = r.within i l }
 
-      owed-is : minutes_owed o bound (take k dues) ≡ owed_to t dues k
+      owed-is : minutes_owed o bound dues ≡ owed_to t dues
       owed-is =
-          owed-places o bound 0 (take k dues)
-          ∙ (sum-cong (length (take k dues)) _ (λ i. owes_by t (suc i) (lead last_due (get_or dues i (pos 0)))) (λ i l.
-          let b : i < k = omega (arith, size) in
+          owed-places o bound 0 dues
+          ∙ sum-cong (length dues) _ (λ i. owes_by t (suc i) (lead last_due (get_or dues i (pos 0)))) (λ i l.
           let z : 0 + i ≡ i = omega arith in
-          rw (z, get_or-take k dues i (pos 0) b) (owes_is (suc i) (get_or dues i (pos 0)) (reached-at i b)))
-          ∙ ap (λ (n : ℕ). owed_to t dues n) size)
+          rw z (owes_is (suc i) (get_or dues i (pos 0)) (reached-at i l)))
 
-      hand-is : minutes_on_hand o bound (take k dues) ≡ pos (hand_to t reach dues k)
+      hand-is : minutes_on_hand o bound dues ≡ pos (hand_to t reach dues)
       hand-is =
-          hand-places o bound 0 (take k dues) (λ i. reach - lead last_due (get_or dues i (pos 0))) (λ i l.
-          let b : i < k = omega (arith, size) in
-          let w = reached-at i b in
-          rw (get_or-take k dues i (pos 0) b) (end-reach last_due bound _ w.at_most reach reach-whole w.within))
+          hand-places o bound 0 dues (λ i. reach - lead last_due (get_or dues i (pos 0))) (λ i l.
+          end-reach last_due bound _ (reached-at i l).at_most reach reach-whole (reached-at i l).within)
           ∙ ap pos
-          (sum-cong (length (take k dues)) _ (λ i. get_or t.procs i 0 * (reach - lead last_due (get_or dues i (pos 0)))) (λ i l.
+          (sum-cong (length dues) _ (λ i. get_or t.procs i 0 * (reach - lead last_due (get_or dues i (pos 0)))) (λ i l.
           let z : 0 + i ≡ i = omega arith in
-          rw z (ap (λ (x : ℕ). x * (reach - lead last_due (get_or dues i (pos 0)))) (sym (m.procs i (omega (arith, size))))))
-          ∙ ap (λ (n : ℕ). hand_to t reach dues n) size)
+          rw z (ap (λ (x : ℕ). x * (reach - lead last_due (get_or dues i (pos 0)))) (sym (m.procs i (omega arith))))))
 
       -- the sums told are those of the staircase
-      pub weighed-told : StepsFit o dues k → k ≤ length (classes o) → (w : Weighed) →
-          SumsTold (owed_to t dues k) (hand_to t reach dues k) w → WeighedTold o bound (take k dues) w
-      weighed-told fit classed (Overfull owed on_hand) h = (
-        (
-          in-time,
-          record {
-            profile = chosen-profile o bound (take k dues) (omega (arith, size)) (steps-chosen o dues k few fit);
-            exceeds = rw (hand-is, owed-is) ((pos-lt (hand_to t reach dues k) (owed_to t dues k)).1 (omega (arith, h.0, h.1, h.2)));
-          },
-        ),
-        h.0 ∙ sym owed-is,
-        ap pos h.1 ∙ sym hand-is,
-        h.2,
-        h.3,
-      )
-      weighed-told fit classed Falls h = λ s.
-          omega (
-            arith,
-            h,
-            (pos-lt (hand_to t reach dues k) (owed_to t dues k)).0
-                (subst (λ (z : ℤ). z <ℤ pos (owed_to t dues k)) hand-is
-                (subst (λ (n : ℕ). minutes_on_hand o bound (take k dues) <ℤ pos n) owed-is s.1.exceeds)),
-          )
+      pub weighed-told : StepsFit o dues → length dues ≤ length (classes o) → (s : Sums) → s.owed ≡ owed_to t dues →
+          s.on_hand ≡ hand_to t reach dues → s.owed ≤ 76800000 →
+          WeighedTold o bound dues (then_some (ltb s.on_hand s.owed) s)
+      weighed-told fit classed s owed hand small =
+          elim (dec_lt s.on_hand s.owed) [
+            | yes h ↦ rw (lt-ltb s.on_hand s.owed h) (
+              (
+                in-time,
+                record {
+                  profile = chosen-profile o bound dues classed (record { never-rise = fit.falls; members = fit.due });
+                  exceeds = rw (hand-is, owed-is) ((pos-lt (hand_to t reach dues) (owed_to t dues)).1 (omega (arith, owed, hand, h)));
+                },
+              ),
+              owed ∙ sym owed-is,
+              ap pos hand ∙ sym hand-is,
+              h,
+              small,
+            )
+            | no h ↦ rw (le-ltb s.on_hand s.owed (omega arith)) (λ stands.
+                omega (
+                  arith,
+                  owed,
+                  hand,
+                  (pos-lt (hand_to t reach dues) (owed_to t dues)).0
+                      (subst (λ (z : ℤ). z <ℤ pos (owed_to t dues)) hand-is
+                      (subst (λ (n : ℕ). minutes_on_hand o bound dues <ℤ pos n) owed-is stands.1.exceeds)),
+                ))
+          ]
 
 -- a staircase that stands has its due times fit, of no more classes than there are
-pub stands-fits : (o : Order) (bound : ℤ) (dues : List ℤ) (k : ℕ) → k ≤ length dues → Stands o bound (stairs (take k dues)) →
-    StepsFit o dues k × (k ≤ length (classes o))
-stands-fits o bound dues k few h = (
-  chosen-steps o dues k few (profile-chosen o bound (take k dues) h.1.profile),
-  omega (arith, h.1.profile.of-classes, length-take-le k dues few),
-)
+pub stands-fits : (o : Order) (bound : ℤ) (dues : List ℤ) → Stands o bound (stairs dues) →
+    StepsFit o dues × (length dues ≤ length (classes o))
+stands-fits o bound dues h =
+    let c = profile-chosen o bound dues h.1.profile in
+    (record { due = c.members; falls = c.never-rise }, h.1.profile.of-classes)

@@ -15,19 +15,11 @@ pub struct Sums {
     pub on_hand: u32,
 }
 
-// A staircase that stands, with its minutes owed and on hand, or one that does not.
-#[derive(Clone, Copy)]
-pub enum Weighed {
-    Stands(u32, u32),
-    Falls,
-}
-
-// What is read of a line: the number under way (its last eight digits, whether it has any, whether a minus sign stands before it), how
-// many numbers are done, the first of them, and each second one.
+// What is read of a line: the number under way, its last eight digits, whether a minus sign stands before it, how many numbers are done,
+// the first of them, and each second one.
 #[derive(Clone, Copy)]
 pub struct Numbers {
-    pub value: u32,
-    pub digits: bool,
+    pub number: Option<u32>,
     pub minus: bool,
     pub done: u32,
     pub first: u32,

@@ -1,5 +1,7 @@
 // A line, put into a buffer. All serve this crate and those above; all but `all_zero` have a `requires`.
-ghost use Rattle.std.specs.Prelude.{◌≡◌, true, ◌+◌, ◌≤◌, length, take, drop};
+ghost use Rattle.std.specs.Prelude.{◌≡◌, true, ◌+◌, ◌≤◌, pos, length};
+ghost use Rattle.std.specs.List.{list_all};
+ghost use Rattle.std.specs.Ordering.{int_eq};
 ghost use Rattle.order.specs.Refusals.{Accepted, bound_in_range};
 ghost use Rattle.order.specs.Table.{order_of};
 ghost use Rattle.profile.specs.Reason.{stairs};
@@ -7,11 +9,10 @@ ghost use Rattle.profile.specs.Search.{found};
 ghost use Rattle.text.specs.Text.{Put};
 ghost use Rattle.reason.specs.declared.Reason.TheVariants.{Stairs};
 ghost use Rattle.std.specs.Prelude.{Some};
-ghost use Rattle.sentence.specs.Handed.{all_zero, handed_by, handed};
+ghost use Rattle.sentence.specs.Handed.{handed_by, handed};
 ghost use Rattle.sentence.specs.Inside.{job_composed};
 ghost use Rattle.sentence.specs.Line.{job_text, class_text, between, classes_from, sums_text, composed};
 
-use super::Weighed;
 use super::standing::weigh;
 use order::Order;
 use order::deadline::end_of;
@@ -66,33 +67,23 @@ fn put_between(out: &mut [u8], at: usize, before: usize) -> usize
     put_bytes(out, at, b", ")
 }
 
-// The first k classes.
-fn put_classes(out: &mut [u8], memories: [u32; 16], dues: [i32; 16], k: usize) -> usize
-    requires { (k ≤ 16) × (560 ≤ length out.old) }
-    ensures { Put out.old 0 (classes_from memories 0 (take k dues)) out.new result × (result ≤ 560) }
+// Each class, from the first on.
+fn put_classes(out: &mut [u8], memories: [u32; 16], dues: &[i32]) -> usize
+    requires { (length dues.now ≤ 16) × (560 ≤ length out.old) }
+    ensures { Put out.old 0 (classes_from memories 0 dues.now) out.new result × (result ≤ 560) }
 {
     let mut next: usize = 0;
-    let mut i: usize = 0;
-    while i < k {
+    for (i, due) in dues.iter().enumerate() {
         let behind = put_between(out, next, i);
-        next = put_class(out, behind, memories[i], dues[i]);
-        i += 1;
+        next = put_class(out, behind, memories[i], *due);
     }
     next
 }
 
-// Whether all due times from a place on are 0.
-fn all_zero(dues: [i32; 16], from: u32) -> bool
-    ensures { result ≡ all_zero (drop from dues) }
+fn all_zero(dues: &[i32]) -> bool
+    ensures { result ≡ list_all (λ d. int_eq d (pos 0)) dues.now }
 {
-    let mut i = from as usize;
-    while i < 16 {
-        if dues[i] != 0 {
-            return false;
-        }
-        i += 1;
-    }
-    true
+    dues.iter().all(|due| *due == 0)
 }
 
 // The line of a job over its end; nothing of one that is not, or with another time.
@@ -100,10 +91,7 @@ fn job_line(order: Order, bound: i32, job: u32, time: u32, out: &mut [u8]) -> us
     requires { Accepted (order_of order) × (bound_in_range bound ≡ true) × (86 ≤ length out.old) }
     ensures { Put out.old 0 (job_composed (order_of order) bound job time) out.new result × (result ≤ 86) }
 {
-    if job == 0 {
-        return 0;
-    }
-    if order.jobs < job {
+    if job == 0 || order.jobs < job {
         return 0;
     }
     let i = (job - 1) as usize;
@@ -119,22 +107,18 @@ fn job_line(order: Order, bound: i32, job: u32, time: u32, out: &mut [u8]) -> us
 }
 
 // The line of a staircase that stands; nothing of another.
-fn stairs_line(order: Order, bound: i32, dues: [i32; 16], k: usize, out: &mut [u8]) -> usize
-    requires { Accepted (order_of order) × (bound_in_range bound ≡ true) × (k ≤ 16) × (598 ≤ length out.old) }
-    ensures { Put out.old 0 (composed (order_of order) bound (found (stairs (take k dues)))) out.new result
+fn stairs_line(order: Order, bound: i32, dues: &[i32], out: &mut [u8]) -> usize
+    requires { Accepted (order_of order) × (bound_in_range bound ≡ true) × (length dues.now ≤ 16) × (598 ≤ length out.old) }
+    ensures { Put out.old 0 (composed (order_of order) bound (found (stairs dues.now))) out.new result
         × (result ≤ 598) }
 {
     let t = table_of(order);
-    let by_memory = t.by_memory;
-    let weighed = weigh(order, t, bound, dues, k);
-    match weighed {
-        Weighed::Falls => 0,
-        Weighed::Stands(owed, on_hand) => {
-            let memories = classes_of(order, by_memory).memories;
-            let behind = put_classes(out, memories, dues, k);
-            put_sums(out, behind, owed, on_hand as i32)
-        }
-    }
+    let Some(sums) = weigh(order, t, bound, dues) else {
+        return 0;
+    };
+    let memories = classes_of(order, t.by_memory).memories;
+    let behind = put_classes(out, memories, dues);
+    put_sums(out, behind, sums.owed, sums.on_hand as i32)
 }
 
 // The line of as many classes as are counted; nothing where a due time stands beyond them.
@@ -146,10 +130,11 @@ fn counted_line(order: Order, bound: i32, count: u32, dues: [i32; 16], out: &mut
     if 16 < count {
         return 0;
     }
-    if !all_zero(dues, count) {
+    let (told, beyond) = dues.split_at(count as usize);
+    if !all_zero(beyond) {
         return 0;
     }
-    stairs_line(order, bound, dues, count as usize, out)
+    stairs_line(order, bound, told, out)
 }
 
 // The line of a reason that is handed in, at the beginning of a buffer.
@@ -164,7 +149,7 @@ pub fn put_line(order: Order, bound: i32, why: Why, out: &mut [u8]) -> usize
     };
     match reason {
         Reason::Job(job, time) => {
-            if !all_zero(dues, 0) {
+            if !all_zero(&dues) {
                 return 0;
             }
             job_line(order, bound, job, time, out)

@@ -25,24 +25,17 @@ fn time_of(order: Order, job: u32) -> u32
     requires { Accepted (order_of order) }
     ensures { result ≡ (job_of (order_of order) job).time }
 {
-    if job == 0 {
-        return 0;
+    match job.checked_sub(1) {
+        Some(i) if i < order.jobs => order.times[i as usize],
+        _ => 0,
     }
-    if order.jobs < job {
-        return 0;
-    }
-    let i = (job - 1) as usize;
-    order.times[i]
 }
 
 // Whether a line begins with j, as that of a job does.
 fn is_job_line(line: &[u8]) -> bool
     ensures { result ≡ eqb (get_or line.now 0 0) 106 }
 {
-    if line.len() == 0 {
-        return false;
-    }
-    line[0] == 106
+    line.first() == Some(&b'j')
 }
 
 // The reason that a line may be of.
@@ -64,22 +57,6 @@ fn candidate_of(order: Order, line: &[u8]) -> Why
     }
 }
 
-fn same_bytes(a: &[u8], b: &[u8]) -> bool
-    ensures { result ≡ same_list eqb a.now b.now }
-{
-    if a.len() != b.len() {
-        return false;
-    }
-    let mut i: usize = 0;
-    while i < a.len() {
-        if a[i] != b[i] {
-            return false;
-        }
-        i += 1;
-    }
-    true
-}
-
 // Whether a reason that stands has this line.
 fn has_line(order: Order, bound: i32, why: Why, line: &[u8]) -> bool
     requires { Accepted (order_of order) × (bound_in_range bound ≡ true) }
@@ -88,10 +65,7 @@ fn has_line(order: Order, bound: i32, why: Why, line: &[u8]) -> bool
 {
     let mut text = [0u8; 598];
     let n = put_line(order, bound, why, &mut text);
-    if n == 0 {
-        return false;
-    }
-    same_bytes(&text[..n], line)
+    n != 0 && &text[..n] == line
 }
 
 // That there is none.

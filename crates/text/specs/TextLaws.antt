@@ -1,9 +1,8 @@
 -- Laws of decimal numbers and of text put into a buffer.
-use Rattle.std.specs.Prelude.{ℕ, zero, suc, ◌+◌, ◌^◌, ◌/◌, ◌%◌, ◌≤◌, ◌<◌, ◌≡◌, refl, List, [], ◌∷◌, ◌++◌, ℤ, pos, negsuc, length, get_or, take, drop, set}
-use Rattle.std.proofs.Common.{sym, ap, ◌∙◌, subst, append_assoc, arith, lt-ltb, le-ltb, length-append, length-set, take-append-drop, drop-drop, length-take-le, take_at, take-suc}
+use Rattle.std.specs.Prelude.{ℕ, zero, suc, ◌+◌, ◌*◌, ◌^◌, ◌/◌, ◌%◌, ◌≤◌, ◌<◌, ◌≡◌, max, refl, List, [], ◌∷◌, ◌++◌, ℤ, pos, negsuc, length, take, drop}
+use Rattle.std.proofs.Common.{sym, ap, ◌∙◌, subst, append_assoc, arith, lt-ltb, le-ltb, length-append, take-append-drop, drop-drop, length-take-le, take_at}
 use Rattle.std.proofs.Math.Decide.{dec_lt}
 use Rattle.std.proofs.Math.Seq.{drop-append-add}
-use Rattle.std.proofs.lemmas.List.{set_split}
 use Rattle.std.specs.Int.Signed.{mag}
 use Rattle.text.specs.Text.{digits_within, decimal, signed_decimal, signed_number, Put}
 
@@ -31,6 +30,37 @@ decimal-more n h =
 
 pub decimal-longer : (n : ℕ) → 10 ≤ n → length (decimal n) ≡ length (decimal (n / 10)) + 1
 decimal-longer n h = ap length (decimal-more n h) ∙ length-append (decimal (n / 10)) ((48 + n % 10) ∷ [])
+
+pub decimal-some : (n : ℕ) → 1 ≤ length (decimal n)
+decimal-some n =
+    elim (dec_lt n 10) [
+      | yes l ↦ rw (decimal_digit n l) (omega arith)
+      | no l ↦ omega (arith, decimal-longer n (omega arith))
+    ]
+
+pow-some : (k : ℕ) → 1 ≤ 10 ^ k
+pow-some zero = omega arith
+pow-some (suc k) = omega (arith, pow-some k)
+
+-- a number between two powers of ten in a row
+decimal-size : (k n : ℕ) → 10 ^ k ≤ n → n < 10 ^ suc k → length (decimal n) ≡ suc k
+decimal-size zero n h l = rw (decimal_digit n (omega arith)) refl
+decimal-size (suc k) n h l =
+    let some : 1 ≤ 10 ^ k = pow-some k in
+    omega (arith, decimal-longer n (omega arith), decimal-size k (n / 10) (omega arith) (omega arith))
+
+-- 0 has as many digits as 1
+pub decimal-size-max : (n m k : ℕ) → m ≡ max n 1 → 10 ^ k ≤ m → m < 10 * 10 ^ k → k + 1 ≡ length (decimal n)
+decimal-size-max zero m k e h l =
+    let z : k ≡ 0 = pow-one k (omega arith) in
+    rw (decimal_digit 0 (omega arith)) (omega arith)
+  where
+    pow-one : (k : ℕ) → 10 ^ k ≤ 1 → k ≡ 0
+    pow-one zero h = refl
+    pow-one (suc k) h = absurd (omega (arith, pow-some k))
+decimal-size-max (suc n) m k e h l =
+    let same : m ≡ suc n = omega arith in
+    omega (arith, decimal-size k (suc n) (omega arith) (omega arith))
 
 -- a number of at most k digits
 pub decimal-length : (k n : ℕ) → n < 10 ^ suc k → length (decimal n) ≤ suc k
@@ -90,28 +120,9 @@ put-none s at h =
     let e : at + 0 ≡ at = omega arith in
     record { after_is = rw e (sym (take-append-drop at s)); next-is = omega arith; fits = omega arith; same_length = refl }
 
--- one byte
-pub put_one : (s : List ℕ) (at b : ℕ) → at < length s → Put s at (b ∷ []) (set s at b) (at + 1)
-put_one s at b h =
-    let e : at + 1 ≡ suc at = omega arith in
-    record { after_is = rw e (set_split s at b h); next-is = refl; fits = omega arith; same_length = length-set s at b }
-
--- the same text told in another way, and the same place
+-- the same text told in another way
 pub put_as : {s : List ℕ} {at : ℕ} {xs ys t : List ℕ} {k : ℕ} → xs ≡ ys → Put s at xs t k → Put s at ys t k
 put_as {s} {at} {xs} {ys} {t} {k} e p = subst (λ (w : List ℕ). Put s at w t k) e p
-
-pub put-at : {s : List ℕ} {at : ℕ} {xs t : List ℕ} {k l : ℕ} → k ≡ l → Put s at xs t k → Put s at xs t l
-put-at {s} {at} {xs} {t} e p = subst (λ (n : ℕ). Put s at xs t n) e p
-
--- one byte more of some bytes
-pub put-more : {s : List ℕ} {at : ℕ} {t : List ℕ} (bytes : List ℕ) (i : ℕ) → i < length bytes → at + length bytes ≤ length s →
-    Put s at (take i bytes) t (at + i) →
-    Put s at (take (i + 1) bytes) (set t (at + i) (get_or bytes i 0)) (at + (i + 1))
-put-more {s} {at} {t} bytes i h room p =
-    let n : i + 1 ≡ suc i = omega arith in
-    let k : length (take i bytes) ≡ i = length-take-le i bytes (omega arith) in
-    let inside : at + i < length t = omega (arith, p.same_length) in
-    rw n (put_as (sym (take-suc bytes i 0 h)) (put-at (omega arith) (put_both p (put_one t (at + i) (get_or bytes i 0) inside))))
 
 -- text put at the beginning stands there
 pub put_first : {buffer text after : List ℕ} {next : ℕ} → Put buffer 0 text after next → take next after ≡ text

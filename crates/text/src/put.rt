@@ -3,32 +3,21 @@
 ghost use Rattle.std.specs.Prelude.{◌≡◌, ◌+◌, ◌≤◌, length};
 ghost use Rattle.text.specs.Text.{decimal, number, signed_number, Put};
 
-use order_file::bytes::to_pattern;
-
 // These bytes.
 pub fn put_bytes(out: &mut [u8], at: usize, bytes: &[u8]) -> usize
     requires { at + length bytes.now ≤ length out.old }
     ensures { Put out.old at bytes.now out.new result }
 {
-    let mut i: usize = 0;
-    while i < bytes.len() {
-        out[at + i] = bytes[i];
-        i += 1;
-    }
-    at + i
+    let behind = at + bytes.len();
+    out[at..behind].copy_from_slice(bytes);
+    behind
 }
 
 // How many digits a number has in base ten.
 fn digits_of(n: u32) -> usize
     ensures { result ≡ length (decimal n) }
 {
-    let mut count: usize = 1;
-    let mut rest = n;
-    while 10 <= rest {
-        rest = rest / 10;
-        count += 1;
-    }
-    count
+    n.max(1).ilog10() as usize + 1
 }
 
 // A number in base ten, its last digit first.
@@ -37,14 +26,11 @@ fn put_decimal(out: &mut [u8], at: usize, n: u32) -> usize
     ensures { Put out.old at (decimal n) out.new result }
 {
     let behind = at + digits_of(n);
-    let mut end = behind;
     let mut rest = n;
-    while 10 <= rest {
-        end -= 1;
-        out[end] = 48 + (rest % 10) as u8;
-        rest = rest / 10;
+    for place in (at..behind).rev() {
+        out[place] = b'0' + (rest % 10) as u8;
+        rest /= 10;
     }
-    out[at] = 48 + rest as u8;
     behind
 }
 
@@ -62,10 +48,10 @@ pub fn put_signed(out: &mut [u8], at: usize, n: i32) -> usize
     requires { at + 12 ≤ length out.old }
     ensures { Put out.old at (signed_number n) out.new result × (result ≤ at + 12) }
 {
-    let pattern = to_pattern(n);
-    if pattern < 2147483648 {
-        return put_number(out, at, pattern);
+    let size = n.unsigned_abs();
+    if 0 <= n {
+        return put_number(out, at, size);
     }
     let behind = put_bytes(out, at, b" -");
-    put_decimal(out, behind, 4294967295 - pattern + 1)
+    put_decimal(out, behind, size)
 }

@@ -22,21 +22,17 @@ use Rattle.sentence.proofs.Jobs.{
   over-end,
 }
 use native.Mathlib.Omega.{arith}
+use Rattle.sentence.proofs.line.job_line.Goals.{then-job-eq0-via-then-job-eq0, then-job-eq0-via-else-job-eq0+then-order-job}
 use Rattle.sentence.proofs.line.job_line.Goals as goal
 
 pub returns-then-job-eq0 : goal.returns-then-job-eq0
 returns-then-job-eq0 c = (
-  put_as (sym (job-none (order_of c.args.order) c.args.bound c.args.job c.args.time
-      (λ h. (job-number c.args.order c.args.job h.0).0 c.if-job-eq0.true)))
-      (put-none c.args.out.now 0 (omega arith)),
-  omega arith,
-)
-
-pub returns-then-order-job : goal.returns-then-order-job
-returns-then-order-job c = (
-  put_as (sym (job-none (order_of c.args.order) c.args.bound c.args.job c.args.time
-      (λ h. omega (arith, (job-number c.args.order c.args.job h.0).1, c.if-order-job.true))))
-      (put-none c.args.out.now 0 (omega arith)),
+  put_as (sym (job-none (order_of c.args.order) c.args.bound c.args.job c.args.time (λ h.
+      let n = job-number c.args.order c.args.job h.0 in
+      elim c.then-job-eq0.branch [
+        | then-job-eq0-via-then-job-eq0 w ↦ n.0 w.if-job-eq0.true
+        | then-job-eq0-via-else-job-eq0+then-order-job w ↦ omega (arith, n.1, w.if-order-job.true)
+      ]))) (put-none c.args.out.now 0 (omega arith)),
   omega arith,
 )
 

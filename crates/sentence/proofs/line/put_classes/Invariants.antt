@@ -1,12 +1,7 @@
-use Prim.Native.Nat.{◌-◌, ◌*◌, ◌≤◌}
-use lib.ListN.{take}
+use Rattle.std.proofs.Common.{◌*◌, ◌≤◌, take}
 use Rattle.text.specs.Text.{Put}
 use Rattle.sentence.specs.Line.{classes_from}
 use Rattle.sentence.proofs.line.put_classes.Given as goal
 
 abbrev pub invariant-loop-i : goal.invariant-loop-i
-invariant-loop-i l =
-    (l.i ≤ l.k) × (l.next ≤ 35 * l.i) × Put l.initial.out 0 (classes_from l.memories 0 (take l.i l.dues)) l.out l.next
-
-abbrev pub decreases-loop-i : goal.decreases-loop-i
-decreases-loop-i l = l.k - l.i
+invariant-loop-i l = (l.next ≤ 35 * l.i) × Put l.initial.out 0 (classes_from l.memories 0 (take l.i l.dues)) l.out l.next

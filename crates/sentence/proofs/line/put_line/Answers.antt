@@ -10,6 +10,7 @@ use Rattle.sentence.specs.Line.{composed}
 use Rattle.reason.specs.declared.Reason.TheVariants.{Stairs}
 use Rattle.sentence.specs.Handed.{handed_by}
 use Rattle.sentence.specs.Inside.{job_composed}
+use Rattle.sentence.proofs.Dues.{zeros-told}
 use Rattle.sentence.proofs.Handings.{met-none, job-beside, job-handed, stairs-told}
 use native.Mathlib.Omega.{arith}
 use Rattle.sentence.proofs.line.put_line.Goals as goal
@@ -26,7 +27,7 @@ returns-then-not-all_zero c =
     let z = c.all_zero in (
       put_as (sym (job-beside (order_of c.args.order) c.args.bound c.args.why c.in-Some.reason c.in-Some.is z.result c.in-Job.job
           c.in-Job.time
-          c.in-Job.is z.ensures c.if-not-all_zero.true-raw)) (put-none c.args.out.now 0 (omega arith)),
+          c.in-Job.is (z.ensures ∙ zeros-told _) c.if-not-all_zero.true)) (put-none c.args.out.now 0 (omega arith)),
       omega arith,
     )
 
@@ -44,8 +45,8 @@ returns-else-not-all_zero c =
     let q = c.job_line.ensures in
     let o = order_of c.args.order in (
       put_as (ap (λ (b : ℤ). job_composed o b c.in-Job.job c.in-Job.time) (to_z-of_z w32 c.args.bound c.ranges.bound)
-          ∙ job-handed o c.args.bound c.args.why c.in-Some.reason c.in-Some.is z.result c.in-Job.job c.in-Job.time c.in-Job.is z.ensures
-          c.if-not-all_zero.false-raw) q.0,
+          ∙ job-handed o c.args.bound c.args.why c.in-Some.reason c.in-Some.is z.result c.in-Job.job c.in-Job.time c.in-Job.is
+          (z.ensures ∙ zeros-told _) c.if-not-all_zero.false) q.0,
       omega (arith, q.1),
     )
 

@@ -1,11 +1,7 @@
-use Prim.Native.Nat.{◌-◌, ◌≤◌, ◌<◌}
-use mathlib.Core.Path.{◌≡◌}
-use lib.ListN.{length, drop}
+use Rattle.std.proofs.Common.{◌≡◌, drop}
 use Rattle.sentence.specs.Scanning.{scan_from, scanned}
+use Rattle.sentence.proofs.Scans.{Eight}
 use Rattle.sentence.proofs.scan.scan.Given as goal
 
-abbrev pub invariant-loop-i : goal.invariant-loop-i
-invariant-loop-i l = (l.i ≤ length l.line) × (l.s.value < 100000000) × (scan_from l.s (drop l.i l.line) ≡ scanned l.line)
-
-abbrev pub decreases-loop-i : goal.decreases-loop-i
-decreases-loop-i l = length l.line - l.i
+abbrev pub invariant-loop-b : goal.invariant-loop-b
+invariant-loop-b l = Eight l.s × (scan_from l.s (drop l.b-index l.line) ≡ scanned l.line)
