@@ -37,11 +37,8 @@ pub fn order_between(estimate: Estimate, number: i32) -> Result<Option<Order>, R
     ensures order_value { IfOk result (λ met. met ≡ handed_out estimate.order (first_met (estimate_of estimate) number)) }
 {
     accept_estimate(estimate)?;
-    if number < least_after(estimate, 0) {
-        return Ok(None);
-    }
     let last = path_length(estimate);
-    if least_after(estimate, last) < number {
+    if number < least_after(estimate, 0) || least_after(estimate, last) < number {
         return Ok(None);
     }
     Ok(Some(order_after(estimate, first_reached(estimate, number, last))))

@@ -4,7 +4,6 @@ mod Gathering
 mod TimedMade
 mod Refusing
 mod Ensuring
-mod InTimes
 mod Walks
 pub mod ChangeLaws
 pub mod CheckLaws

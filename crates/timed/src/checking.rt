@@ -24,13 +24,7 @@ fn in_times(times: Times, piece: Piece) -> bool
 {
     let j = (piece.job - 1) as usize;
     let i = (piece.processor - 1) as usize;
-    if piece.from < times.ready[j] {
-        return false;
-    }
-    if piece.from < times.opens[i] {
-        return false;
-    }
-    piece.to <= times.closes[i]
+    times.ready[j] <= piece.from && times.opens[i] <= piece.from && piece.to <= times.closes[i]
 }
 
 // Whether every row does.

@@ -1,21 +1,14 @@
-use Rattle.std.proofs.Common.{rules, ◌≡◌, Err, sym, subst}
+use Rattle.std.proofs.Common.{rules, ◌≡◌, None, Ok, Err, sym, subst}
 use mathlib.Core.Path.{refl}
 use mir.Syntax.{w32}
 use mir.ValLaws.{to_z-of_z}
 use Rattle.estimate.specs.Told.{estimate_of}
-use Rattle.estimate.proofs.Answers.{
-  Handed,
-  along-below,
-  along-reached,
-  below-along,
-  from-along,
-  estimate-good,
-  met-refused,
-  met-below,
-  met-above,
-  met_at,
-}
+use Rattle.estimate.proofs.Answers.{Handed, along-below, below-along, from-along, estimate-good, met-refused, met-below, met-above, met_at}
 use Rattle.estimate.proofs.met.order_between.Goals as goal
+use Rattle.estimate.proofs.met.order_between.Goals.{
+  then-number-least_after-via-then-number-least_after,
+  then-number-least_after-via-else-number-least_after+then-least_after-number,
+}
 
 pub returns-in_err-accept_estimate : goal.returns-in_err-accept_estimate
 returns-in_err-accept_estimate c =
@@ -33,31 +26,16 @@ returns-then-number-least_after c =
     let ok = estimate-good t _ c.accept_estimate.ensures is in
     let number = c.args.number in
     let back = to_z-of_z w32 number c.ranges.number in
-    let t = met-below t _ c.accept_estimate.ensures number _ back is
-    (below-along (estimate_of t) ok _ _ _ c.least_after.ensures c.if-number-least_after.true) in
-    record { result_value = t.0; order_value = t.1 }
-
-pub returns-then-least_after-number : goal.returns-then-least_after-number
-returns-then-least_after-number c =
-    let t = c.args.estimate in
-    let is = c.in_ok-accept_estimate.was in
-    let ok = estimate-good t _ c.accept_estimate.ensures is in
-    let number = c.args.number in
-    let back = to_z-of_z w32 number c.ranges.number in
-    let t = met-above t _ c.accept_estimate.ensures number _ back is _ c.path_length-last.ensures.0
-    (along-below (estimate_of t) ok _ _ _ c.least_after-2.ensures c.if-least_after-number.true) in
-    record { result_value = t.0; order_value = t.1 }
-
-pub first_reached-requires : goal.first_reached-requires
-first_reached-requires c =
-    let t = c.args.estimate in
-    let ok = estimate-good t _ c.accept_estimate.ensures c.in_ok-accept_estimate.was in record {
-      estimate_value = ok;
-      last_bound = (
-        c.path_length-last.ensures.1,
-        along-reached (estimate_of t) ok _ _ _ c.least_after-2.ensures c.if-least_after-number.false,
-      );
-    }
+    let r : Handed t _ c.accept_estimate.ensures number _ back (Ok None)
+    = elim c.then-number-least_after.branch [
+      | then-number-least_after-via-then-number-least_after w ↦
+          met-below t _ c.accept_estimate.ensures number _ back is
+          (below-along (estimate_of t) ok _ _ _ c.least_after.ensures w.if-number-least_after.true)
+      | then-number-least_after-via-else-number-least_after+then-least_after-number w ↦
+          met-above t _ c.accept_estimate.ensures number _ back is _ c.path_length-last.ensures.0
+          (along-below (estimate_of t) ok _ _ _ w.least_after-else-number-least_after.ensures w.if-least_after-number.true)
+    ] in
+    record { result_value = r.0; order_value = r.1 }
 
 pub returns : goal.returns
 returns c =
