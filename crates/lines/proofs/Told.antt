@@ -23,7 +23,6 @@ use Rattle.order.specs.declared.Refusal.TheVariants.{BadFile}
 use Rattle.order_file.specs.Bytes.{number4, signed}
 use Rattle.order_file.specs.File.{order_in, read_rows}
 use Rattle.order_file.specs.Told.{read_told}
-use Rattle.order_file.specs.declared.OrderRead.{OrderRead}
 use Rattle.plan.specs.Plan.{Row}
 use Rattle.plan.specs.Check.{numbers_of, row_at}
 use Rattle.plan.specs.NumberLaws.{length-numbers}
@@ -214,7 +213,7 @@ bound-moved o o' read bound buffer after r e f h =
     subst (λ (z : ℤ). BoundOutput o' z buffer after r) f (subst (λ (x : Order). BoundOutput x read buffer after r) e h)
 
 -- the reader is handed all that stands behind the bound
-pub read-part : (input : List ℕ) (r : OrderRead) →
+pub read-part : (input : List ℕ) (r : Result OrderTable Refusal) →
     read_told r ≡ answer_by (judge (read_rows (take (length input - 4) (drop 4 input)))) (order_in (take (length input - 4) (drop 4 input))) →
     read_told r ≡ answer_by (judge (read_rows (drop 4 input))) (order_in (drop 4 input))
 read-part input r e =

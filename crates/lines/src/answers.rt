@@ -69,6 +69,7 @@ fn put_tight(out: &mut [u8], at: usize, reason: Reason, dues: [i32; 16]) -> usiz
     }
 }
 
+#[tactic(auto, unfolding(crate::specs::Lines::meets_line))]
 pub fn put_planned(out: &mut [u8], at: usize, answer: Result<u32, NoPlan>) -> usize
     requires { at + 205 ≤ length out.old }
     ensures { Put out.old at (planned_line answer) out.new result × (result ≤ at + 205) }

@@ -11,7 +11,7 @@ use Rattle.sums.specs.Places.{tabulate-cong, tabulate-get_or}
 use Rattle.order.specs.Order.{Order, processor_count, job_count}
 use Rattle.order.specs.Refusals.{screen, Verdict, accepted, judge, answer_by}
 use Rattle.order.specs.Callers.{Within, rows_for}
-use Rattle.order.specs.Table.{order_of, table_of, refusal_told, number_by}
+use Rattle.order.specs.Table.{order_of, refusal_told, number_by}
 use Rattle.order.proofs.RefusalLaws.{accepted≢refused}
 use Rattle.order.proofs.TableLaws.{refused-told}
 use Rattle.order.specs.declared.Order.{Order as OrderTable}

@@ -42,7 +42,7 @@ use Rattle.registers.specs.Memory.{
 use Rattle.registers.specs.PlaceLaws.{kind, nothing-at, zero-from, not-zero}
 use Rattle.registers.specs.MemoryLaws.{alike}
 use Rattle.registers.specs.HeldLaws.{OfJobs, laid-beyond, held_none, held-plan, zero-at, zeros-none}
-use Rattle.std.specs.Prelude.{Result, Ok, Err}
+use Rattle.std.specs.Prelude.{Result, Err}
 use Rattle.registers.specs.declared.Place.{Place}
 use Rattle.registers.specs.declared.Place.TheVariants.{Command, Flag, Number, Allow, Stored, Lateness, Held, Nothing}
 

@@ -3,9 +3,9 @@ ghost use Rattle.std.specs.Prelude.{◌≤◌, length};
 ghost use Rattle.registers.specs.Registers.{begun, refused_with};
 ghost use Rattle.registers.specs.Memory.{Moved, finished_at, concluded};
 
+use super::Flags;
 use super::bits::{flags_in, with_flags};
 use super::numbers::put_lateness;
-use super::Flags;
 use order_file::bytes::to_pattern;
 
 // "Every command first clears bits 0 and 1, bytes 2 and 12 to 15": bit 2 stays.

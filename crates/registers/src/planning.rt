@@ -11,9 +11,9 @@ use callers::files::read_order_for;
 use order::told::number_of;
 use order::{Caller, Order, Refusal};
 use order_file::bytes::{read2, read4, to_signed};
+use planner::NoPlan;
 use planner::bound::plan_at;
 use planner::lateness::least_lateness;
-use planner::NoPlan;
 
 // The most bytes of a file that is stored.
 const MOST_BYTES: usize = 220;

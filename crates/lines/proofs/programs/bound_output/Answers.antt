@@ -1,4 +1,5 @@
-use mathlib.Core.Path.{refl, ◌∙◌}
+use Rattle.std.specs.Prelude.{Err}
+use mathlib.Core.Path.{refl, ap, ◌∙◌}
 use native.Mathlib.Omega.{arith}
 use mir.Syntax.{w32}
 use mir.ValLaws.{to_z-of_z}
@@ -15,7 +16,7 @@ put_reason-requires c =
     let o = order_of c.args.order in
     let a = c.plan_at in
     let v = tight-verdict o _ blank _ a.result (a.ensures.planned_value, a.ensures.buffer_by) blank-size _ _
-    c.in-Err-TooTight.is in
+    (c.in-Err-TooTight.is ∙ ap Err c.in-Err-TooTight.field-0-is) in
     (ten-accepted o _ rows_lent v, ten-in-range o _ rows_lent v, omega arith)
 
 pub returns-in-Ok : goal.returns-in-Ok
@@ -36,7 +37,7 @@ returns-in-Err-TooTight c =
     let a = c.plan_at in
     let q = c.put_reason.ensures in
     let t = tight-text o _ blank _ a.result (a.ensures.planned_value, a.ensures.buffer_by) blank-size _ _
-    c.in-Err-TooTight.is a.ensures.reason_told in (
+    (c.in-Err-TooTight.is ∙ ap Err c.in-Err-TooTight.field-0-is) a.ensures.reason_told in (
       bound-moved o o _ c.args.bound _ _ _ refl (to_z-of_z w32 c.args.bound c.ranges.bound) (put_as t.0 q.0, t.1),
       q.1,
     )
@@ -47,7 +48,7 @@ returns-in-Err-Refused c =
     let a = c.plan_at in
     let q = c.refused_output.ensures in
     let t = unjudged-text o _ blank _ a.result (a.ensures.planned_value, a.ensures.buffer_by) blank-size _
-    c.in-Err-Refused.is in (
-      bound-moved o o _ c.args.bound _ _ _ refl (to_z-of_z w32 c.args.bound c.ranges.bound) (put_as t.0 q.0, q.1.1 ∙ t.1),
-      omega (arith, q.1.0),
+    (c.in-Err-Refused.is ∙ ap Err c.in-Err-Refused.field-0-is) in (
+      bound-moved o o _ c.args.bound _ _ _ refl (to_z-of_z w32 c.args.bound c.ranges.bound) (put_as t.0 q.0, q.2 ∙ t.1),
+      omega (arith, q.1),
     )

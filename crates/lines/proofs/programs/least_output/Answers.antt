@@ -34,8 +34,8 @@ returns-in-Err c =
     let v = least-told o blank _ _ (l.ensures.result_value, l.ensures.buffer_by) blank-size why
     c.in-Err.is in
     let q = c.refused_output.ensures in (
-      record { text = _; text-is = refused-text _ o why v; put = q.0; told = q.1.1 ∙ refused-true _ why v },
-      omega (arith, q.1.0),
+      record { text = _; text-is = refused-text _ o why v; put = q.0; told = q.2 ∙ refused-true _ why v },
+      omega (arith, q.1),
     )
 
 pub returns-in-Ok : goal.returns-in-Ok

@@ -18,8 +18,8 @@ returns-in-Err c =
     let v = file-refused f r.result r.ensures.result_value (least_rows (order_in f) 12096) _ (least-begins (order_in f) 12096) why
     c.in-Err.is in
     let q = c.refused_output.ensures in (
-      record { text = _; text-is = refused-text _ (order_in f) why v; put = q.0; told = q.1.1 ∙ refused-true _ why v },
-      omega (arith, q.1.0),
+      record { text = _; text-is = refused-text _ (order_in f) why v; put = q.0; told = q.2 ∙ refused-true _ why v },
+      omega (arith, q.1),
     )
 
 pub least_output-requires : goal.least_output-requires

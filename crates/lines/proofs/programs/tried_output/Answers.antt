@@ -16,7 +16,7 @@ returns-then-input-lt4 c =
     let input = c.args.input.now in
     let q = c.refused_output.ensures in
     let t = tried-short input c.if-input-lt4.true in
-    ((put_as t.1 q.0, q.1.1 ∙ refused-true _ BadFile t.0), omega (arith, q.1.0))
+    ((put_as t.1 q.0, q.2 ∙ refused-true _ BadFile t.0), omega (arith, q.1))
 
 pub returns-in-Err : goal.returns-in-Err
 unfolding try_bound_rows
@@ -32,7 +32,7 @@ returns-in-Err c =
       arith,
       c.if-input-lt4.false,
     )) why v in
-    ((put_as t.1 q.0, q.1.1 ∙ refused-true _ why t.0), omega (arith, q.1.0))
+    ((put_as t.1 q.0, q.2 ∙ refused-true _ why t.0), omega (arith, q.1))
 
 pub returns-in-Ok : goal.returns-in-Ok
 unfolding try_bound_rows
