@@ -1,16 +1,14 @@
 -- The late job with the smallest number, wherever it lies, is the first late one in input order.
-use Prim.Native.Nat.{ℕ, zero, suc, pred, ◌≤◌, ◌<◌}
-use mathlib.Core.Path.{◌≡◌, refl, sym, ap, ◌∙◌}
+use Prim.Native.Nat.{ℕ, suc, pred, ◌≤◌, ◌<◌}
+use mathlib.Core.Path.{◌≡◌, refl, ap, ◌∙◌}
 use mathlib.Core.Bool.{Bool, true, false}
 use native.Mathlib.Omega.{arith}
 use Rattle.std.specs.Prelude.{Option, Some, None}
-use Rattle.std.specs.Option.{MatchOption, IfNone, IfSome, option_map}
+use Rattle.std.specs.Option.{IfNone, IfSome, option_map}
 use Rattle.std.specs.Iterator.Runs.{Run, AllItems}
-use Rattle.sums.specs.Lists.{nth, tabulate}
-use Rattle.order.specs.Order.{Numbers}
-use Rattle.order.specs.Refusals.{first}
+use Rattle.sums.specs.Lists.{tabulate}
+use Rattle.order.specs.Refusals.{clear, holds, first}
 use Rattle.order.proofs.RefusalLaws.{first-tabulate, none-tabulate}
-use Rattle.order.specs.Table.{finding_of}
 use Rattle.table.specs.Held.{beside, by_number}
 use Rattle.table.specs.HeldLaws.{value-at}
 use Rattle.table.specs.Tabled.{Fine}
@@ -53,17 +51,17 @@ module _ (t : Table) (reach : ℕ) where
         let e : j ≡ pred (number r.0) = omega (arith, r.2) in
         ap (late (by_number t) reach) e ∙ late_is r.0 r.1 ∙ not-true (late_at t reach r.0) (h r.0 r.1 r.2)
 
-    -- the place is told from 1 on, and 0 where there is none
-    pub late-first : (place : Option ℕ) → FirstLate t reach place → (at : ℕ) → MatchOption place (at ≡ 0) (λ k. at ≡ suc k) →
-        (at ≤ t.n) × (finding_of (nth t.by_need at 0) ≡ first (late (by_number t) reach) (tabulate t.n (λ j. j)))
-    late-first None none at e =
-        rw e (omega arith, sym (none-tabulate (late (by_number t) reach) t.n (λ j. j) (λ j l. not-late j l (λ i b n. none i b))))
-    late-first (Some k) h at e = rw e (omega (arith, h.0), go (number k) refl (F.numbers.are k h.0))
-      where
-        go : (x : ℕ) → number k ≡ x → Numbers t.n x → finding_of x ≡ first (late (by_number t) reach) (tabulate t.n (λ j. j))
-        go zero q b = absurd (omega arith)
-        go (suc j) q b =
-            let own : j ≡ pred (number k) = omega (arith, q) in
-            sym (first-tabulate (late (by_number t) reach) t.n (λ j. j) j b.1
-            (λ i l. not-late i (omega (arith, b.1)) (λ x y n z. omega (arith, h.2 x y z, n, q)))
-            (ap (late (by_number t) reach) own ∙ late_is k h.0 ∙ h.1))
+    -- where no place is told, no job is late in input order
+    pub none-late : FirstLate t reach None → first (late (by_number t) reach) (tabulate t.n (λ j. j)) ≡ clear
+    none-late none = none-tabulate (late (by_number t) reach) t.n (λ j. j) (λ j l. not-late j l (λ i b n. none i b))
+
+    -- the job at the place that is told is the first late one in input order
+    pub one-late : (k : ℕ) → FirstLate t reach (Some k) →
+        first (late (by_number t) reach) (tabulate t.n (λ j. j)) ≡ holds (number k)
+    one-late k h =
+        let b = F.numbers.are k h.0 in
+        let e : suc (pred (number k)) ≡ number k = omega (arith, b) in
+        first-tabulate (late (by_number t) reach) t.n (λ j. j) (pred (number k)) (omega (arith, b))
+        (λ i l. not-late i (omega (arith, b)) (λ x y n z. omega (arith, h.2 x y z, n)))
+        (late_is k h.0 ∙ h.1)
+        ∙ ap holds e

@@ -1,4 +1,4 @@
 mod StdWords
 mod JobByJob
-mod LateFirst
+pub mod LateFirst
 mod Tells

@@ -1,6 +1,6 @@
 -- What is told, from what the parts find.
 use Rattle.std.specs.Prelude.{None, Some}
-use Prim.Native.Nat.{ℕ, zero, suc, ◌≤◌, ◌<◌}
+use Prim.Native.Nat.{ℕ, zero, suc, pred, ◌≤◌, ◌<◌}
 use mathlib.Core.Path.{◌≡◌, refl, sym, ap, ◌∙◌}
 use mathlib.Core.List.{List, [], ◌∷◌, map}
 use native.Mathlib.Omega.{arith}
@@ -12,7 +12,6 @@ use lib.ListN.{length, get_or, replicate}
 use Rattle.sums.specs.Lists.{tabulate}
 use Rattle.sums.specs.Places.{tabulate-cong, tabulate-get_or}
 use Rattle.order.specs.Refusals.{Finding}
-use Rattle.order.specs.Table.{finding_of}
 use Rattle.profile.specs.Search.{nothing, found}
 use Rattle.stairs.specs.Places.{FoundPlaces, first_overfull_at}
 use Rattle.sums.specs.Arrays.{pad, get_or-pad}
@@ -26,7 +25,7 @@ use Rattle.stairs.specs.Tables.{staircase_of}
 use Rattle.stairs.specs.declared.Staircase.{Staircase}
 use Rattle.reason.specs.Told.{sixteen}
 use Rattle.reason.specs.Asked.{first_of, FirstLate, due_or, told_at, told_by, told_from, told_of}
-use Rattle.reason.proofs.LateFirst.{late-first}
+use Rattle.reason.proofs.LateFirst.{none-late, one-late}
 use Rattle.reason.specs.declared.Reason.TheVariants.{Job, Stairs}
 
 module _ (f : ℕ → ℤ) where
@@ -90,18 +89,16 @@ module _ (t : Table) (reach : ℕ) (fine : Fine t) where
       record { reason = Some (Job (get_or t.by_need k 0) (get_or t.times k 0)); dues = replicate 16 (pos 0) } ≡ told_of t reach
   unfolding told_from
   tell-late k h =
-      number (get_or t.by_need k 0) (get_or t.times k 0) (fine.numbers.are k h.0).0 (value-at t.by_need t.n fine.numbers t.times k h.0)
-      ∙ ap (λ (f : Finding). told_by (by_number t) t f (first_of t reach)) (late-first t reach fine (Some k) h (suc k) refl).1
-    where
-      number : (x v : ℕ) → 1 ≤ x → value_of t.by_need t.n t.times x ≡ v →
-          record { reason = Some (Job x v); dues = sixteen [] } ≡ told_by (by_number t) t (finding_of x) (first_of t reach)
-      number zero v b q = absurd (omega arith)
-      number (suc x) v b q = rw q refl
+      let number = get_or t.by_need k 0 in
+      let e : number ≡ suc (pred number) = omega (arith, (fine.numbers.are k h.0).0) in
+      ap (λ (v : ℕ). record { reason = Some (Job number v); dues = sixteen [] })
+      (sym (value-at t.by_need t.n fine.numbers t.times k h.0) ∙ ap (value_of t.by_need t.n t.times) e)
+      ∙ ap (λ (f : Finding). told_by (by_number t) t f (first_of t reach)) (sym (one-late t reach fine k h))
 
   module _ (h : FirstLate t reach None) where
     by-profile : told_at t (first_of t reach) ≡ told_of t reach
     unfolding told_from
-    by-profile = ap (λ (f : Finding). told_by (by_number t) t f (first_of t reach)) (late-first t reach fine None h 0 refl).1
+    by-profile = ap (λ (f : Finding). told_by (by_number t) t f (first_of t reach)) (sym (none-late t reach fine h))
 
     -- a profile was found
     pub tell-stairs : (w : Staircase) → Hit t reach w → (r : List ℤ) →

@@ -1,12 +1,10 @@
 // The reason at a bound, and the least lateness, of a table. All serve the crates above and have a `requires`.
 ghost use Rattle.std.specs.Prelude.{◌≡◌, true, ℕ, ◌<◌, ◌≤◌, pos, length, get_or};
-ghost use Rattle.sums.specs.Lists.{nth, tabulate};
 ghost use Rattle.order.specs.Lead.{bound_at, last_due, most_reach};
-ghost use Rattle.order.specs.Refusals.{Accepted, bound_in_range, first};
-ghost use Rattle.order.specs.Table.{order_of, finding_of};
+ghost use Rattle.order.specs.Refusals.{Accepted, bound_in_range};
+ghost use Rattle.order.specs.Table.{order_of};
 ghost use Rattle.profile.specs.Search.{reason_of};
-ghost use Rattle.reason.specs.Asked.{late, FirstLate, due_or, told_of, least_reach_of};
-ghost use Rattle.table.specs.Held.{by_number};
+ghost use Rattle.reason.specs.Asked.{FirstLate, due_or, told_of, least_reach_of};
 ghost use Rattle.table.specs.Tabled.{Fine};
 ghost use Rattle.reason.specs.Told.{why_of, why_told};
 
@@ -21,21 +19,13 @@ use table::making::table_of;
 
 // The place of the first job in input order whose time exceeds its end: of the jobs that are late the one with the smallest
 // number, wherever it lies.
-fn late_place(o: Table, reach: u32) -> Option<usize>
+pub fn first_late(o: Table, reach: u32) -> Option<usize>
     requires { Fine o }
     ensures { FirstLate o reach result }
 {
     (0..o.n)
         .filter(|&k| reach < o.times[k] + o.leads[k])
         .min_by_key(|&k| o.by_need[k])
-}
-
-// The same from 1 on, and 0 where no job is late.
-pub fn first_late(o: Table, reach: u32) -> u32
-    requires { Fine o }
-    ensures { (result ≤ o.n) × (finding_of (nth o.by_need result 0) ≡ first (late (by_number o) reach) (tabulate o.n (λ j. j))) }
-{
-    late_place(o, reach).map_or(0, |k| (k + 1) as u32)
 }
 
 // The due times of a staircase's places, and 0 beyond.
@@ -60,7 +50,7 @@ pub fn tell(o: Table, reach: u32) -> Why
     requires reach_le_most_reach { reach ≤ most_reach }
     ensures { result ≡ told_of o reach }
 {
-    if let Some(k) = late_place(o, reach) {
+    if let Some(k) = first_late(o, reach) {
         return Why {
             reason: Some(Reason::Job(o.by_need[k], o.times[k])),
             dues: [0i32; 16],

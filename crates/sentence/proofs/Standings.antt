@@ -1,25 +1,27 @@
 -- Whether a staircase that is handed in stands, from the tests of the code.
-use Prim.Native.Nat.{ℕ, zero, suc, ◌≤◌, ◌<◌}
-use mathlib.Core.Path.{◌≡◌, refl, sym, ap, ◌∙◌, subst}
+use Prim.Native.Nat.{ℕ, ◌≤◌}
+use mathlib.Core.Path.{◌≡◌, sym, ap, ◌∙◌, subst}
+use mathlib.Core.Bool.{true, false, true≢false}
 use mathlib.Core.List.{List, ◌++◌}
 use native.Mathlib.Omega.{arith}
 use lib.IntN.{ℤ, pos}
 use lib.ListN.{length, get_or}
-use Rattle.sums.specs.Lists.{nth, tabulate}
+use Rattle.sums.specs.Lists.{tabulate}
 use Rattle.order.specs.Class.{classes}
 use Rattle.order.specs.Lead.{reach_at, last_due}
 use Rattle.order.specs.Order.{Order, processor_count, job_count, Numbers, job_of}
-use Rattle.order.specs.Refusals.{clear, first}
+use Rattle.order.specs.Refusals.{Finding, clear, holds, first}
 use Rattle.order.proofs.RefusalLaws.{Acceptable}
-use Rattle.order.specs.Table.{finding_of}
 use Rattle.profile.specs.Profile.{minutes_owed}
 use Rattle.profile.specs.Reason.{InTime, stairs, Stands}
 use Rattle.profile.proofs.ReasonLaws.{none-over-end}
 use Rattle.profile.specs.Search.{found, first_over_end}
-use Rattle.reason.specs.Asked.{late}
+use Rattle.reason.specs.Asked.{late, FirstLate}
+use Rattle.reason.proofs.LateFirst.{none-late, one-late}
 use Rattle.reason.specs.Telling.{same-job}
 use Rattle.table.specs.Held.{by_number}
-use Rattle.table.specs.HeldLaws.{beside-once, held-read}
+use Rattle.table.specs.HeldLaws.{held-read}
+use Rattle.table.specs.Making.{fine_of}
 use Rattle.table.specs.Passed.{listing}
 use Rattle.table.specs.Tabled.{Tabled}
 use Rattle.table.specs.declared.Listing.{Listing}
@@ -30,40 +32,42 @@ use Rattle.sentence.specs.LineLaws.{composed-line}
 use Rattle.sentence.specs.WeighLaws.{steps-reached, weighed-told}
 use Rattle.sentence.specs.declared.Sums.{Sums}
 use Rattle.std.specs.Prelude.{ltb}
+use Rattle.std.specs.Option.{is_some}
 use Rattle.std.specs.declared.option.Option.{Option}
 use Rattle.std.specs.declared.option.Option.TheVariants.{Some, None}
 use Rattle.std.specs.Bool.{then_some}
 use Rattle.sentence.proofs.Classes.{classes-told}
 
 module _ (o : Order) (a : Acceptable o) (t : Table) (m : Tabled last_due o t) (bound : ℤ) (reach : ℕ)
-    (e : reach ≡ reach_at last_due bound) (r : ℕ)
-    (told : (r ≤ t.n) × (finding_of (nth t.by_need r 0) ≡ first (late (by_number t) reach) (tabulate t.n (λ j. j)))) where
-  finding : first_over_end o bound ≡ finding_of (nth t.by_need r 0)
+    (e : reach ≡ reach_at last_due bound) (place : Option ℕ) (told : FirstLate t reach place) where
+  abbrev first-of : Finding
+  first-of = first (late (by_number t) reach) (tabulate t.n (λ j. j))
+
+  finding : first_over_end o bound ≡ first-of
   finding =
       same-job o t m (by_number t) (held-read o t m) a bound
-      ∙ sym (told.1 ∙ ap (λ (x : ℕ). first (late (by_number t) x) (tabulate t.n (λ j. j))) e)
+      ∙ sym (ap (λ (x : ℕ). first (late (by_number t) x) (tabulate t.n (λ j. j))) e)
 
   -- no job is late, or one is
-  pub all-in-time : ¬ (0 < r) → (j : ℕ) → Numbers (job_count o) j → InTime bound (job_of o j)
-  all-in-time h = (none-over-end o bound).0 (finding ∙ at r h)
+  pub all-in-time : is_some place ≡ false → (j : ℕ) → Numbers (job_count o) j → InTime bound (job_of o j)
+  all-in-time h = (none-over-end o bound).0 (finding ∙ at place h told)
     where
-      at : (r : ℕ) → ¬ (0 < r) → finding_of (nth t.by_need r 0) ≡ clear
-      at zero h = refl
-      at (suc j) h = absurd (omega arith)
+      at : (place : Option ℕ) → is_some place ≡ false → FirstLate t reach place → first-of ≡ clear
+      at None h told = none-late t reach (fine_of o t m a) told
+      at (Some k) h told = absurd (true≢false h)
 
-  pub one-late : 0 < r → (dues : List ℤ) → ¬ Stands o bound (stairs dues)
-  one-late h dues s = at r h told.0 (sym finding ∙ (none-over-end o bound).1 s.0)
+  pub some-late : is_some place ≡ true → (dues : List ℤ) → ¬ Stands o bound (stairs dues)
+  some-late h dues s = at place h told (sym finding ∙ (none-over-end o bound).1 s.0)
     where
-      named : (x : ℕ) → 1 ≤ x → ¬ (finding_of x ≡ clear)
-      named zero h z = omega arith
-      named (suc j) h z = let w : ◌≡◌ {A = ℕ} 0 1 = cc in omega arith
-
-      at : (r : ℕ) → 0 < r → r ≤ t.n → ¬ (finding_of (nth t.by_need r 0) ≡ clear)
-      at zero h l z = omega arith
-      at (suc k) h l z = named (get_or t.by_need k 0) ((beside-once o t m).are k l).0 z
+      at : (place : Option ℕ) → is_some place ≡ true → FirstLate t reach place → ¬ (first-of ≡ clear)
+      at None h told z = true≢false (sym h)
+      at (Some k) h told z =
+          let w : holds (get_or t.by_need k 0) ≡ clear = sym (one-late t reach (fine_of o t m a) k told) ∙ z in
+          let x : ◌≡◌ {A = ℕ} 0 1 = cc in
+          omega arith
 
   -- due times that fit are reached, and their sums decide
-  module _ (none : ¬ (0 < r)) (dues : List ℤ) (most : length dues ≤ 16) (fit : StepsFit o dues) where
+  module _ (none : is_some place ≡ false) (dues : List ℤ) (most : length dues ≤ 16) (fit : StepsFit o dues) where
     pub reached : StepsReached reach dues
     reached = subst (λ (x : ℕ). StepsReached x dues) (sym e) (steps-reached o a bound (all-in-time none) dues fit)
 

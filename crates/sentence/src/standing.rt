@@ -46,7 +46,7 @@ pub fn weigh(order: Order, t: Table, bound: i32, dues: &[i32]) -> Option<Sums>
     ensures { WeighedTold (order_of order) bound dues.now result }
 {
     let reach = reach_of(bound);
-    if 0 < first_late(t, reach) {
+    if first_late(t, reach).is_some() {
         return None;
     }
     if t.s < dues.len() || !steps_fit(order, dues) {
