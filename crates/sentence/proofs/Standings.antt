@@ -46,7 +46,7 @@ module _ (o : Order) (a : Acceptable o) (t : Table) (m : Tabled last_due o t) (b
   finding : first_over_end o bound ≡ first-of
   finding =
       same-job o t m (by_number t) (held-read o t m) a bound
-      ∙ sym (ap (λ (x : ℕ). first (late (by_number t) x) (tabulate t.n (λ j. j))) e)
+      ∙ ap (λ (x : ℕ). first (late (by_number t) x) (tabulate t.n (λ j. j))) (sym e)
 
   -- no job is late, or one is
   pub all-in-time : is_some place ≡ false → (j : ℕ) → Numbers (job_count o) j → InTime bound (job_of o j)
