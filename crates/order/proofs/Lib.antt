@@ -1,4 +1,3 @@
-mod Signed
 mod Ranges
 mod Judging
 mod Placing

@@ -6,6 +6,7 @@ ghost use Rattle.order.specs.Refusals.{due_in_range, bound_in_range};
 ghost use Rattle.order.specs.Deadline.{cut};
 
 // The end itself, which may be negative: the close of the due minute, moved by the bound.
+#[tactic(auto, unfolding(crate::specs::Order::end_at))]
 pub fn end_of(due: i32, bound: i32) -> i32
     requires { (due_in_range due ≡ true) × (bound_in_range bound ≡ true) }
     ensures { result ≡ end_at bound due }
@@ -17,19 +18,12 @@ pub fn deadline(due: i32, bound: i32) -> u32
     requires { (due_in_range due ≡ true) × (bound_in_range bound ≡ true) }
     ensures { result ≡ cut (end_at bound due) }
 {
-    let end = end_of(due, bound);
-    if end < 0 {
-        return 0;
-    }
-    end as u32
+    end_of(due, bound).max(0) as u32
 }
 
 // Row 8 of the table.
 pub fn bound_in_range(bound: i32) -> bool
     ensures { result ≡ bound_in_range bound }
 {
-    if -10000000 <= bound {
-        return bound <= 10000000;
-    }
-    false
+    -10000000 <= bound && bound <= 10000000
 }

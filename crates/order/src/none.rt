@@ -5,6 +5,7 @@ ghost use Rattle.order.specs.Table.{table_of};
 
 use super::Order;
 
+#[tactic(auto, unfolding(crate::specs::Table::table_of))]
 pub fn no_order() -> Order
     ensures { result ≡ table_of no_order }
 {

@@ -34,21 +34,13 @@ pub fn carried_of(refusal: Refusal) -> u32
     ensures { result ≡ carried_by (refusal_told refusal) }
 {
     match refusal {
-        Refusal::NoProcessor => 0,
-        Refusal::TooManyProcessors(_) => 0,
-        Refusal::NoJob => 0,
-        Refusal::TooManyJobs(_) => 0,
-        Refusal::TimeOutOfRange(job) => job,
-        Refusal::DueOutOfRange(job) => job,
-        Refusal::MakerOutOfRange(job) => job,
-        Refusal::FitsNoProcessor(job) => job,
-        Refusal::BoundOutOfRange => 0,
-        Refusal::BufferTooShort => 0,
-        Refusal::TooManyRows => 0,
-        Refusal::BadFile => 0,
-        Refusal::BookFull => 0,
-        Refusal::ReadyOutOfRange(job) => job,
-        Refusal::BadWindow(processor) => processor,
-        Refusal::LowAboveHigh(job) => job,
+        Refusal::TimeOutOfRange(number)
+        | Refusal::DueOutOfRange(number)
+        | Refusal::MakerOutOfRange(number)
+        | Refusal::FitsNoProcessor(number)
+        | Refusal::ReadyOutOfRange(number)
+        | Refusal::BadWindow(number)
+        | Refusal::LowAboveHigh(number) => number,
+        _ => 0,
     }
 }
