@@ -1,5 +1,5 @@
 -- What the code's values stand for: the order of its struct, the number of each refusal and what it carries.
-use Rattle.std.specs.Prelude.{ℕ, zero, suc, List, pos, get_or, Option, None, Some, Result, Ok, Err}
+use Rattle.std.specs.Prelude.{ℕ, List, pos, get_or, Option, None, Some, Result, Ok, Err}
 use Rattle.sums.specs.Lists.{tabulate}
 use Rattle.order.specs.Order.{Job, Order, no_job, processor_count, job_count}
 use Rattle.order.specs.Refusals.{limits, Finding, clear, holds, Verdict, accepted, refused}
@@ -97,8 +97,3 @@ Acceptance = Result (Unit {0}) Refusal
 abbrev pub acceptance_told : Acceptance → Verdict
 acceptance_told (Ok tt) = accepted
 acceptance_told (Err refusal) = refusal_told refusal
-
--- a number that stands for a finding: 0 where there is none, else the job
-abbrev pub finding_of : ℕ → Finding
-finding_of zero = clear
-finding_of (suc j) = holds (suc j)
