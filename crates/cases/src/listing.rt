@@ -1,13 +1,13 @@
 // The classes of an order with their processors.
 use super::{print, stream};
-use order::{Acceptance, Order};
+use order::Order;
 
 // An order through acceptance: its classes, or the refusal.
 pub fn classes_case() {
     let order = stream::order();
     match order::accept::accept(order) {
-        Acceptance::Refused(refusal) => print::refused(refusal),
-        Acceptance::Accepted => print_classes(order),
+        Ok(_) => print_classes(order),
+        Err(refusal) => print::refused(refusal),
     }
 }
 
@@ -18,11 +18,14 @@ fn print_classes(order: Order) {
     }
     let listing = table::passing::classes_of(order, order::orderings::processor_order(order));
     print::text(b"classes");
-    for k in 0..16usize {
-        if k < listing.count {
-            print::number(listing.memories[k]);
-            print::number(listing.procs[k]);
-        }
+    for (memory, procs) in listing
+        .memories
+        .iter()
+        .zip(&listing.procs)
+        .take(listing.count)
+    {
+        print::number(*memory);
+        print::number(*procs);
     }
     print::text(b"\n");
 }

@@ -12,148 +12,128 @@ mod sentences; // the cases of a reason's line, composed and read back
 mod stream; // numbers, orders, reasons, books, times, highs and files of the stream
 mod timing; // the cases with ready minutes and windows
 
-use order::{Acceptance, Caller};
-use order_file::OrderWritten;
-use plan::Checked;
+use order::{Caller, Order, Refusal};
 use planner::Least;
-use print::STDOUT_FILENO;
+
+// The numbers of the rows that are lent at most, and the bytes.
+const ROW_NUMBERS: usize = 12104;
+
+const BYTES: usize = 900;
+
+// What stands in each lent byte before a call.
+const UNWRITTEN: u8 = 170;
 
 // A file through the reader: the order, or the refusal.
 fn read_case(caller: Caller) {
-    let mut file = [0u8; 900];
+    let mut file = [0u8; BYTES];
     let n = stream::bytes(&mut file);
-    let got = callers::files::read_order_for(caller, &file[..n]);
-    let status = got.status;
-    match status {
-        Acceptance::Refused(refusal) => print::refused(refusal),
-        Acceptance::Accepted => print_order(got.order),
+    match callers::files::read_order_for(caller, &file[..n]) {
+        Ok(order) => print_order(order),
+        Err(refusal) => print::refused(refusal),
     }
 }
 
-fn print_order(order: order::Order) {
+fn print_order(order: Order) {
     print::text(b"order");
     print::number(order.processors);
     print::number(order.jobs);
     print::text(b"\n");
-    print_processors(order);
-    print_jobs(order);
+    print_processors(&order);
+    print_jobs(&order);
 }
 
-fn print_processors(order: order::Order) {
-    for i in 0..16usize {
-        if (i as u32) < order.processors {
-            print::text(b"processor");
-            print::number(order.memories[i]);
-            print::text(b"\n");
-        }
+fn print_processors(order: &Order) {
+    for memory in order.memories.iter().take(order.processors as usize) {
+        print::text(b"processor");
+        print::number(*memory);
+        print::text(b"\n");
     }
 }
 
-fn print_jobs(order: order::Order) {
-    for j in 0..48usize {
-        if (j as u32) < order.jobs {
-            print::text(b"job");
-            print::number(order.times[j]);
-            print::signed(order.dues[j]);
-            print::number(order.needs[j]);
-            print::number(order.makers[j]);
-            print::text(b"\n");
-        }
+fn print_jobs(order: &Order) {
+    for j in 0..(order.jobs as usize).min(48) {
+        print::text(b"job");
+        print::number(order.times[j]);
+        print::signed(order.dues[j]);
+        print::number(order.needs[j]);
+        print::number(order.makers[j]);
+        print::text(b"\n");
     }
 }
 
 // Rows through the plan check.
 fn check_case(caller: Caller) {
     let order = stream::order();
-    let bound = order_file::bytes::to_signed(stream::number());
-    let mut rows = [0u32; 12104];
+    let bound = stream::signed();
+    let mut rows = [0u32; ROW_NUMBERS];
     let n = stream::numbers(&mut rows);
     print_checked(callers::check::check_plan_for(caller, order, bound, &rows[..n]));
 }
 
 // The line of a check.
-fn print_checked(checked: Checked) {
+fn print_checked(checked: Result<bool, Refusal>) {
     match checked {
-        Checked::Yes => print::text(b"yes\n"),
-        Checked::No => print::text(b"no\n"),
-        Checked::Refused(refusal) => print::refused(refusal),
+        Ok(true) => print::text(b"yes\n"),
+        Ok(false) => print::text(b"no\n"),
+        Err(refusal) => print::refused(refusal),
     }
 }
 
 // An order through the writer, in a buffer of the stated length; beyond what is written the buffer keeps its bytes.
 fn write_case(caller: Caller) {
     let order = stream::order();
-    let room = stream::number() as usize;
-    if 900 < room {
+    let Some(room) = stream::room(BYTES) else {
         return;
+    };
+    let mut out = [UNWRITTEN; BYTES];
+    let written = callers::files::write_order_for(caller, order, &mut out[..room]);
+    match written {
+        Ok(n) => print_file(&out, n),
+        Err(refusal) => print::refused(refusal),
     }
-    let mut out = [170u8; 900];
-    let mut written: usize = 0;
-    match callers::files::write_order_for(caller, order, &mut out[..room]) {
-        OrderWritten::Bytes(n) => {
-            written = n;
-            print_file(out, n);
-        }
-        OrderWritten::Refused(refusal) => print::refused(refusal),
-    }
-    print_changes(out, written);
+    print::changes(&out, written.unwrap_or(0), UNWRITTEN);
 }
 
-fn print_file(out: [u8; 900], n: usize) {
+fn print_file(out: &[u8], n: usize) {
     print::text(b"file");
-    print::number((n % 4294967296) as u32);
+    print::count(n);
     print::text(b" ");
-    for i in 0..900usize {
-        if i < n {
-            io::print_hex(STDOUT_FILENO, out[i] as u64, 2);
-        }
+    for byte in out.iter().take(n) {
+        print::hex(*byte);
     }
     print::text(b"\n");
-}
-
-// A line for each byte that is changed beyond what was written: there is none.
-fn print_changes(out: [u8; 900], written: usize) {
-    for i in 0..900usize {
-        if written <= i {
-            if out[i] != 170 {
-                print::text(b"changed\n");
-            }
-        }
-    }
 }
 
 // The least lateness, with a row buffer of the stated length.
 fn least_case(caller: Caller) {
     let order = stream::order();
-    let room = stream::number() as usize;
-    if 12104 < room {
+    let Some(room) = stream::room(ROW_NUMBERS) else {
         return;
-    }
-    let mut rows = [0u32; 12104];
+    };
+    let mut rows = [0u32; ROW_NUMBERS];
     print_least(callers::planning::least_lateness_for(caller, order, &mut rows[..room]));
 }
 
 // The line of a least lateness.
-fn print_least(least: Least) {
+fn print_least(least: Result<Least, Refusal>) {
     match least {
-        Least::Refused(refusal) => print::refused(refusal),
-        Least::At(lateness, _) => {
+        Ok(least) => {
             print::text(b"least");
-            print::signed(lateness);
+            print::signed(least.lateness);
             print::text(b"\n");
         }
+        Err(refusal) => print::refused(refusal),
     }
 }
 
 // A plan at a bound, with a row buffer of the stated length.
 fn plan_case(caller: Caller) {
     let order = stream::order();
-    let bound = order_file::bytes::to_signed(stream::number());
-    let room = stream::number() as usize;
-    if 12104 < room {
+    let bound = stream::signed();
+    let Some(room) = stream::room(ROW_NUMBERS) else {
         return;
-    }
-    let mut rows = [0u32; 12104];
+    };
+    let mut rows = [0u32; ROW_NUMBERS];
     print::planned(callers::planning::plan_at_for(caller, order, bound, &mut rows[..room]));
 }
 
@@ -172,12 +152,12 @@ fn run_case(kind: u32, caller: Caller) {
         10 => timing::timed_case(caller),
         11 => timing::watch_case(caller),
         14 => estimating::between_case(caller),
-        _ => return,
+        _ => {}
     }
 }
 
 fn main() {
-    for k in 0..1000000u32 {
+    for _ in 0..1_000_000u32 {
         let kind = stream::number();
         match kind {
             0 => return,

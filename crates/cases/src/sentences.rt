@@ -1,40 +1,32 @@
 // The line of a reason: composed, and read back.
-use super::{print, print_changes, stream};
-use order::{Acceptance, Caller};
+use super::{BYTES, UNWRITTEN, print, stream};
+use order::Caller;
 use reason::{Reason, Why};
-use sentence::Composed;
 
 // A reason through composing, in a buffer of the stated length; beyond what is written the buffer keeps its bytes.
 pub fn compose_case(caller: Caller) {
     let order = stream::order();
-    let bound = order_file::bytes::to_signed(stream::number());
+    let bound = stream::signed();
     let why = stream::why();
-    let room = stream::number() as usize;
-    if 900 < room {
+    let Some(room) = stream::room(BYTES) else {
         return;
+    };
+    let mut out = [UNWRITTEN; BYTES];
+    let composed = callers::telling::compose_for(caller, order, bound, why, &mut out[..room]);
+    match composed {
+        Ok(n) => print_line(&out[..n as usize]),
+        Err(refusal) => print::refused(refusal),
     }
-    let mut out = [170u8; 900];
-    let mut written: usize = 0;
-    match callers::telling::compose_for(caller, order, bound, why, &mut out[..room]) {
-        Composed::Length(n) => {
-            written = n as usize;
-            print_line(out, n);
-        }
-        Composed::Refused(refusal) => print::refused(refusal),
-    }
-    print_changes(out, written);
+    print::changes(&out, composed.unwrap_or(0) as usize, UNWRITTEN);
 }
 
-// A line of this length; nothing stands behind the length 0.
-fn print_line(out: [u8; 900], n: u32) {
+// A line with its length; nothing stands behind the length 0.
+fn print_line(line: &[u8]) {
     print::text(b"line");
-    print::number(n);
-    let length = n as usize;
-    if 0 < length {
-        if length <= 900 {
-            print::text(b" ");
-            print::text(&out[..length]);
-        }
+    print::count(line.len());
+    if !line.is_empty() {
+        print::text(b" ");
+        print::text(line);
     }
     print::text(b"\n");
 }
@@ -42,30 +34,20 @@ fn print_line(out: [u8; 900], n: u32) {
 // A line through reading back: its reason, or the refusal.
 pub fn parse_case(caller: Caller) {
     let order = stream::order();
-    let bound = order_file::bytes::to_signed(stream::number());
-    let mut line = [0u8; 900];
+    let bound = stream::signed();
+    let mut line = [0u8; BYTES];
     let n = stream::bytes(&mut line);
-    let got = callers::telling::read_back_for(caller, order, bound, &line[..n]);
-    let status = got.status;
-    match status {
-        Acceptance::Refused(refusal) => print::refused(refusal),
-        Acceptance::Accepted => print_why(got.why),
+    match callers::telling::read_back_for(caller, order, bound, &line[..n]) {
+        Ok(why) => print_why(why),
+        Err(refusal) => print::refused(refusal),
     }
 }
 
 fn print_why(why: Why) {
-    let reason = why.reason;
-    let dues = why.dues;
-    match tightness {
-        Some(reason) => print_reason(reason, dues),
+    match why.reason {
+        Some(Reason::Job(job, time)) => print_job(job, time),
+        Some(Reason::Stairs(count)) => print_stairs(count, &why.dues),
         None => print::text(b"none\n"),
-    }
-}
-
-fn print_reason(reason: Reason, dues: [i32; 16]) {
-    match reason {
-        Reason::Job(job, time) => print_job(job, time),
-        Reason::Stairs(count) => print_stairs(count, dues),
     }
 }
 
@@ -77,12 +59,10 @@ fn print_job(job: u32, time: u32) {
 }
 
 // As many due times as are counted.
-fn print_stairs(count: u32, dues: [i32; 16]) {
+fn print_stairs(count: u32, dues: &[i32]) {
     print::text(b"stairs");
-    for i in 0..16usize {
-        if (i as u32) < count {
-            print::signed(dues[i]);
-        }
+    for due in dues.iter().take(count as usize) {
+        print::signed(*due);
     }
     print::text(b"\n");
 }

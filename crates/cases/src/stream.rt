@@ -1,6 +1,6 @@
 // What the stream of cases holds: numbers of four bytes, orders, reasons, books, times, highs, files, rows. At its end every number
 // reads 0.
-ghost use Rattle.std.specs.Prelude.{◌≤◌, length};
+ghost use Rattle.std.specs.Prelude.{◌≤◌, length, IfSome};
 
 use book::Book;
 use order::Order;
@@ -14,22 +14,29 @@ const STDIN_FILENO: i32 = 0;
 pub fn number() -> u32 {
     let mut bytes = [0u8; 4];
     io::read_full(STDIN_FILENO, &mut bytes);
-    order_file::bytes::read4(&bytes, 0)
+    u32::from_le_bytes(bytes)
 }
 
-// The next number where it is wanted, else 0.
-fn number_if(wanted: bool) -> u32 {
-    if wanted { number() } else { 0 }
+// The next number, with its sign.
+pub fn signed() -> i32 {
+    number().cast_signed()
+}
+
+// The stated length of a buffer; none where it is over the most that there is room for.
+pub fn room(most: usize) -> Option<usize>
+    ensures { IfSome result (λ n. n ≤ most) }
+{
+    let n = number() as usize;
+    (n <= most).then_some(n)
 }
 
 // As many bytes as the next number says, if there is room; answers how many.
 pub fn bytes(file: &mut [u8]) -> usize
     ensures { result ≤ length file.old }
 {
-    let n = number() as usize;
-    if file.len() < n {
+    let Some(n) = room(file.len()) else {
         return 0;
-    }
+    };
     io::read_full(STDIN_FILENO, &mut file[..n]);
     n
 }
@@ -38,40 +45,34 @@ pub fn bytes(file: &mut [u8]) -> usize
 pub fn numbers(rows: &mut [u32]) -> usize
     ensures { result ≤ length rows.old }
 {
-    let n = number() as usize;
-    if rows.len() < n {
+    let Some(n) = room(rows.len()) else {
         return 0;
-    }
-    for i in 0..n {
-        rows[i] = number();
+    };
+    for row in &mut rows[..n] {
+        *row = number();
     }
     n
 }
 
-// The memories of an order of so many processors.
-fn memories(n: u32) -> [u32; 16] {
-    let mut out = [0u32; 16];
-    for i in 0..16usize {
-        out[i] = number_if((i as u32) < n);
-    }
-    out
+// A number for each of so many, 0 beyond: memories of processors, ready minutes or highs of jobs.
+pub fn one_each<const N: usize>(count: u32) -> [u32; N] {
+    std::array::from_fn(|i| if i < count as usize { number() } else { 0 })
 }
 
 // An order: its counts, its memories, its jobs.
 pub fn order() -> Order {
     let processors = number();
     let jobs = number();
-    let memories = memories(processors);
+    let memories = one_each(processors);
     let mut times = [0u32; 48];
     let mut dues = [0i32; 48];
     let mut needs = [0u32; 48];
     let mut makers = [0u32; 48];
-    for j in 0..48usize {
-        let wanted = (j as u32) < jobs;
-        times[j] = number_if(wanted);
-        dues[j] = order_file::bytes::to_signed(number_if(wanted));
-        needs[j] = number_if(wanted);
-        makers[j] = number_if(wanted);
+    for j in 0..(jobs as usize).min(48) {
+        times[j] = number();
+        dues[j] = signed();
+        needs[j] = number();
+        makers[j] = number();
     }
     Order {
         processors,
@@ -86,31 +87,19 @@ pub fn order() -> Order {
 
 // A book: sixteen counts.
 pub fn book() -> Book {
-    let mut counts = [0u32; 16];
-    for i in 0..16usize {
-        counts[i] = number();
+    Book {
+        counts: std::array::from_fn(|_| number()),
     }
-    Book { counts }
-}
-
-// A number for each of so many jobs: ready minutes, highs.
-pub fn of_jobs(jobs: u32) -> [u32; 48] {
-    let mut out = [0u32; 48];
-    for j in 0..48usize {
-        out[j] = number_if((j as u32) < jobs);
-    }
-    out
 }
 
 // Ready minutes of so many jobs, and windows of so many processors.
 pub fn times(jobs: u32, processors: u32) -> Times {
-    let ready = of_jobs(jobs);
+    let ready = one_each(jobs);
     let mut opens = [0u32; 16];
     let mut closes = [0u32; 16];
-    for i in 0..16usize {
-        let wanted = (i as u32) < processors;
-        opens[i] = number_if(wanted);
-        closes[i] = number_if(wanted);
+    for i in 0..(processors as usize).min(16) {
+        opens[i] = number();
+        closes[i] = number();
     }
     Times {
         ready,
@@ -119,17 +108,8 @@ pub fn times(jobs: u32, processors: u32) -> Times {
     }
 }
 
-// The due times of a reason.
-fn due_times() -> [i32; 16] {
-    let mut out = [0i32; 16];
-    for i in 0..16usize {
-        out[i] = order_file::bytes::to_signed(number());
-    }
-    out
-}
-
 // A job or a staircase; none at any other kind.
-fn tightness(kind: u32, which: u32, time: u32) -> Option<Reason> {
+fn reason(kind: u32, which: u32, time: u32) -> Option<Reason> {
     match kind {
         1 => Some(Reason::Job(which, time)),
         2 => Some(Reason::Stairs(which)),
@@ -142,9 +122,8 @@ pub fn why() -> Why {
     let kind = number();
     let which = number();
     let time = number();
-    let dues = due_times();
     Why {
-        reason: tightness(kind, which, time),
-        dues,
+        reason: reason(kind, which, time),
+        dues: std::array::from_fn(|_| signed()),
     }
 }

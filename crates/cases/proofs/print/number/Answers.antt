@@ -1,6 +1,0 @@
-use native.Mathlib.Omega.{arith}
-use lib.ListN.{length-take}
-use Rattle.cases.proofs.print.number.Goals as goal
-
-pub slice_bounds-text-end : goal.slice_bounds-text-end
-slice_bounds-text-end c = simp length-take (omega arith)

@@ -1,8 +1,0 @@
-use Prim.Native.Nat.{◌≤◌, ◌-◌}
-use Rattle.cases.proofs.print_file.Given as goal
-
-abbrev pub invariant-loop-i : goal.invariant-loop-i
-invariant-loop-i l = l.i ≤ 900
-
-abbrev pub decreases-loop-i : goal.decreases-loop-i
-decreases-loop-i l = 900 - l.i

@@ -1,6 +1,0 @@
-use lib.ListN.{length-take}
-use native.Mathlib.Omega.{arith}
-use Rattle.cases.proofs.sentences.parse_case.Goals as goal
-
-pub slice_bounds-read_back_for-end : goal.slice_bounds-read_back_for-end
-slice_bounds-read_back_for-end c = simp length-take (omega arith)

@@ -1,6 +1,0 @@
-use lib.ListN.{length-take}
-use native.Mathlib.Omega.{arith}
-use Rattle.cases.proofs.stream.bytes.Goals as goal
-
-pub slice_bounds-read_full-end-2 : goal.slice_bounds-read_full-end-2
-slice_bounds-read_full-end-2 c = simp length-take (omega arith)
