@@ -17,68 +17,51 @@ pub const TRIES: u32 = 1000000;
 // Descriptor 3, on which the starter listens for the status, by the system's name for it.
 const STATUS_PATH: &str = "/proc/self/fd/3";
 
-// How many bytes were read, or why a read failed.
-#[derive(Clone, Copy)]
-pub enum Input {
-    Bytes(usize),
-    Failed(io::Error),
-}
-
-// Whether a call failed in a way that is worth another try; the others may run first.
-fn again(done: &io::Result<usize>) -> bool {
-    let Err(error) = done else {
-        return false;
-    };
-    match error.kind() {
-        ErrorKind::Interrupted => true,
-        ErrorKind::WouldBlock => {
-            thread::yield_now();
-            true
-        }
-        _ => false,
+// Whether a call that failed in this way is worth another try; the others may run first.
+fn again(kind: ErrorKind) -> bool {
+    if kind == ErrorKind::WouldBlock {
+        thread::yield_now();
     }
+    matches!(kind, ErrorKind::Interrupted | ErrorKind::WouldBlock)
 }
 
 fn read_some(from: &mut impl Read, out: &mut [u8]) -> io::Result<usize>
     ensures { ReadsAtMost result out.new }
 {
-    let mut got = from.read(out);
     for _ in 1..TRIES {
-        if !again(&got) {
-            return got;
+        match from.read(out) {
+            Err(error) if again(error.kind()) => {}
+            got => return got,
         }
-        got = from.read(out);
     }
-    got
+    from.read(out)
 }
 
-// Standard input to its end, or as much of it as there is room for.
-pub fn read_input(rt: &impl io::Input, out: &mut [u8]) -> Input
+// Standard input to its end, or as much of it as there is room for: how many bytes that is.
+pub fn read_input(rt: &impl io::Input, out: &mut [u8]) -> io::Result<usize>
     ensures { Within (length out.new) result }
 {
     let mut from = rt.reader();
     let mut done: usize = 0;
     while done < out.len() {
-        match read_some(&mut from, &mut out[done..]) {
-            Ok(0) => return Input::Bytes(done),
-            Ok(n) => done += n,
-            Err(error) => return Input::Failed(error),
+        match read_some(&mut from, &mut out[done..])? {
+            0 => break,
+            n => done += n,
         }
     }
-    Input::Bytes(done)
+    Ok(done)
 }
 
 fn write_some(rt: &impl Print, bytes: &[u8]) -> io::Result<usize>
     ensures { WritesAtMost result bytes.now }
 {
-    let mut put = rt.write_some(bytes);
     for _ in 1..TRIES {
-        if !again(&put) {
-            return put;
+        match rt.write_some(bytes) {
+            Err(error) if again(error.kind()) => {}
+            put => return put,
         }
-        put = rt.write_some(bytes);
     }
-    put
+    rt.write_some(bytes)
 }
 
 // All of these bytes on standard output, in one write where the system takes them whole.

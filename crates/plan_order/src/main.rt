@@ -1,7 +1,7 @@
 // plan-order: an order file on standard input; the least lateness and a plan at it, or the refusal, on standard output.
 #![tactic(auto)]
 
-use console::{Input, read_input, tell_answer, tell_failure, write_output};
+use console::{read_input, tell_answer, tell_failure, write_output};
 use lines::programs::plan_output;
 use std::rt::{Env, Files};
 
@@ -20,7 +20,7 @@ fn answer(rt: &(impl Print + Eprint + Env + Files), file: &[u8]) {
 fn main(rt: HostRuntime) {
     let mut file = [0u8; 845];
     match read_input(&rt, &mut file) {
-        Input::Bytes(n) => answer(&rt, &file[..n]),
-        Input::Failed(error) => tell_failure(&rt, b"plan-order: reading standard input", &error),
+        Ok(n) => answer(&rt, &file[..n]),
+        Err(error) => tell_failure(&rt, b"plan-order: reading standard input", &error),
     }
 }

@@ -2,7 +2,7 @@
 // refusal, on standard output.
 #![tactic(auto)]
 
-use console::{Input, read_input, tell_answer, tell_failure, write_output};
+use console::{read_input, tell_answer, tell_failure, write_output};
 use lines::programs::tried_output;
 use std::rt::{Env, Files};
 
@@ -21,7 +21,7 @@ fn answer(rt: &(impl Print + Eprint + Env + Files), given: &[u8]) {
 fn main(rt: HostRuntime) {
     let mut given = [0u8; 849];
     match read_input(&rt, &mut given) {
-        Input::Bytes(n) => answer(&rt, &given[..n]),
-        Input::Failed(error) => tell_failure(&rt, b"try-bound: reading standard input", &error),
+        Ok(n) => answer(&rt, &given[..n]),
+        Err(error) => tell_failure(&rt, b"try-bound: reading standard input", &error),
     }
 }
