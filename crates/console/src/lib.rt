@@ -1,8 +1,9 @@
 // Standard input and standard output for the programs, with failures told apart from the end of the input, and the status that a
-// program tells its starter. No contract can speak of what is read or written.
+// program tells its starter. No contract can speak of what is read or written. `answer_input` serves the programs and has a
+// `requires`: what composes the answer can be called, and stays within its room.
 #![tactic(auto)]
 
-ghost use Rattle.std.specs.Prelude.{length};
+ghost use Rattle.std.specs.Prelude.{length, ◌≤◌, ◌≡◌};
 ghost use Rattle.std.specs.Io.{ReadsAtMost, WritesAtMost};
 ghost use Rattle.console.specs.Within.{Within};
 
@@ -118,4 +119,30 @@ pub fn tell_failure(rt: &(impl Eprint + Env + Files), what: &[u8], error: &io::E
     let tried = what.escape_ascii();
     let _ = eprintln!(rt; "{tried}: {error}");
     tell(rt, b"2");
+}
+
+// A whole program: standard input, read into `given`, is answered on standard output by what `compose` puts into `out`, and the
+// starter is told. `compose` says how long the answer is and whether it refuses; `words` say what is tried, where it fails.
+pub fn answer_input<F: Fn(&[u8], &mut [u8]) -> (usize, bool)>(
+    rt: &(impl io::Input + Print + Eprint + Env + Files),
+    words: [&[u8]; 2],
+    given: &mut [u8],
+    out: &mut [u8],
+    compose: F,
+)
+    requires called { (file : _) (room : _) → length room.now ≡ length out.old → F.pre compose file room }
+    requires in_room { (file : _) (room : _) (r : _) (left : _) → length room.now ≡ length out.old → F.post compose file room r left
+        → r.0 ≤ length out.old }
+{
+    let [reading, writing] = words;
+    match read_input(rt, given) {
+        Ok(n) => {
+            let (length, refused) = compose(&given[..n], out);
+            match write_output(rt, &out[..length]) {
+                Ok(()) => tell_answer(rt, refused),
+                Err(error) => tell_failure(rt, writing, &error),
+            }
+        }
+        Err(error) => tell_failure(rt, reading, &error),
+    }
 }
