@@ -67,13 +67,12 @@ fn write_some(rt: &impl Print, bytes: &[u8]) -> io::Result<usize>
 
 // All of these bytes on standard output, in one write where the system takes them whole.
 pub fn write_output(rt: &impl Print, bytes: &[u8]) -> io::Result<()> {
-    let mut done: usize = 0;
-    while done < bytes.len() {
-        let n = write_some(rt, &bytes[done..])?;
-        if n == 0 {
-            return Err(io::Error::from(ErrorKind::WriteZero));
+    let mut rest = bytes;
+    while !rest.is_empty() {
+        match write_some(rt, rest)? {
+            0 => return Err(io::Error::from(ErrorKind::WriteZero)),
+            n => rest = &rest[n..],
         }
-        done += n;
     }
     Ok(())
 }
@@ -81,10 +80,8 @@ pub fn write_output(rt: &impl Print, bytes: &[u8]) -> io::Result<()> {
 // Whether the starter listens: the program was started with the word `status`.
 fn listens(rt: &impl Env) -> bool {
     let mut word = [0u8; 7];
-    match rt.arg(1, &mut word) {
-        Ok(n) => &word[..n] == b"status".as_slice(),
-        Err(_) => false,
-    }
+    rt.arg(1, &mut word)
+        .is_ok_and(|n| &word[..n] == b"status".as_slice())
 }
 
 // Behind what stands there already. The name's permissions say whether the descriptor is open for writing: where it is not, its
@@ -107,11 +104,7 @@ fn tell(rt: &(impl Env + Files), status: &[u8]) {
 
 // What the program came to: 0 for a plan or `meets`, 1 for `tight` or `refused`.
 pub fn tell_answer(rt: &(impl Env + Files), refused: bool) {
-    if refused {
-        tell(rt, b"1");
-    } else {
-        tell(rt, b"0");
-    }
+    tell(rt, if refused { b"1" } else { b"0" });
 }
 
 // A failure, in one line on standard error: what was tried, and why it failed. Its status is 2.
