@@ -1,12 +1,9 @@
 -- No more was read than there was room for.
-use Rattle.std.specs.Prelude.{ℕ, ◌≤◌, ◌≡◌}
+use Rattle.std.specs.Prelude.{ℕ, ◌≤◌, ◌≡◌, Result, Ok, IfOk}
 use Rattle.std.proofs.Common.{subst}
-use Rattle.console.specs.declared.Input.{Input}
-use Rattle.console.specs.declared.Input.TheVariants.{Bytes, Failed}
 
-abbrev pub Within : ℕ → Input → Type 0
-Within room (Bytes n) = n ≤ room
-Within room (Failed error) = Unit {0}
+abbrev pub Within : {E : Type 0} → ℕ → Result ℕ E → Type 0
+Within room r = IfOk r (λ n. n ≤ room)
 
-pub within-room : {room : ℕ} {r : Input} {n : ℕ} → Within room r → r ≡ Bytes n → n ≤ room
-within-room {room} h e = subst (Within room) e h
+pub within-room : {E : Type 0} {room : ℕ} {r : Result ℕ E} {n : ℕ} → Within room r → r ≡ Ok n → n ≤ room
+within-room {room = room} h e = subst (Within room) e h

@@ -1,8 +1,9 @@
 // Standard input and standard output for the programs, with failures told apart from the end of the input, and the status that a
-// program tells its starter. No contract can speak of what is read or written.
+// program tells its starter. No contract can speak of what is read or written. `answer_input` serves the programs and has a
+// `requires`: what composes the answer can be called, and stays within its room.
 #![tactic(auto)]
 
-ghost use Rattle.std.specs.Prelude.{length};
+ghost use Rattle.std.specs.Prelude.{length, ◌≤◌, ◌≡◌};
 ghost use Rattle.std.specs.Io.{ReadsAtMost, WritesAtMost};
 ghost use Rattle.console.specs.Within.{Within};
 
@@ -17,79 +18,61 @@ pub const TRIES: u32 = 1000000;
 // Descriptor 3, on which the starter listens for the status, by the system's name for it.
 const STATUS_PATH: &str = "/proc/self/fd/3";
 
-// How many bytes were read, or why a read failed.
-#[derive(Clone, Copy)]
-pub enum Input {
-    Bytes(usize),
-    Failed(io::Error),
-}
-
-// Whether a call failed in a way that is worth another try; the others may run first.
-fn again(done: &io::Result<usize>) -> bool {
-    let Err(error) = done else {
-        return false;
-    };
-    match error.kind() {
-        ErrorKind::Interrupted => true,
-        ErrorKind::WouldBlock => {
-            thread::yield_now();
-            true
-        }
-        _ => false,
+// Whether a call that failed in this way is worth another try; the others may run first.
+fn again(kind: ErrorKind) -> bool {
+    if kind == ErrorKind::WouldBlock {
+        thread::yield_now();
     }
+    matches!(kind, ErrorKind::Interrupted | ErrorKind::WouldBlock)
 }
 
 fn read_some(from: &mut impl Read, out: &mut [u8]) -> io::Result<usize>
     ensures { ReadsAtMost result out.new }
 {
-    let mut got = from.read(out);
     for _ in 1..TRIES {
-        if !again(&got) {
-            return got;
+        match from.read(out) {
+            Err(error) if again(error.kind()) => {}
+            got => return got,
         }
-        got = from.read(out);
     }
-    got
+    from.read(out)
 }
 
-// Standard input to its end, or as much of it as there is room for.
-pub fn read_input(rt: &impl io::Input, out: &mut [u8]) -> Input
+// Standard input to its end, or as much of it as there is room for: how many bytes that is.
+pub fn read_input(rt: &impl io::Input, out: &mut [u8]) -> io::Result<usize>
     ensures { Within (length out.new) result }
 {
     let mut from = rt.reader();
     let mut done: usize = 0;
     while done < out.len() {
-        match read_some(&mut from, &mut out[done..]) {
-            Ok(0) => return Input::Bytes(done),
-            Ok(n) => done += n,
-            Err(error) => return Input::Failed(error),
+        match read_some(&mut from, &mut out[done..])? {
+            0 => break,
+            n => done += n,
         }
     }
-    Input::Bytes(done)
+    Ok(done)
 }
 
 fn write_some(rt: &impl Print, bytes: &[u8]) -> io::Result<usize>
     ensures { WritesAtMost result bytes.now }
 {
-    let mut put = rt.write_some(bytes);
     for _ in 1..TRIES {
-        if !again(&put) {
-            return put;
+        match rt.write_some(bytes) {
+            Err(error) if again(error.kind()) => {}
+            put => return put,
         }
-        put = rt.write_some(bytes);
     }
-    put
+    rt.write_some(bytes)
 }
 
 // All of these bytes on standard output, in one write where the system takes them whole.
 pub fn write_output(rt: &impl Print, bytes: &[u8]) -> io::Result<()> {
-    let mut done: usize = 0;
-    while done < bytes.len() {
-        let n = write_some(rt, &bytes[done..])?;
-        if n == 0 {
-            return Err(io::Error::from(ErrorKind::WriteZero));
+    let mut rest = bytes;
+    while !rest.is_empty() {
+        match write_some(rt, rest)? {
+            0 => return Err(io::Error::from(ErrorKind::WriteZero)),
+            n => rest = &rest[n..],
         }
-        done += n;
     }
     Ok(())
 }
@@ -97,10 +80,8 @@ pub fn write_output(rt: &impl Print, bytes: &[u8]) -> io::Result<()> {
 // Whether the starter listens: the program was started with the word `status`.
 fn listens(rt: &impl Env) -> bool {
     let mut word = [0u8; 7];
-    match rt.arg(1, &mut word) {
-        Ok(n) => &word[..n] == b"status".as_slice(),
-        Err(_) => false,
-    }
+    rt.arg(1, &mut word)
+        .is_ok_and(|n| &word[..n] == b"status".as_slice())
 }
 
 // Behind what stands there already. The name's permissions say whether the descriptor is open for writing: where it is not, its
@@ -123,11 +104,7 @@ fn tell(rt: &(impl Env + Files), status: &[u8]) {
 
 // What the program came to: 0 for a plan or `meets`, 1 for `tight` or `refused`.
 pub fn tell_answer(rt: &(impl Env + Files), refused: bool) {
-    if refused {
-        tell(rt, b"1");
-    } else {
-        tell(rt, b"0");
-    }
+    tell(rt, if refused { b"1" } else { b"0" });
 }
 
 // A failure, in one line on standard error: what was tried, and why it failed. Its status is 2.
@@ -135,4 +112,30 @@ pub fn tell_failure(rt: &(impl Eprint + Env + Files), what: &[u8], error: &io::E
     let tried = what.escape_ascii();
     let _ = eprintln!(rt; "{tried}: {error}");
     tell(rt, b"2");
+}
+
+// A whole program: standard input, read into `given`, is answered on standard output by what `compose` puts into `out`, and the
+// starter is told. `compose` says how long the answer is and whether it refuses; `words` say what is tried, where it fails.
+pub fn answer_input<F: Fn(&[u8], &mut [u8]) -> (usize, bool)>(
+    rt: &(impl io::Input + Print + Eprint + Env + Files),
+    words: [&[u8]; 2],
+    given: &mut [u8],
+    out: &mut [u8],
+    compose: F,
+)
+    requires called { (file : _) (room : _) → length room.now ≡ length out.old → F.pre compose file room }
+    requires in_room { (file : _) (room : _) (r : _) (left : _) → length room.now ≡ length out.old → F.post compose file room r left
+        → r.0 ≤ length out.old }
+{
+    let [reading, writing] = words;
+    match read_input(rt, given) {
+        Ok(n) => {
+            let (length, refused) = compose(&given[..n], out);
+            match write_output(rt, &out[..length]) {
+                Ok(()) => tell_answer(rt, refused),
+                Err(error) => tell_failure(rt, writing, &error),
+            }
+        }
+        Err(error) => tell_failure(rt, reading, &error),
+    }
 }

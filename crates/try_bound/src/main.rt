@@ -2,26 +2,19 @@
 // refusal, on standard output.
 #![tactic(auto)]
 
-use console::{Input, read_input, tell_answer, tell_failure, write_output};
+use console::answer_input;
 use lines::programs::tried_output;
-use std::rt::{Env, Files};
-
-// What these bytes are answered with.
-fn answer(rt: &(impl Print + Eprint + Env + Files), given: &[u8]) {
-    let mut out = [0u8; 804];
-    let output = tried_output(given, &mut out);
-    let length = output.length;
-    match write_output(rt, &out[..length]) {
-        Ok(()) => tell_answer(rt, output.refused),
-        Err(error) => tell_failure(rt, b"try-bound: writing standard output", &error),
-    }
-}
 
 // One byte more than a bound and the longest file is read, so that a longer one is refused.
 fn main(rt: HostRuntime) {
     let mut given = [0u8; 849];
-    match read_input(&rt, &mut given) {
-        Input::Bytes(n) => answer(&rt, &given[..n]),
-        Input::Failed(error) => tell_failure(&rt, b"try-bound: reading standard input", &error),
-    }
+    let mut out = [0u8; 804];
+    let words: [&[u8]; 2] = [
+        b"try-bound: reading standard input",
+        b"try-bound: writing standard output",
+    ];
+    answer_input(&rt, words, &mut given, &mut out, |given, out| {
+        let output = tried_output(given, out);
+        (output.length, output.refused)
+    });
 }

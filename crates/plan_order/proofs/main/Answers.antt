@@ -1,0 +1,5 @@
+use Rattle.std.proofs.Common.{rules}
+use Rattle.plan_order.proofs.main.Goals as goal
+
+pub answer_input-requires-clause-in_room : goal.answer_input-requires-clause-in_room
+answer_input-requires-clause-in_room c = λ file room r left e made. search rules
