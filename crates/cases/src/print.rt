@@ -59,7 +59,7 @@ pub fn planned(answer: Result<u32, NoPlan>) {
 }
 
 // A line for each item of a buffer that is changed beyond what was written: there is none.
-pub fn changes<T: Copy + PartialEq>(out: &[T], written: usize, before: T) {
+pub fn changes<Item: Copy + PartialEq>(out: &[Item], written: usize, before: Item) {
     for item in out.iter().skip(written) {
         if *item != before {
             text(b"changed\n");
