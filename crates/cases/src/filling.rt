@@ -1,6 +1,6 @@
 // Needs from a maker's table.
 use super::{print, stream};
-use needs::Filled;
+use needs::Unfilled;
 
 // The needs that are lent at most.
 const NEEDS: usize = 80;
@@ -18,18 +18,16 @@ pub fn needs_case() {
         return;
     };
     let mut out = [UNFILLED; NEEDS];
-    let mut filled: usize = 0;
-    match needs::filling::fill_needs(&table[..numbers], &lengths[..listed], &mut out[..room]) {
-        Filled::NoLine(length) => print::refusal(17, length as usize),
-        Filled::TwoLines(length) => print::refusal(18, length as usize),
-        Filled::LengthOutOfRange(place) => print::refusal(5, place),
-        Filled::BufferTooShort => print::refusal(9, 0),
-        Filled::Needs(n) => {
-            filled = n;
-            print_needs(&out, n);
-        }
+    let filled = needs::filling::fill_needs(
+        &table[..numbers],
+        &lengths[..listed],
+        &mut out[..room],
+    );
+    match filled {
+        Ok(n) => print_needs(&out, n),
+        Err(unfilled) => print_unfilled(unfilled),
     }
-    print::changes(&out, filled, UNFILLED);
+    print::changes(&out, filled.unwrap_or(0), UNFILLED);
 }
 
 fn print_needs(out: &[u32], n: usize) {
@@ -38,4 +36,14 @@ fn print_needs(out: &[u32], n: usize) {
         print::number(*need);
     }
     print::text(b"\n");
+}
+
+// The line of a refusal.
+fn print_unfilled(unfilled: Unfilled) {
+    match unfilled {
+        Unfilled::NoLine(length) => print::refusal(17, length as usize),
+        Unfilled::TwoLines(length) => print::refusal(18, length as usize),
+        Unfilled::LengthOutOfRange(place) => print::refusal(5, place),
+        Unfilled::BufferTooShort => print::refusal(9, 0),
+    }
 }

@@ -1,4 +1,5 @@
 -- How a call with highs comes to its verdict: the answer's room, the file, the list's length and the counts, then the entry point.
+use Rattle.std.specs.Prelude.{Ok, Err}
 use Prim.Native.Nat.{ℕ, ◌≤◌}
 use mathlib.Core.Path.{◌≡◌, refl, ap, ◌∙◌}
 use mathlib.Core.List.{List, [], ◌∷◌, ◌++◌, append_assoc}
@@ -7,15 +8,14 @@ use lib.ListN.{length, get_or}
 use Rattle.sums.specs.Lists.{All}
 use Rattle.sums.specs.Places.{length-tabulate}
 use Rattle.order.specs.Order.{no_job, processor_count, job_count}
-use Rattle.order.specs.Refusals.{limits, clear, TableRow, accepted, refused, judge, file_row, count_rows}
+use Rattle.order.specs.Refusals.{limits, clear, TableRow, Verdict, accepted, refused, judge, file_row, count_rows}
 use Rattle.order.proofs.RefusalLaws.{judge-accepted, judge-clear, judge-refused-append, whole-clear}
 use Rattle.order_file.specs.File.{good_file, order_in}
 use Rattle.estimate.specs.Estimate.{estimated_rows, estimate_rows}
 use Rattle.estimate.specs.Told.{estimated_job, estimate_of}
+use Rattle.estimate.specs.declared.Estimate.{Estimate as EstimateTable}
 use Rattle.highboyrobin.specs.BetweenCalls.{estimate_in, wrong_highs_row, between_call, EstimateBy}
 use Rattle.highboyrobin.specs.Results.{result_of, answer_row}
-use Rattle.highboyrobin.specs.declared.EstimateRead.{EstimateRead}
-use Rattle.highboyrobin.specs.declared.ReadStatus.TheVariants.{Refused, Read}
 use Rattle.highboyrobin.proofs.StatusTold.{status-refused, status-read}
 
 -- the estimate's rows begin with those of the file's counts
@@ -33,27 +33,26 @@ order-rows-begin f highs nine =
     ap (λ (rows : List TableRow). rows ++ (nine ∷ [])) (rows-begin f highs)
     ∙ append_assoc (count_rows limits (processor_count (order_in f)) (job_count (order_in f))) (estimated_rows (estimate_in f highs)) (nine ∷ [])
 
-module _ (lent asked : ℕ) (f highs : List ℕ) (r : EstimateRead) where
+module _ (lent asked : ℕ) (f highs : List ℕ) where
   abbrev counted : List TableRow
   counted = count_rows limits (processor_count (order_in f)) (job_count (order_in f))
 
   abbrev call : List TableRow → List TableRow
   call rows = between_call lent asked f highs rows
 
-  abbrev pub Reads : Type 0
-  Reads = EstimateBy (judge (between_call lent asked f highs (count_rows limits (processor_count (order_in f)) (job_count (order_in f)))))
-      f highs r
+  abbrev read : Verdict
+  read = judge (between_call lent asked f highs (count_rows limits (processor_count (order_in f)) (job_count (order_in f))))
 
   call-append : (rows later : List TableRow) → call (rows ++ later) ≡ call rows ++ later
   unfolding between_call
   call-append rows later = refl
 
   -- what is refused by the first rows is the call's, since its rows begin with those of the counts
-  pub between-refused : Reads → (rows later : List TableRow) →
-      rows ≡ count_rows limits (processor_count (order_in f)) (job_count (order_in f)) ++ later → (result : ℕ) → r.status ≡ Refused result →
+  pub between-refused : (result : ℕ) → EstimateBy read f highs (Err result) → (rows later : List TableRow) →
+      rows ≡ count_rows limits (processor_count (order_in f)) (job_count (order_in f)) ++ later →
       (k : ℕ) × (c : ℕ) × (judge (between_call lent asked f highs rows) ≡ refused k c) × (result ≡ result_of (refused k c))
-  between-refused h rows later begins result is =
-      let w = status-refused (judge (call counted)) r.status _ h result is in (
+  between-refused result h rows later begins =
+      let w = status-refused read (Err result) _ h result refl in (
         w.0,
         w.1,
         ap (λ (xs : List TableRow). judge (call xs)) begins ∙ ap judge (call-append counted later)
@@ -61,11 +60,11 @@ module _ (lent asked : ℕ) (f highs : List ℕ) (r : EstimateRead) where
         w.3,
       )
 
-  module _ (h : Reads) (is : r.status ≡ Read) where
-    accepts : (judge (call counted) ≡ accepted) × (estimate_of r.estimate ≡ estimate_in f highs)
-    accepts = status-read (judge (call counted)) r.status _ h is
+  module _ (r : EstimateTable) (h : EstimateBy read f highs (Ok r)) where
+    accepts : (read ≡ accepted) × (estimate_of r ≡ estimate_in f highs)
+    accepts = status-read read (Ok r) _ h r refl
 
-    pub between-estimate : estimate_of r.estimate ≡ estimate_in f highs
+    pub between-estimate : estimate_of r ≡ estimate_in f highs
     between-estimate = accepts.1
 
     all-clear : All (λ (x : TableRow). x.finding ≡ clear) (call counted)

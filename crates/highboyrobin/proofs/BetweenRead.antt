@@ -1,19 +1,20 @@
 -- How a call with highs reads its estimate: the answer's room, the file, the length of the list, then the counts.
-use Prim.Native.Nat.{ℕ, ◌≤◌, ◌<◌}
-use mathlib.Core.Path.{◌≡◌, sym, ap, ◌∙◌}
+use Rattle.std.specs.Prelude.{Option, Some, None, Result, Ok, Err}
+use Prim.Native.Nat.{ℕ, ◌≤◌}
+use mathlib.Core.Path.{◌≡◌, refl, sym, ap, ◌∙◌}
 use mathlib.Core.List.{List}
 use mathlib.Core.Logic.{◌≢◌}
 use native.Mathlib.Omega.{arith}
-use borrow.Author.Tests.{lt-ltb, le-ltb, eq-eqb, ne_eqb}
+use borrow.Author.Tests.{le-ltb, eq-eqb, ne_eqb}
 use lib.ListN.{length, get_or}
 use Rattle.sums.specs.Lists.{tabulate}
 use Rattle.sums.specs.Places.{length-tabulate, get_d_tabulate, tabulate-cong}
 use Rattle.order.specs.Order.{Job, Order, no_job, processor_count, job_count}
-use Rattle.order.specs.Refusals.{limits, Verdict, judge, count_rows}
+use Rattle.order.specs.Refusals.{limits, Verdict, refused, judge, count_rows}
 use Rattle.order.proofs.RefusalLaws.{counts-in-limits}
 use Rattle.order.specs.Table.{order_of, job_at, refusal_told, carried_by}
 use Rattle.order.proofs.TableLaws.{refused-told}
-use Rattle.order.specs.declared.Acceptance.TheVariants.{Accepted as Accepts, Refused as Refuses}
+use Rattle.order.specs.declared.Order.{Order as OrderTable}
 use Rattle.order.specs.declared.Refusal.{Refusal}
 use Rattle.order_file.specs.File.{order_in}
 use Rattle.order_file.specs.Inside.{trailer_of, Within, Placed}
@@ -21,17 +22,12 @@ use Rattle.order_file.specs.ReaderLaws.{read-refused, read-accepted}
 use Rattle.order_file.specs.Told.{ReadBy}
 use Rattle.order_file.specs.TrailerLaws.{trailer-bad, trailer-good, lists-placed, processors-are, jobs-are}
 use Rattle.order_file.specs.declared.Lists.{Lists}
-use Rattle.order_file.specs.declared.OrderRead.{OrderRead}
-use Rattle.order_file.specs.declared.Trailer.{Trailer}
-use Rattle.order_file.specs.declared.Trailer.TheVariants.{Good, Bad}
 use Rattle.estimate.specs.Estimate.{EstimatedJob, Estimate}
 use Rattle.estimate.specs.Told.{estimated, estimated_job, estimate_of, job_between}
 use Rattle.estimate.specs.declared.Estimate.{Estimate as EstimateTable}
 use Rattle.highboyrobin.specs.BetweenCalls.{between_call, EstimateBy}
 use Rattle.highboyrobin.specs.Results.{result_of}
-use Rattle.highboyrobin.specs.declared.EstimateRead.{EstimateRead}
 use Rattle.highboyrobin.proofs.Carried.{carried-few, count-carries}
-use Rattle.highboyrobin.specs.declared.ReadStatus.TheVariants.{Refused, Read}
 use Rattle.highboyrobin.proofs.StatusTold.{refused-status, read-status}
 
 -- the estimate of a struct, from its order and the list that its highs are from
@@ -59,30 +55,29 @@ module _ (lent asked : ℕ) (f highs : List ℕ) where
   abbrev verdict : Verdict
   verdict = judge (between_call lent asked f highs (count_rows limits (processor_count (order_in f)) (job_count (order_in f))))
 
-  -- the answer has no room
-  pub no_room : (r : EstimateRead) → lent < asked → r.status ≡ Refused 255 → EstimateBy verdict f highs r
-  unfolding judge between_call
-  no_room r h s = refused-status verdict r.status _ 255 0 (rw (lt-ltb lent asked h)) s
+  refuses : (number result : ℕ) → verdict ≡ refused number 0 → result ≡ result_of (refused number 0) →
+      EstimateBy verdict f highs (Err result)
+  refuses number result v e = refused-status verdict (Err result) _ number 0 v (ap (λ (n : ℕ). Err n) e)
 
-  module _ (room : asked ≤ lent) (t : Trailer) (is : t ≡ trailer_of f) where
+  module _ (room : asked ≤ lent) (t : Option Lists) (is : t ≡ trailer_of f) where
     -- the file is bad
-    pub bad-file : (r : EstimateRead) → t ≡ Bad → r.status ≡ Refused 12 → EstimateBy verdict f highs r
+    pub bad-file : t ≡ None → EstimateBy verdict f highs (Err 12)
     unfolding judge between_call
-    bad-file r e s = refused-status verdict r.status _ 12 0 (rw (le-ltb lent asked room, trailer-bad f t is e)) s
+    bad-file e = refuses 12 12 (rw (le-ltb lent asked room, trailer-bad f t is e)) refl
 
     -- the file is good, and its trailer gives the lists l
-    module _ (l : Lists) (w : Within f t) (good : t ≡ Good l) where
+    module _ (l : Lists) (w : Within f t) (good : t ≡ Some l) where
       placed : Placed f l.processors_at l.jobs_at l.processors l.jobs
       placed = lists-placed f t l w good
 
-      pub other-jobs : (r : EstimateRead) → length highs ≢ l.jobs → r.status ≡ Refused 253 → EstimateBy verdict f highs r
+      pub other-jobs : length highs ≢ l.jobs → EstimateBy verdict f highs (Err 253)
       unfolding judge between_call
-      other-jobs r d s =
-          refused-status verdict r.status _ 253 0
-          (rw (le-ltb lent asked room, trailer-good f t is l good, jobs-are f l placed, ne_eqb (length highs) l.jobs d)) s
+      other-jobs d =
+          refuses 253 253
+          (rw (le-ltb lent asked room, trailer-good f t is l good, jobs-are f l placed, ne_eqb (length highs) l.jobs d)) refl
 
       -- the list is as long: the counts decide
-      module _ (ej : length highs ≡ l.jobs) (o : OrderRead)
+      module _ (ej : length highs ≡ l.jobs) (o : Result OrderTable Refusal)
           (e : ReadBy (judge (count_rows limits l.processors l.jobs)) (order_in f) o) where
         counts-decide : verdict ≡ judge (count_rows limits l.processors l.jobs)
         unfolding judge between_call
@@ -95,25 +90,25 @@ module _ (lent asked : ℕ) (f highs : List ℕ) where
               eq-eqb (length highs) l.jobs ej,
             )
 
-        counts-told : (why : Refusal) → o.status ≡ Refuses why → judge (count_rows limits l.processors l.jobs) ≡ refusal_told why
-        counts-told why st = read-refused (judge (count_rows limits l.processors l.jobs)) (order_in f) o e.0 why st
+        counts-told : (why : Refusal) → o ≡ Err why → judge (count_rows limits l.processors l.jobs) ≡ refusal_told why
+        counts-told why is = read-refused (judge (count_rows limits l.processors l.jobs)) (order_in f) o e.0 why is
 
         -- what is carried has room in a result
-        pub counts-carry : (why : Refusal) → o.status ≡ Refuses why → carried_by (refusal_told why) ≤ 16777215
-        counts-carry why st = carried-few _ _ (counts-told why st) (count-carries limits l.processors l.jobs)
+        pub counts-carry : (why : Refusal) → o ≡ Err why → carried_by (refusal_told why) ≤ 16777215
+        counts-carry why is = carried-few _ _ (counts-told why is) (count-carries limits l.processors l.jobs)
 
-        pub counts-refuse : (r : EstimateRead) (why : Refusal) → o.status ≡ Refuses why → (result : ℕ) →
-            result ≡ result_of (refusal_told why) → r.status ≡ Refused result → EstimateBy verdict f highs r
-        counts-refuse r why st result er s =
+        pub counts-refuse : (why : Refusal) → o ≡ Err why → (result : ℕ) → result ≡ result_of (refusal_told why) →
+            EstimateBy verdict f highs (Err result)
+        counts-refuse why is result er =
             let k = refused-told why in
-            refused-status verdict r.status _ k.0 k.1 (counts-decide ∙ (counts-told why st ∙ k.2))
-            (s ∙ ap (λ (n : ℕ). Refused n) (er ∙ ap result_of k.2))
+            refused-status verdict (Err result) _ k.0 k.1 (counts-decide ∙ (counts-told why is ∙ k.2))
+            (ap (λ (n : ℕ). Err n) (er ∙ ap result_of k.2))
 
-        pub counts-accept : (r : EstimateRead) → o.status ≡ Accepts → r.status ≡ Read → r.estimate.order ≡ o.order →
-            r.estimate.highs ≡ tabulate 48 (λ (j : ℕ). get_or highs j 0) → EstimateBy verdict f highs r
-        counts-accept r st s eo eh =
-            let a = read-accepted (judge (count_rows limits l.processors l.jobs)) (order_in f) o e.0 st in
+        pub counts-accept : (order : OrderTable) → o ≡ Ok order → (r : EstimateTable) → r.order ≡ order →
+            r.highs ≡ tabulate 48 (λ (j : ℕ). get_or highs j 0) → EstimateBy verdict f highs (Ok r)
+        counts-accept order is r eo eh =
+            let a = read-accepted (judge (count_rows limits l.processors l.jobs)) (order_in f) o e.0 order is in
             let few : job_count (order_in f) ≤ 48
             = omega (arith, jobs-are f l placed, (counts-in-limits l.processors l.jobs a.0).3) in
-            read-status verdict r.status _ (counts-decide ∙ a.0) s
-            (estimate-is r.estimate (order_in f) highs (ap order_of eo ∙ a.1) eh few)
+            read-status verdict (Ok r) _ (counts-decide ∙ a.0) r refl
+            (estimate-is r (order_in f) highs (ap order_of eo ∙ a.1) eh few)

@@ -1,4 +1,5 @@
 -- What the answers of both entry points with times between say of the verdict, and what is left behind.
+use Rattle.std.specs.Prelude.{Option, Some, None, Result, Ok, Err}
 use Prim.Native.Nat.{ℕ}
 use mathlib.Core.Path.{◌≡◌, refl, sym, ap, ◌∙◌, subst}
 use mathlib.Core.List.{List, [], ◌∷◌, ◌++◌}
@@ -25,11 +26,10 @@ use Rattle.order.specs.Refusals.{
 use Rattle.order.proofs.RefusalLaws.{judge-accepted-append, judge-refused-append}
 use Rattle.order.specs.Table.{order_of, refusal_told}
 use Rattle.order.proofs.TableLaws.{refused-told, verdict-refused, verdict-accepted}
+use Rattle.order.specs.declared.Order.{Order as OrderTable}
 use Rattle.order.specs.declared.Refusal.{Refusal}
 use Rattle.order_file.specs.File.{file_of, file_length, write_rows, written_by, ReadBackBy}
 use Rattle.order_file.proofs.RoundTrip.{file_of-length}
-use Rattle.order_file.specs.declared.OrderWritten.{OrderWritten}
-use Rattle.order_file.specs.declared.OrderWritten.TheVariants.{Bytes, Refused as NotWritten}
 use Rattle.profile.proofs.LeastRange.{least-in-range}
 use Rattle.profile.specs.LeastRead.{read-least}
 use Rattle.profile.specs.Search.{Found, nothing, found}
@@ -37,29 +37,24 @@ use Rattle.estimate.specs.AcceptLaws.{uncrossed, between-accepted}
 use Rattle.estimate.specs.Estimate.{Estimate, order_with, lows, highs, least_at_lows, least_at_highs, first_met, order_found, order_met, estimate_rows}
 use Rattle.estimate.specs.PathLaws.{lows-between, highs-between}
 use Rattle.estimate.specs.Request.{met-between}
-use Rattle.estimate.specs.Told.{leasts_told, met_told, met_by}
+use Rattle.estimate.specs.Told.{leasts_told, met_told}
 use Rattle.estimate.specs.declared.Leasts.{Leasts}
-use Rattle.estimate.specs.declared.Leasts.TheVariants.{Between, Refused}
-use Rattle.estimate.specs.declared.Meeting.{Meeting}
-use Rattle.estimate.specs.declared.Meeting.TheVariants.{Met, Nowhere, Refused as MeetingRefused}
-use Rattle.estimate.specs.declared.OrderMet.{OrderMet}
 use Rattle.highboyrobin.specs.BetweenCalls.{file_met, BackBy, HandedBy}
 use Rattle.highboyrobin.specs.Results.{result_of}
 use Rattle.highboyrobin.proofs.FilesTold.{WriteTold, writer-refused, writer-wrote}
 
 -- the two numbers
-abbrev pub LeastsSay : Leasts → Estimate → Type 0
+abbrev pub LeastsSay : Result Leasts Refusal → Estimate → Type 0
 LeastsSay a e = leasts_told a ≡ answer_by (judge (estimate_rows limits e)) (least_at_lows e, least_at_highs e)
 
-module _ (a : Leasts) (e : Estimate) (h : LeastsSay a e) where
-  pub leasts-refused : (why : Refusal) → a ≡ Refused why → judge (estimate_rows limits e) ≡ refusal_told why
-  leasts-refused why is =
-      verdict-refused _ why (pos 0, pos 0) (least_at_lows e, least_at_highs e) (subst (λ (a : Leasts). LeastsSay a e) is h)
+module _ (e : Estimate) where
+  pub leasts-refused : (why : Refusal) → LeastsSay (Err why) e → judge (estimate_rows limits e) ≡ refusal_told why
+  leasts-refused why h = verdict-refused _ why (pos 0, pos 0) (least_at_lows e, least_at_highs e) h
 
-  pub leasts-are : (low high : ℤ) → a ≡ Between low high →
-      (judge (estimate_rows limits e) ≡ accepted) × (low ≡ least_at_lows e) × (high ≡ least_at_highs e)
-  leasts-are low high is =
-      let v = verdict-accepted _ (low, high) (least_at_lows e, least_at_highs e) (subst (λ (a : Leasts). LeastsSay a e) is h) in
+  pub leasts-are : (a : Leasts) → LeastsSay (Ok a) e →
+      (judge (estimate_rows limits e) ≡ accepted) × (a.low ≡ least_at_lows e) × (a.high ≡ least_at_highs e)
+  leasts-are a h =
+      let v = verdict-accepted _ (a.low, a.high) (least_at_lows e, least_at_highs e) h in
       (v.0, ap (λ (p : ℤ × ℤ). p.0) v.1, ap (λ (p : ℤ × ℤ). p.1) v.1)
 
 -- both are read back as they are
@@ -78,39 +73,37 @@ pub two-same : {x y low high : ℤ} {rest : List ℤ} → x ≡ low → y ≡ hi
 two-same e f = cc
 
 -- the order met
-abbrev pub MetSays : OrderMet → Estimate → ℤ → Type 0
+abbrev pub MetSays : Result (Option OrderTable) Refusal → Estimate → ℤ → Type 0
 MetSays m e number = met_told m ≡ answer_by (judge (estimate_rows limits e)) (order_met e number)
 
-module _ (m : OrderMet) (e : Estimate) (number : ℤ) (h : MetSays m e number) where
-  told-by : (k : Meeting) → m.meeting ≡ k → met_by k (order_of m.order) ≡ answer_by (judge (estimate_rows limits e)) (order_met e number)
-  told-by k is = sym (ap (λ (k : Meeting). met_by k (order_of m.order)) is) ∙ h
+module _ (e : Estimate) (number : ℤ) where
+  pub met-refused : (why : Refusal) → MetSays (Err why) e number → judge (estimate_rows limits e) ≡ refusal_told why
+  met-refused why h = verdict-refused _ why nothing (order_met e number) h
 
-  pub met-refused : (why : Refusal) → m.meeting ≡ MeetingRefused why → judge (estimate_rows limits e) ≡ refusal_told why
-  met-refused why is = verdict-refused _ why nothing (order_met e number) (told-by (MeetingRefused why) is)
+  met-nowhere : MetSays (Ok None) e number → (judge (estimate_rows limits e) ≡ accepted) × (nothing ≡ order_met e number)
+  met-nowhere h = verdict-accepted _ nothing (order_met e number) h
 
-  pub met-nowhere : m.meeting ≡ Nowhere → (judge (estimate_rows limits e) ≡ accepted) × (nothing ≡ order_met e number)
-  met-nowhere is = verdict-accepted _ nothing (order_met e number) (told-by Nowhere is)
+  module _ (t : OrderTable) (h : MetSays (Ok (Some t)) e number) where
+    met-order : (judge (estimate_rows limits e) ≡ accepted) × (found (order_of t) ≡ order_met e number)
+    met-order = verdict-accepted _ (found (order_of t)) (order_met e number) h
 
-  pub met-order : m.meeting ≡ Met → (judge (estimate_rows limits e) ≡ accepted) × (found (order_of m.order) ≡ order_met e number)
-  met-order is = verdict-accepted _ (found (order_of m.order)) (order_met e number) (told-by Met is)
+    -- it is accepted, since its times lie between
+    pub met-accepted : Accepted (order_of t)
+    met-accepted = found-accepted met-order.0 (first_met e number) refl (order_of t) met-order.1
+      where
+        found-accepted : judge (estimate_rows limits e) ≡ accepted → (times : Found (List ℕ)) → first_met e number ≡ times →
+            (o : Order) → found o ≡ order_found e times → Accepted o
+        found-accepted ok nothing f o eq = let z : ◌≡◌ {A = ℕ} 0 1 = cc in absurd (omega arith)
+        found-accepted ok (found times) f o eq =
+            let same : o ≡ order_with e times = cc in
+            subst Accepted (sym same) (between-accepted e ok times (met-between e ok number times f))
 
-  -- it is accepted, since its times lie between
-  pub met-accepted : m.meeting ≡ Met → Accepted (order_of m.order)
-  met-accepted is =
-      let u = met-order is in
-      found-accepted u.0 (first_met e number) refl (order_of m.order) u.1
-    where
-      found-accepted : judge (estimate_rows limits e) ≡ accepted → (times : Found (List ℕ)) → first_met e number ≡ times → (o : Order) →
-          found o ≡ order_found e times → Accepted o
-      found-accepted ok nothing f o eq = let z : ◌≡◌ {A = ℕ} 0 1 = cc in absurd (omega arith)
-      found-accepted ok (found times) f o eq =
-          let same : o ≡ order_with e times = cc in
-          subst Accepted (sym same) (between-accepted e ok times (met-between e ok number times f))
-
--- the estimate and the number are told twice, as they were read and as they were lent
-pub met-moved : (m : OrderMet) (d e : Estimate) (read number : ℤ) → d ≡ e → read ≡ number → MetSays m d read → MetSays m e number
-met-moved m d e read number p q h =
-    subst (λ (z : ℤ). MetSays m e z) q (subst (λ (x : Estimate). MetSays m x read) p h)
+-- the answer, the estimate and the number are told twice, as they were read and as they were lent
+pub met-moved : (m m' : Result (Option OrderTable) Refusal) (d e : Estimate) (read number : ℤ) → m ≡ m' → d ≡ e → read ≡ number →
+    MetSays m d read → MetSays m' e number
+met-moved m m' d e read number o p q h =
+    subst (λ (x : Result (Option OrderTable) Refusal). MetSays x e number) o
+    (subst (λ (z : ℤ). MetSays m e z) q (subst (λ (x : Estimate). MetSays m x read) p h))
 
 -- row 9 alone
 no_bytes : (lent : ℕ) → judge (room_row lent 0 ∷ []) ≡ accepted
@@ -118,8 +111,7 @@ unfolding judge
 no_bytes lent = rw (le-ltb lent 0 (omega arith))
 
 -- the file of an accepted order is handed out: row 9 decides
-module _ (o : Order) (ok : Accepted o) (buffer buffer' : List ℕ) (w : OrderWritten) (t : WriteTold o buffer buffer' w)
-    (entry : List ℤ) where
+module _ (o : Order) (ok : Accepted o) (buffer buffer' : List ℕ) (entry : List ℤ) where
   abbrev room : Verdict
   room = judge (room_row (length buffer) (length (file_of o)) ∷ [])
 
@@ -129,17 +121,18 @@ module _ (o : Order) (ok : Accepted o) (buffer buffer' : List ℕ) (w : OrderWri
       judge-accepted-append (order_rows limits o) (room_row (length buffer) (file_length o) ∷ []) ok
       ∙ ap (λ (n : ℕ). judge (room_row (length buffer) n ∷ [])) (sym (file_of-length o))
 
-  pub handed-refused : (why : Refusal) → w ≡ NotWritten why → (result : ℕ) → result ≡ result_of (refusal_told why) →
+  pub handed-refused : (why : Refusal) → WriteTold o buffer buffer' (Err why) → (result : ℕ) → result ≡ result_of (refusal_told why) →
       HandedBy o buffer buffer' entry entry result
-  handed-refused why is result e =
-      let h = writer-refused o buffer buffer' w t why is in
+  handed-refused why t result e =
+      let h = writer-refused o buffer buffer' why t in
       let k = refused-told why in
       let v : room ≡ refused k.0 k.1 = sym room-decides ∙ (h.0 ∙ k.2) in
       rw v (e ∙ ap result_of k.2, h.1, tt, refl)
 
-  pub handed-done : (n : ℕ) → w ≡ Bytes n → (exit : List ℤ) → exit ≡ pos n ∷ drop 1 entry → HandedBy o buffer buffer' entry exit 0
-  handed-done n is exit e =
-      let h = writer-wrote o buffer buffer' w t n is in
+  pub handed-done : (n : ℕ) → WriteTold o buffer buffer' (Ok n) → (exit : List ℤ) → exit ≡ pos n ∷ drop 1 entry →
+      HandedBy o buffer buffer' entry exit 0
+  handed-done n t exit e =
+      let h = writer-wrote o buffer buffer' n t in
       let v : room ≡ accepted = sym room-decides ∙ h.0 in
       let back : ReadBackBy accepted o buffer' = subst (λ (v : Verdict). ReadBackBy v o buffer') h.0 h.3 in
       rw v (
@@ -173,17 +166,17 @@ module _ (v : Verdict) (met : Found Order) (buffer : List ℕ) (entry : List ℤ
       order-refused t.0 t.1 (e ∙ t.2) result (r ∙ ap result_of t.2)
 
 -- by what the entry point answers, where the call's rows are the estimate's and 9
-module _ (v : Verdict) (m : OrderMet) (e : Estimate) (number : ℤ) (h : MetSays m e number) (buffer : List ℕ)
+module _ (v : Verdict) (e : Estimate) (number : ℤ) (buffer : List ℕ)
     (called : v ≡ judge (estimate_rows limits e ++ (room_row (length buffer) (length (file_met (order_met e number))) ∷ [])))
     (entry : List ℤ) where
   abbrev rooms : Found Order → List TableRow
   rooms met = room_row (length buffer) (length (file_met met)) ∷ []
 
-  pub met-told : (why : Refusal) → m.meeting ≡ MeetingRefused why → (result : ℕ) → result ≡ result_of (refusal_told why) →
+  pub met-told : (why : Refusal) → MetSays (Err why) e number → (result : ℕ) → result ≡ result_of (refusal_told why) →
       OrderEnded v (order_met e number) buffer entry result buffer entry
-  met-told why is result r =
+  met-told why h result r =
       let t = refused-told why in
-      let u = met-refused m e number h why is in
+      let u = met-refused e number why h in
       order-told v (order_met e number) buffer entry why
       (called ∙ (judge-refused-append (estimate_rows limits e) (rooms (order_met e number)) t.0 t.1 (u ∙ t.2) ∙ sym t.2))
       result r
@@ -193,15 +186,15 @@ module _ (v : Verdict) (m : OrderMet) (e : Estimate) (number : ℤ) (h : MetSays
       called
       ∙ (judge-accepted-append (estimate_rows limits e) (rooms (order_met e number)) ok ∙ ap (λ (f : Found Order). judge (rooms f)) (sym is))
 
-  pub met-none : m.meeting ≡ Nowhere → (exit : List ℤ) → exit ≡ pos 0 ∷ drop 1 entry → OrderEnded v (order_met e number) buffer entry
-      0 buffer exit
-  met-none is exit x =
-      let u = met-nowhere m e number h is in
+  pub met-none : MetSays (Ok None) e number → (exit : List ℤ) → exit ≡ pos 0 ∷ drop 1 entry →
+      OrderEnded v (order_met e number) buffer entry 0 buffer exit
+  met-none h exit x =
+      let u = met-nowhere e number h in
       let w = nine-decides u.0 nothing u.1 ∙ no_bytes (length buffer) in
       rw (w, ← u.1) (refl, (refl, (tt, x)))
 
-  pub met-handed : m.meeting ≡ Met → (buffer' : List ℕ) (exit : List ℤ) (result : ℕ) →
-      HandedBy (order_of m.order) buffer buffer' entry exit result → OrderEnded v (order_met e number) buffer entry result buffer' exit
-  met-handed is buffer' exit result g =
-      let u = met-order m e number h is in
-      rw (nine-decides u.0 (found (order_of m.order)) u.1, ← u.1) (g.0, (g.1, (g.2, g.3)))
+  pub met-handed : (t : OrderTable) → MetSays (Ok (Some t)) e number → (buffer' : List ℕ) (exit : List ℤ) (result : ℕ) →
+      HandedBy (order_of t) buffer buffer' entry exit result → OrderEnded v (order_met e number) buffer entry result buffer' exit
+  met-handed t h buffer' exit result g =
+      let u = met-order e number t h in
+      rw (nine-decides u.0 (found (order_of t)) u.1, ← u.1) (g.0, (g.1, (g.2, g.3)))

@@ -1,5 +1,6 @@
 -- A refusal of an order carries at most 48, the number of one of its jobs or processors; one of a table of needs a length, or a place
 -- in the list.
+use Rattle.std.specs.Prelude.{Result, Err}
 use Prim.Native.Nat.{ℕ, suc, ◌+◌, ◌/◌, ◌≤◌}
 use mathlib.Core.Path.{◌≡◌, refl, subst}
 use mathlib.Core.Bool.{Bool, true, false, cond, not}
@@ -19,6 +20,7 @@ use Rattle.order.specs.Refusals.{
   holds,
   verdict_of,
   judge,
+  answer_by,
   row,
   whole,
   first_after,
@@ -29,8 +31,12 @@ use Rattle.order.specs.Refusals.{
   bound_row,
 }
 use Rattle.order.proofs.RefusalLaws.{judge-accepted-append, judge-refused-append, counts-in-limits, accepted-iff}
-use Rattle.order.specs.Table.{carried_by}
+use Rattle.order.specs.Table.{refusal_told, carried_by}
+use Rattle.order.specs.declared.Order.{Order as OrderTable}
+use Rattle.order.specs.declared.Refusal.{Refusal}
 use Rattle.order_file.specs.File.{good_file, order_in, read_rows, file_length, write_rows}
+use Rattle.order_file.specs.ReaderLaws.{reader-refused}
+use Rattle.order_file.specs.Told.{read_told}
 use Rattle.plan.specs.Check.{check_rows}
 use Rattle.profile.specs.Search.{reason_of}
 use Rattle.reason.specs.declared.Why.{Why}
@@ -117,6 +123,11 @@ order-carries o = counted-carries (processor_count o) (job_count o) (job_rows o)
 pub read-carries : (f : List ℕ) → carried_by (judge (read_rows f)) ≤ 48
 unfolding read_rows
 read-carries f = whole_carries 12 48 (not (good_file f)) _ (order-carries (order_in f))
+
+-- the reader's refusal carries few
+pub reader_carries : (f : List ℕ) (r : Result OrderTable Refusal) → read_told r ≡ answer_by (judge (read_rows f)) (order_in f) →
+    (why : Refusal) → r ≡ Err why → carried_by (refusal_told why) ≤ 16777215
+reader_carries f r e why is = carried-few _ _ (reader-refused f r e why is) (read-carries f)
 
 pub least-carries : (o : Order) (n : ℕ) → carried_by (judge (least_rows o n)) ≤ 48
 unfolding least_rows

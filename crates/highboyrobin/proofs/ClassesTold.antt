@@ -1,4 +1,5 @@
 -- What hbr_classes leaves behind: pairs stored one after the other, and the classes that they tell.
+use Rattle.std.specs.Prelude.{Result, Ok}
 use Prim.Native.Nat.{ℕ, zero, suc, ◌+◌, ◌*◌, ◌≤◌, ◌<◌}
 use mathlib.Core.Path.{◌≡◌, refl, sym, ap, ◌∙◌, subst}
 use mathlib.Core.List.{List, [], ◌∷◌, ◌++◌}
@@ -11,15 +12,22 @@ use Rattle.sums.specs.Places.{get_d_tabulate}
 use Rattle.order.specs.Order.{Order, processor_count}
 use Rattle.order.specs.Class.{classes, memory_of_class, processors_in}
 use Rattle.order.proofs.ClassLaws.{classes-few}
-use Rattle.order.specs.Refusals.{Verdict, accepted, refused, left_by}
-use Rattle.order.specs.Table.{refusal_told}
+use Rattle.order.specs.Refusals.{Verdict, accepted, refused, judge, answer_by, left_by}
+use Rattle.order.proofs.RefusalLaws.{accepted-iff}
+use Rattle.order.proofs.StructLaws.{few-processors}
+use Rattle.order.specs.Table.{order_of, refusal_told}
+use Rattle.order.specs.declared.Order.{Order as OrderTable}
 use Rattle.order.proofs.TableLaws.{refused-told}
 use Rattle.order.specs.declared.Refusal.{Refusal}
+use Rattle.order_file.specs.File.{order_in, read_rows}
+use Rattle.order_file.specs.Told.{read_told}
+use Rattle.table.specs.ClassRows.{few-listed}
 use Rattle.table.specs.Passed.{listing}
 use Rattle.table.specs.declared.Listing.{Listing}
 use Rattle.highboyrobin.specs.ClassCalls.{pairs_to, class_count, class_pairs}
 use Rattle.highboyrobin.specs.ClassCallLaws.{pairs-length}
 use Rattle.highboyrobin.specs.Results.{result_of}
+use Rattle.highboyrobin.proofs.Calling.{read_accepted}
 
 module _ (f g : ℕ → ℕ) where
   pub none-paired : (s : List ℕ) → s ≡ pairs_to f g 0 ++ drop (2 * 0) s
@@ -66,6 +74,15 @@ classes-paired o few l e =
     (λ i b. get_d_tabulate 16 (λ i. get_or (classes o) i 0) 0 i (omega (arith, classes-few o)))
     (λ i b. get_d_tabulate 16 (λ i. processors_in o (suc i)) 0 i (omega (arith, classes-few o)))
 
+-- an order that was read has few processors, and few classes are listed of it
+module _ (f : List ℕ) (r : Result OrderTable Refusal) (e : read_told r ≡ answer_by (judge (read_rows f)) (order_in f)) (t : OrderTable)
+    (is : r ≡ Ok t) where
+  pub read_few : t.processors ≤ 16
+  read_few = few-processors t (read_accepted f r e t is)
+
+  pub listed_few : (l : Listing) → l ≡ listing (order_of t) → l.count ≤ 16
+  listed_few = few-listed (order_of t) ((accepted-iff (order_of t)).0 (read_accepted f r e t is)).few-processors
+
 -- result, list and answer, by the verdict
 module _ (v : Verdict) (o : Order) (list : List ℕ) (entry : List ℤ) where
   abbrev pub ClassesEnded : ℕ → List ℕ → List ℤ → Type 0
@@ -73,7 +90,7 @@ module _ (v : Verdict) (o : Order) (list : List ℕ) (entry : List ℤ) where
       (result ≡ result_of v)
       × ((list' ≡ left_by v (class_pairs o) list) × (exit ≡ left_by v (pos (class_count o) ∷ []) entry))
 
-  pub classes-refused : (number job : ℕ) → v ≡ refused number job → ClassesEnded (number + 256 * job) list entry
+  classes-refused : (number job : ℕ) → v ≡ refused number job → ClassesEnded (number + 256 * job) list entry
   classes-refused number job e = rw e (refl, (refl, refl))
 
   pub classes-why : (why : Refusal) → v ≡ refusal_told why → (result : ℕ) → result ≡ result_of (refusal_told why) →

@@ -1,5 +1,6 @@
 -- How hbr_write comes to its verdict: the answer's room, whole jobs, then the writer; lists that are too long for the writer's
 -- struct are refused as its table refuses them.
+use Rattle.std.specs.Prelude.{Result, Ok, Err}
 use Prim.Native.Nat.{ℕ, ◌+◌, ◌*◌, ◌/◌, ◌%◌, ◌≤◌, ◌<◌}
 use mathlib.Core.Path.{◌≡◌, refl, sym, ap, ◌∙◌, subst}
 use mathlib.Core.Logic.{◌≢◌}
@@ -7,7 +8,7 @@ use mathlib.Core.List.{List, [], ◌∷◌, ◌++◌}
 use native.Mathlib.Omega.{arith}
 use borrow.Author.Tests.{lt-ltb, le-ltb, eq-eqb, ne_eqb}
 use lib.IntN.{ℤ, pos}
-use lib.ListN.{length, drop}
+use lib.ListN.{length}
 use Rattle.sums.specs.Places.{length-tabulate}
 use Rattle.order.specs.Order.{Order, processor_count, job_count}
 use Rattle.order.specs.Refusals.{limits, Verdict, accepted, refused, judge, answer_by, left_by, room_row, count_rows, order_rows}
@@ -16,8 +17,6 @@ use Rattle.order.specs.Table.{refusal_told}
 use Rattle.order.specs.declared.Refusal.{Refusal}
 use Rattle.order_file.specs.File.{file_length, write_rows, written_by, ReadBackBy}
 use Rattle.order_file.specs.Told.{written_told}
-use Rattle.order_file.specs.declared.OrderWritten.{OrderWritten}
-use Rattle.order_file.specs.declared.OrderWritten.TheVariants.{Bytes, Refused}
 use Rattle.highboyrobin.specs.Results.{result_of}
 use Rattle.highboyrobin.specs.Calls.{order_from, write_call}
 use Rattle.order.proofs.TableLaws.{refused-told, verdict-refused, verdict-accepted}
@@ -39,26 +38,14 @@ module _ (v : Verdict) (o : Order) (file : List ℕ) (entry : List ℤ) where
       let t = refused-told why in
       subst (λ (n : ℕ). WriteEnded n file' entry) (sym (r ∙ ap result_of t.2)) (write-refused t.0 t.1 (e ∙ t.2) file' k)
 
-  pub write_done : (u : Verdict) → v ≡ u → u ≡ accepted → (file' : List ℕ) → file' ≡ written_by u o file →
-      ReadBackBy u o file' → (exit : List ℤ) → exit ≡ pos (file_length o) ∷ drop 1 entry → WriteEnded 0 file' exit
-  write_done u d e file' f b exit x = rw d (rw e refl, (f, (b, x ∙ rw e refl)))
-
 -- the rows before the writer's
 module _ (memories jobs : List ℕ) (lent answer : ℕ) where
   abbrev v : Verdict
   v = judge (write_call memories jobs lent answer)
 
-  pub answer-short : answer < 1 → v ≡ refused 255 0
-  unfolding judge write_call
-  answer-short h = rw (lt-ltb answer 1 h)
-
   module _ (room : 1 ≤ answer) where
-    pub part-job : length jobs % 4 ≢ 0 → v ≡ refused 254 0
-    unfolding judge write_call
-    part-job h = rw (le-ltb answer 1 room, ne_eqb (length jobs % 4) 0 h)
-
     module _ (whole-jobs : length jobs % 4 ≡ 0) where
-      pub writer-decides : v ≡ judge (write_rows (order_from memories jobs) lent)
+      writer-decides : v ≡ judge (write_rows (order_from memories jobs) lent)
       unfolding judge write_call
       writer-decides = rw (le-ltb answer 1 room, eq-eqb (length jobs % 4) 0 whole-jobs)
 
@@ -83,31 +70,30 @@ module _ (memories jobs : List ℕ) (lent answer : ℕ) where
           )
 
 -- what the writer's answer says, of the struct's order and of the lists'
-abbrev pub WriteTold : Order → List ℕ → List ℕ → OrderWritten → Type 0
+abbrev pub WriteTold : Order → List ℕ → List ℕ → Result ℕ Refusal → Type 0
 WriteTold o file file' w =
     (written_told w ≡ answer_by (judge (write_rows o (length file))) (file_length o))
     × ((file' ≡ written_by (judge (write_rows o (length file))) o file) × ReadBackBy (judge (write_rows o (length file))) o file')
 
-pub write-moved : (o o' : Order) (file file' : List ℕ) (w : OrderWritten) → o ≡ o' → WriteTold o file file' w → WriteTold o' file file' w
+pub write-moved : (o o' : Order) (file file' : List ℕ) (w : Result ℕ Refusal) → o ≡ o' → WriteTold o file file' w →
+    WriteTold o' file file' w
 write-moved o o' file file' w e t = subst (λ (x : Order). WriteTold x file file' w) e t
 
-module _ (o : Order) (file file' : List ℕ) (w : OrderWritten) (t : WriteTold o file file' w) where
+module _ (o : Order) (file file' : List ℕ) where
   abbrev told : Verdict
   told = judge (write_rows o (length file))
 
-  pub writer-refused : (why : Refusal) → w ≡ Refused why → (told ≡ refusal_told why) × (file' ≡ file)
-  writer-refused why e =
-      let u = subst (WriteTold o file file') e t in
-      let x = verdict-refused told why 0 (file_length o) u.0 in
+  pub writer-refused : (why : Refusal) → WriteTold o file file' (Err why) → (told ≡ refusal_told why) × (file' ≡ file)
+  writer-refused why t =
+      let x = verdict-refused told why 0 (file_length o) t.0 in
       let r = refused-told why in
-      (x, u.1.0 ∙ ap (λ (v : Verdict). written_by v o file) (x ∙ r.2))
+      (x, t.1.0 ∙ ap (λ (v : Verdict). written_by v o file) (x ∙ r.2))
 
-  pub writer-wrote : (n : ℕ) → w ≡ Bytes n →
+  pub writer-wrote : (n : ℕ) → WriteTold o file file' (Ok n) →
       (told ≡ accepted) × (n ≡ file_length o) × (file' ≡ written_by told o file) × ReadBackBy told o file'
-  writer-wrote n e =
-      let u = subst (WriteTold o file file') e t in
-      let x = verdict-accepted told n (file_length o) u.0 in
-      (x.0, x.1, u.1.0, u.1.1)
+  writer-wrote n t =
+      let x = verdict-accepted told n (file_length o) t.0 in
+      (x.0, x.1, t.1.0, t.1.1)
 
 -- a file that is written is short: its order is accepted
 pub file-few : (o : Order) (n : ℕ) → judge (write_rows o n) ≡ accepted → file_length o ≤ 844

@@ -1,17 +1,16 @@
 -- How a call by the caller's limits comes to its verdict: the answer's room, the length of a lent list, the trailer, then the dock's call.
-use Prim.Native.Nat.{ℕ, ◌≤◌, ◌<◌}
+use Rattle.std.specs.Prelude.{Ok, Err}
+use Prim.Native.Nat.{ℕ, ◌≤◌}
 use mathlib.Core.Path.{◌≡◌, refl, sym, ap, ◌∙◌, subst}
 use mathlib.Core.Bool.{not}
 use mathlib.Core.List.{List, [], ◌∷◌, ◌++◌}
-use borrow.Author.Tests.{lt-ltb, le-ltb}
+use borrow.Author.Tests.{le-ltb}
 use lib.IntN.{ℤ}
 use Rattle.order.specs.Order.{Order, processor_count, job_count}
-use Rattle.order.specs.Refusals.{limits, TableRow, Verdict, refused, judge, job_rows, order_rows}
+use Rattle.order.specs.Refusals.{limits, TableRow, Verdict, judge, job_rows, order_rows}
 use Rattle.order.proofs.RefusalLaws.{judge-clear}
 use Rattle.order.specs.Callers.{limits_of, rows_by, rows_for}
-use Rattle.order.specs.Table.{refusal_told, acceptance_told, carried_by}
-use Rattle.order.specs.declared.Acceptance.{Acceptance}
-use Rattle.order.specs.declared.Acceptance.TheVariants.{Accepted, Refused}
+use Rattle.order.specs.Table.{Acceptance, refusal_told, acceptance_told, carried_by}
 use Rattle.order.specs.declared.Caller.{Caller}
 use Rattle.order.specs.declared.Refusal.{Refusal}
 use Rattle.order_file.specs.File.{good_file, order_in}
@@ -26,19 +25,15 @@ use Rattle.highboyrobin.proofs.Carried.{whole_carries, count-carries, carried-fe
 
 module _ (caller : Caller) (f : List ℕ) where
   -- a trailer's refusal carries nothing
-  pub trailer-carries : (a : Acceptance) → acceptance_told a ≡ judge (trailer_rows (limits_of caller) f) → (why : Refusal) →
-      a ≡ Refused why → carried_by (refusal_told why) ≤ 16777215
-  trailer-carries a e why is =
+  pub trailer_carries : (a : Acceptance) → acceptance_told a ≡ judge (trailer_rows (limits_of caller) f) → (why : Refusal) →
+      a ≡ Err why → carried_by (refusal_told why) ≤ 16777215
+  trailer_carries a e why is =
       carried-few _ _ (sym e ∙ ap acceptance_told is)
       (whole_carries 12 48 (not (good_file f)) _ (count-carries (limits_of caller) (processor_count (order_in f)) (job_count (order_in f))))
 
   module _ (lent asked : ℕ) where
-    pub for-short : (rows : List TableRow) → lent < asked → judge (rows_for caller (order_in f) (file_call lent asked f rows)) ≡ refused 255 0
-    unfolding judge rows_by file_call
-    for-short rows h = rw (lt-ltb lent asked h)
-
     pub for-refused : asked ≤ lent → (a : Acceptance) → acceptance_told a ≡ judge (trailer_rows (limits_of caller) f) → (why : Refusal) →
-        a ≡ Refused why → (rows later : List TableRow) → rows ≡ order_rows limits (order_in f) ++ later →
+        a ≡ Err why → (rows later : List TableRow) → rows ≡ order_rows limits (order_in f) ++ later →
         judge (rows_for caller (order_in f) (file_call lent asked f rows)) ≡ refusal_told why
     unfolding rows_by file_call
     for-refused room a e why is rows later begins =
@@ -50,16 +45,8 @@ module _ (caller : Caller) (f : List ℕ) where
       abbrev table : List TableRow → List TableRow
       table rows = rows_for caller (order_in f) (list_call lent asked numbers wanted f rows)
 
-      pub for-list-short : (rows : List TableRow) → lent < asked → judge (table rows) ≡ refused 255 0
-      unfolding judge rows_by list_call
-      for-list-short rows h = rw (lt-ltb lent asked h)
-
-      pub for-few : (rows : List TableRow) → asked ≤ lent → numbers < wanted → judge (table rows) ≡ refused 253 0
-      unfolding judge rows_by list_call
-      for-few rows room h = rw (le-ltb lent asked room, lt-ltb numbers wanted h)
-
       pub for-list-refused : asked ≤ lent → wanted ≤ numbers → (a : Acceptance) →
-          acceptance_told a ≡ judge (trailer_rows (limits_of caller) f) → (why : Refusal) → a ≡ Refused why →
+          acceptance_told a ≡ judge (trailer_rows (limits_of caller) f) → (why : Refusal) → a ≡ Err why →
           (rows later : List TableRow) → rows ≡ order_rows limits (order_in f) ++ later → judge (table rows) ≡ refusal_told why
       unfolding rows_by list_call
       for-list-refused room enough a e why is rows later begins =
@@ -82,7 +69,7 @@ ClassesBy o list entry result list' exit v = ClassesEnded v o list entry result 
 
 -- the dock's own reply, where the trailer is accepted
 module _ (caller : Caller) (f : List ℕ) (a : Acceptance) (e : acceptance_told a ≡ judge (trailer_rows (limits_of caller) f))
-    (is : a ≡ Accepted) where
+    (is : a ≡ Ok tt) where
   pub same-replies : (P : Verdict → Type 0) {rows : List TableRow} → ItselfIn f rows → P (judge rows) →
       P (judge (rows_for caller (order_in f) rows))
   same-replies P {rows} itself p = subst P (sym (trailer-passed caller f a e is rows itself)) p

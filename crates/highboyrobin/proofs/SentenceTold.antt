@@ -1,4 +1,5 @@
 -- What hbr_sentence and hbr_parse leave behind, by the table's verdict and by what composing and reading back answer.
+use Rattle.std.specs.Prelude.{Result, Ok, Err, IfOk}
 use Prim.Native.Nat.{ℕ, ◌+◌, ◌*◌, ◌≤◌}
 use mathlib.Core.Path.{◌≡◌, refl, sym, ap, ◌∙◌, subst}
 use mathlib.Core.List.{List, [], ◌∷◌, ◌++◌}
@@ -6,18 +7,14 @@ use lib.IntN.{ℤ, pos}
 use lib.ListN.{length, drop}
 use Rattle.order.specs.Order.{Order}
 use Rattle.order.specs.Refusals.{limits, Verdict, accepted, refused, judge, answer_by, left_by, order_rows, bound_row, room_row}
-use Rattle.order.specs.Table.{refusal_told, acceptance_told}
+use Rattle.order.specs.Table.{refusal_told}
 use Rattle.order.proofs.TableLaws.{refused-told, verdict-refused, verdict-accepted}
-use Rattle.order.specs.declared.Acceptance.{Acceptance}
-use Rattle.order.specs.declared.Acceptance.TheVariants.{Accepted as Accepts, Refused as Refuses}
 use Rattle.order.specs.declared.Refusal.{Refusal}
 use Rattle.reason.specs.Told.{why_of}
 use Rattle.reason.specs.declared.Why.{Why}
 use Rattle.sentence.specs.Handed.{handed}
 use Rattle.sentence.specs.Line.{composed, read_back}
-use Rattle.sentence.specs.Told.{compose_rows, composed_told, length_told, read_rows as line_rows, recovered_by}
-use Rattle.sentence.specs.declared.Composed.{Composed}
-use Rattle.sentence.specs.declared.Composed.TheVariants.{Length, Refused}
+use Rattle.sentence.specs.Told.{compose_rows, composed_told, length_told, read_rows as line_rows, recovered_told}
 use Rattle.highboyrobin.specs.Results.{result_of}
 
 -- what hbr_sentence leaves behind
@@ -26,7 +23,7 @@ module _ (v : Verdict) (text line : List ℕ) (answer : List ℤ) where
   SentenceEnded result line' answer' =
       (result ≡ result_of v) × ((line' ≡ left_by v text line) × (answer' ≡ left_by v (pos (length text) ∷ []) answer))
 
-  pub sentence-refused : (number job : ℕ) → v ≡ refused number job → (line' : List ℕ) → line' ≡ line →
+  sentence-refused : (number job : ℕ) → v ≡ refused number job → (line' : List ℕ) → line' ≡ line →
       SentenceEnded (number + 256 * job) line' answer
   sentence-refused number job e line' k = rw e (refl, (k, refl))
 
@@ -48,63 +45,46 @@ unfolding compose_rows
 compose-begins o bound why lent = refl
 
 -- what composing answers, for the order that was read and the bound as the machine reads it back
-abbrev pub ComposeTold : Order → ℤ → Why → List ℕ → List ℕ → Composed → Type 0
+abbrev pub ComposeTold : Order → ℤ → Why → List ℕ → List ℕ → Result ℕ Refusal → Type 0
 ComposeTold o bound why line line' c =
     (composed_told c ≡ answer_by (judge (compose_rows o bound why (length line))) (length (composed o bound (handed o why))))
     × ((line' ≡ left_by (judge (compose_rows o bound why (length line))) (composed o bound (handed o why)) line)
     × (length_told c ≤ 598))
 
-pub compose-moved : (o o' : Order) (read bound : ℤ) (why why' : Why) (line line' : List ℕ) (c : Composed) → o ≡ o' → read ≡ bound →
-    why ≡ why' → ComposeTold o read why line line' c → ComposeTold o' bound why' line line' c
+pub compose-moved : (o o' : Order) (read bound : ℤ) (why why' : Why) (line line' : List ℕ) (c : Result ℕ Refusal) → o ≡ o' →
+    read ≡ bound → why ≡ why' → ComposeTold o read why line line' c → ComposeTold o' bound why' line line' c
 compose-moved o o' read bound why why' line line' c e f g t =
     subst (λ (w : Why). ComposeTold o' bound w line line' c) g
     (subst (λ (z : ℤ). ComposeTold o' z why line line' c) f (subst (λ (x : Order). ComposeTold x read why line line' c) e t))
 
-module _ (o : Order) (bound : ℤ) (why : Why) (line line' : List ℕ) (c : Composed) (t : ComposeTold o bound why line line' c) where
+module _ (o : Order) (bound : ℤ) (why : Why) (line line' : List ℕ) where
   abbrev v : Verdict
   v = judge (compose_rows o bound why (length line))
 
   abbrev text : List ℕ
   text = composed o bound (handed o why)
 
-  kept : (number job : ℕ) → v ≡ refused number job → line' ≡ line
-  kept number job e = t.1.0 ∙ ap (λ (w : Verdict). left_by w text line) e
-
-  pub compose-refused : (r : Refusal) → c ≡ Refused r → (v ≡ refusal_told r) × (line' ≡ line)
-  compose-refused r e =
-      let w = verdict-refused v r 0 (length text) (sym (ap composed_told e) ∙ t.0) in
+  pub compose-refused : (r : Refusal) → ComposeTold o bound why line line' (Err r) → (v ≡ refusal_told r) × (line' ≡ line)
+  compose-refused r t =
+      let w = verdict-refused v r 0 (length text) t.0 in
       let k = refused-told r in
-      (w, kept k.0 k.1 (w ∙ k.2))
+      (w, t.1.0 ∙ ap (λ (x : Verdict). left_by x text line) (w ∙ k.2))
 
-  pub compose-wrote : (n : ℕ) → c ≡ Length n →
+  pub compose-wrote : (n : ℕ) → ComposeTold o bound why line line' (Ok n) →
       (v ≡ accepted) × (n ≡ length text) × (line' ≡ text ++ drop (length text) line) × (n ≤ 598)
-  compose-wrote n e =
-      let w = verdict-accepted v n (length text) (sym (ap composed_told e) ∙ t.0) in (
-        w.0,
-        w.1,
-        t.1.0 ∙ ap (λ (x : Verdict). left_by x text line) w.0,
-        subst (λ (x : Composed). length_told x ≤ 598) e
-            t.1.1,
-      )
+  compose-wrote n t =
+      let w = verdict-accepted v n (length text) t.0 in
+      (w.0, w.1, t.1.0 ∙ ap (λ (x : Verdict). left_by x text line) w.0, t.1.1)
 
 -- what reading back answers
-abbrev pub BackTold : Order → ℤ → List ℕ → Acceptance → Why → Type 0
-BackTold o bound line status why =
-    (acceptance_told status ≡ judge (line_rows o bound)) × (why ≡ recovered_by (judge (line_rows o bound)) o bound line)
+abbrev pub BackTold : Order → ℤ → List ℕ → Result Why Refusal → Type 0
+BackTold o bound line r =
+    (recovered_told r ≡ judge (line_rows o bound)) × IfOk r (λ why. why ≡ why_of o (read_back o bound line))
 
-pub back-moved : (o o' : Order) (read bound : ℤ) (line : List ℕ) (status : Acceptance) (why : Why) → o ≡ o' → read ≡ bound →
-    BackTold o read line status why → BackTold o' bound line status why
-back-moved o o' read bound line status why e f t =
-    subst (λ (z : ℤ). BackTold o' z line status why) f (subst (λ (x : Order). BackTold x read line status why) e t)
-
-module _ (o : Order) (bound : ℤ) (line : List ℕ) (status : Acceptance) (why : Why) (t : BackTold o bound line status why) where
-  pub back-refused : (r : Refusal) → status ≡ Refuses r → judge (line_rows o bound) ≡ refusal_told r
-  back-refused r e = sym t.0 ∙ ap acceptance_told e
-
-  pub back_read : status ≡ Accepts → (judge (line_rows o bound) ≡ accepted) × (why ≡ why_of o (read_back o bound line))
-  back_read e =
-      let w : judge (line_rows o bound) ≡ accepted = sym t.0 ∙ ap acceptance_told e in
-      (w, t.1 ∙ ap (λ (x : Verdict). recovered_by x o bound line) w)
+pub back-moved : (o o' : Order) (read bound : ℤ) (line : List ℕ) (r : Result Why Refusal) → o ≡ o' → read ≡ bound →
+    BackTold o read line r → BackTold o' bound line r
+back-moved o o' read bound line r e f t =
+    subst (λ (z : ℤ). BackTold o' z line r) f (subst (λ (x : Order). BackTold x read line r) e t)
 
 -- its table begins with the order's rows
 pub back-begins : (o : Order) (bound : ℤ) → line_rows o bound ≡ order_rows limits o ++ (bound_row bound ∷ [])

@@ -1,41 +1,45 @@
 -- How a call with times comes to its verdict: the answer's room, the file, the lists' lengths and the order, then the entry point.
+use Rattle.std.specs.Prelude.{Ok, Err}
 use Prim.Native.Nat.{ℕ, ◌≤◌}
-use mathlib.Core.Path.{◌≡◌, refl, ap, ◌∙◌}
+use mathlib.Core.Path.{◌≡◌, refl, ap, ◌∙◌, subst}
 use mathlib.Core.List.{List, [], ◌∷◌, ◌++◌}
 use borrow.Author.Tests.{ltb-false}
+use lib.IntN.{ℤ}
 use lib.ListN.{length}
-use Rattle.order.specs.Refusals.{limits, clear, TableRow, accepted, refused, judge, order_rows, file_row, Accepted}
+use Rattle.order.specs.Order.{Order}
+use Rattle.order.specs.Refusals.{limits, clear, TableRow, Verdict, accepted, refused, judge, order_rows, file_row, Accepted}
 use Rattle.order.proofs.RefusalLaws.{judge-accepted, judge-clear, judge-refused-append, whole-clear}
 use Rattle.order.specs.Table.{order_of}
+use Rattle.order.specs.declared.Order.{Order as OrderTable}
 use Rattle.order_file.specs.File.{good_file, order_in}
 use Rattle.sums.specs.Lists.{All}
+use Rattle.wrap.specs.FrameAt.{Times}
 use Rattle.timed.specs.Times.{times_of}
+use Rattle.timed.specs.declared.Times.{Times as TimesTable}
 use Rattle.highboyrobin.specs.Results.{result_of, answer_row}
 use Rattle.highboyrobin.specs.TimedCalls.{times_from, times_in, wrong_times_row, timed_call, ReadBy}
-use Rattle.highboyrobin.specs.declared.TimedRead.{TimedRead}
-use Rattle.highboyrobin.specs.declared.ReadStatus.TheVariants.{Refused, Read}
 use Rattle.highboyrobin.proofs.StatusTold.{status-refused, status-read}
 
-module _ (lent : ℕ) (f ready windows : List ℕ) (r : TimedRead) where
+module _ (lent : ℕ) (f ready windows : List ℕ) where
   abbrev call : List TableRow → List TableRow
   call rows = timed_call lent f ready windows rows
 
   abbrev ordered : List TableRow
   ordered = order_rows limits (order_in f)
 
-  abbrev pub Reads : Type 0
-  Reads = ReadBy (judge (timed_call lent f ready windows (order_rows limits (order_in f)))) f ready windows r
+  abbrev read : Verdict
+  read = judge (timed_call lent f ready windows (order_rows limits (order_in f)))
 
   call-append : (rows later : List TableRow) → call (rows ++ later) ≡ call rows ++ later
   unfolding timed_call
   call-append rows later = refl
 
   -- what is refused by the first rows is the call's, since its rows begin with the order's
-  pub timed-refused : Reads → (rows later : List TableRow) → rows ≡ order_rows limits (order_in f) ++ later → (result : ℕ) →
-      r.status ≡ Refused result →
+  pub timed-refused : (result : ℕ) → ReadBy read f ready windows (Err result) → (rows later : List TableRow) →
+      rows ≡ order_rows limits (order_in f) ++ later →
       (k : ℕ) × (c : ℕ) × (judge (timed_call lent f ready windows rows) ≡ refused k c) × (result ≡ result_of (refused k c))
-  timed-refused h rows later begins result is =
-      let w = status-refused (judge (call ordered)) r.status _ h result is in (
+  timed-refused result h rows later begins =
+      let w = status-refused read (Err result) _ h result refl in (
         w.0,
         w.1,
         ap (λ (xs : List TableRow). judge (call xs)) begins ∙ ap judge (call-append ordered later)
@@ -43,15 +47,16 @@ module _ (lent : ℕ) (f ready windows : List ℕ) (r : TimedRead) where
         w.3,
       )
 
-  module _ (h : Reads) (is : r.status ≡ Read) where
-    accepts : (judge (call ordered) ≡ accepted) × ((order_of r.order ≡ order_in f) × (r.times ≡ times_from ready windows))
-    accepts = status-read (judge (call ordered)) r.status _ h is
+  module _ (r : OrderTable × TimesTable) (h : ReadBy read f ready windows (Ok r)) where
+    accepts : (read ≡ accepted) × ((order_of r.0 ≡ order_in f) × (r.1 ≡ times_from ready windows))
+    accepts = status-read read (Ok r) _ h r refl
 
-    pub timed-order : order_of r.order ≡ order_in f
-    timed-order = accepts.1.0
-
-    pub timed-times : times_of r.times ≡ times_in ready windows
-    timed-times = ap times_of accepts.1.1
+    -- what is told of the order, the bound and the times as they were read holds of them as they were lent
+    pub timed-told : (P : Order → ℤ → Times → Type 0) (read bound : ℤ) → read ≡ bound → P (order_of r.0) read (times_of r.1) →
+        P (order_in f) bound (times_in ready windows)
+    timed-told P read bound e p =
+        subst (λ (x : Times). P (order_in f) bound x) (ap times_of accepts.1.1)
+        (subst (λ (z : ℤ). P (order_in f) z (times_of r.1)) e (subst (λ (x : Order). P x read (times_of r.1)) accepts.1.0 p))
 
     all-clear : All (λ (x : TableRow). x.finding ≡ clear) (call ordered)
     all-clear = (judge-accepted (call ordered)).0 accepts.0

@@ -1,7 +1,8 @@
 -- What the answers of the timed planner, its check and its count of rows say of the verdict and of the lent rows.
+use Rattle.std.specs.Prelude.{Option, Some, None, Result, Ok, Err}
 use Prim.Native.Nat.{ℕ, suc, ◌+◌, ◌-◌, ◌*◌, ◌≤◌}
 use mathlib.Core.Path.{◌≡◌, refl, ap, ◌∙◌, subst}
-use mathlib.Core.Bool.{true, false}
+use mathlib.Core.Bool.{Bool, false}
 use mathlib.Core.List.{List, [], ◌∷◌, ◌++◌, map, append_assoc}
 use native.Mathlib.Omega.{arith}
 use native.Mathlib.Nat.{mul-le-mul_left, mul-le-mul_right}
@@ -30,8 +31,6 @@ use Rattle.order.specs.Table.{refusal_told}
 use Rattle.order.proofs.TableLaws.{refused-told, refused-by, verdict-refused, verdict-accepted}
 use Rattle.order.specs.declared.Refusal.{Refusal}
 use Rattle.plan.specs.Told.{checked_told}
-use Rattle.plan.specs.declared.Checked.{Checked}
-use Rattle.plan.specs.declared.Checked.TheVariants.{Yes, No, Refused as CheckRefused}
 use Rattle.wrap.specs.FrameAt.{Times}
 use Rattle.wrap.proofs.Joined.{joined-count-in}
 use Rattle.timed.proofs.ChangeLaws.{timed-rising}
@@ -40,10 +39,6 @@ use Rattle.timed.specs.Check.{is_right_timed}
 use Rattle.timed.specs.Rows.{asked_rows, timed_buffer, earlier_timed, timed_rows, none_timed, most_timed_rows, timed_check_rows}
 use Rattle.timed.specs.Times.{ready_row, window_row}
 use Rattle.timed.specs.Written.{TimedWritten, TimedBufferBy, timed_told, timed_count, asked_told}
-use Rattle.timed.specs.declared.TimedPlan.{TimedPlan}
-use Rattle.timed.specs.declared.TimedPlan.TheVariants.{Rows, Tight, Refused}
-use Rattle.timed.specs.declared.TimedRows.{TimedRows}
-use Rattle.timed.specs.declared.TimedRows.TheVariants.{Rows as Asked, Refused as AskedRefused}
 
 -- the three tables begin with the order's rows
 module _ (o : Order) (bound : ℤ) (t : Times) where
@@ -69,52 +64,37 @@ module _ (o : Order) (bound : ℤ) (t : Times) where
   timed-check-begins n =
       append_assoc (order_rows limits o) (ready_row o t ∷ window_row o t ∷ bound_row bound ∷ []) (rows_up_to_row most_timed_rows n ∷ [])
 
--- the order, the bound and the times are told twice, as they were read and as they were lent
-pub told_moved : (P : Order → ℤ → Times → Type 0) (o o' : Order) (read bound : ℤ) (t t' : Times) → o ≡ o' → read ≡ bound →
-    t ≡ t' → P o read t → P o' bound t'
-told_moved P o o' read bound t t' d e f p =
-    subst (λ (x : Times). P o' bound x) f (subst (λ (z : ℤ). P o' z t) e (subst (λ (x : Order). P x read t) d p))
-
 -- the count of rows
-abbrev pub AskedTold : TimedRows → Order → ℤ → Times → Type 0
+abbrev pub AskedTold : Result ℕ Refusal → Order → ℤ → Times → Type 0
 AskedTold a o bound t = asked_told a ≡ answer_by (judge (asked_rows o bound t)) (timed_rows_asked o bound t)
 
-module _ (a : TimedRows) (o : Order) (bound : ℤ) (t : Times) (h : AskedTold a o bound t) where
-  pub asked-refused : (why : Refusal) → a ≡ AskedRefused why → judge (asked_rows o bound t) ≡ refusal_told why
-  asked-refused why e =
-      verdict-refused _ why 0 (timed_rows_asked o bound t) (subst (λ (a : TimedRows). AskedTold a o bound t) e h)
+module _ (o : Order) (bound : ℤ) (t : Times) where
+  pub asked-refused : (why : Refusal) → AskedTold (Err why) o bound t → judge (asked_rows o bound t) ≡ refusal_told why
+  asked-refused why h = verdict-refused _ why 0 (timed_rows_asked o bound t) h
 
-  pub asked-rows : (rows : ℕ) → a ≡ Asked rows → (judge (asked_rows o bound t) ≡ accepted) × (rows ≡ timed_rows_asked o bound t)
-  asked-rows rows e =
-      verdict-accepted _ rows (timed_rows_asked o bound t) (subst (λ (a : TimedRows). AskedTold a o bound t) e h)
+  pub asked-rows : (rows : ℕ) → AskedTold (Ok rows) o bound t →
+      (judge (asked_rows o bound t) ≡ accepted) × (rows ≡ timed_rows_asked o bound t)
+  asked-rows rows h = verdict-accepted _ rows (timed_rows_asked o bound t) h
 
 -- the check
-abbrev pub TimedCheckTold : List ℕ → Checked → Order → ℤ → Times → Type 0
+abbrev pub TimedCheckTold : List ℕ → Result Bool Refusal → Order → ℤ → Times → Type 0
 TimedCheckTold rows c o bound t =
     checked_told c ≡ answer_by (judge (timed_check_rows o bound t (length rows))) (is_right_timed o bound t rows)
 
-module _ (rows : List ℕ) (c : Checked) (o : Order) (bound : ℤ) (t : Times) (h : TimedCheckTold rows c o bound t) where
-  told-check : (d : Checked) → c ≡ d → TimedCheckTold rows d o bound t
-  told-check d e = subst (λ (c : Checked). TimedCheckTold rows c o bound t) e h
+module _ (rows : List ℕ) (o : Order) (bound : ℤ) (t : Times) where
+  pub timed-check-refused : (why : Refusal) → TimedCheckTold rows (Err why) o bound t →
+      judge (timed_check_rows o bound t (length rows)) ≡ refusal_told why
+  timed-check-refused why h = verdict-refused _ why false (is_right_timed o bound t rows) h
 
-  pub timed-check-refused : (why : Refusal) → c ≡ CheckRefused why → judge (timed_check_rows o bound t (length rows)) ≡ refusal_told why
-  timed-check-refused why e = verdict-refused _ why false (is_right_timed o bound t rows) (told-check (CheckRefused why) e)
-
-  pub timed-check-yes : c ≡ Yes →
-      (judge (timed_check_rows o bound t (length rows)) ≡ accepted) × (true ≡ is_right_timed o bound t rows)
-  timed-check-yes e = verdict-accepted _ true (is_right_timed o bound t rows) (told-check Yes e)
-
-  pub timed-check-no : c ≡ No →
-      (judge (timed_check_rows o bound t (length rows)) ≡ accepted) × (false ≡ is_right_timed o bound t rows)
-  timed-check-no e = verdict-accepted _ false (is_right_timed o bound t rows) (told-check No e)
+  pub timed-checked : (right : Bool) → TimedCheckTold rows (Ok right) o bound t →
+      (judge (timed_check_rows o bound t (length rows)) ≡ accepted) × (right ≡ is_right_timed o bound t rows)
+  timed-checked right h = verdict-accepted _ right (is_right_timed o bound t rows) h
 
 -- the planner
-abbrev TimedToldBy : Verdict → List ℕ → List ℕ → TimedPlan → Order → ℤ → Times → Type 0
-TimedToldBy v rows rows' p o bound t =
-    (timed_told p ≡ answer_by v (timed_count p)) × TimedBufferBy v o bound t rows rows' (timed_count p)
-
-abbrev pub TimedPlanTold : List ℕ → List ℕ → TimedPlan → Order → ℤ → Times → Type 0
-TimedPlanTold rows rows' p o bound t = TimedToldBy (judge (timed_rows o bound t (length rows))) rows rows' p o bound t
+abbrev pub TimedPlanTold : List ℕ → List ℕ → Result (Option ℕ) Refusal → Order → ℤ → Times → Type 0
+TimedPlanTold rows rows' p o bound t =
+    (timed_told p ≡ answer_by (judge (timed_rows o bound t (length rows))) (timed_count p))
+    × TimedBufferBy (judge (timed_rows o bound t (length rows))) o bound t rows rows' (timed_count p)
 
 module _ (v : Verdict) (o : Order) (bound : ℤ) (t : Times) (rows rows' : List ℕ) (count : ℕ)
     (b : TimedBufferBy v o bound t rows rows' count) where
@@ -124,31 +104,32 @@ module _ (v : Verdict) (o : Order) (bound : ℤ) (t : Times) (rows rows' : List 
   filled : v ≡ accepted → TimedWritten o bound t rows rows' count
   filled e = rw e at b
 
-module _ (rows rows' : List ℕ) (p : TimedPlan) (o : Order) (bound : ℤ) (t : Times) (h : TimedPlanTold rows rows' p o bound t) where
+module _ (rows rows' : List ℕ) (p : Result (Option ℕ) Refusal) (o : Order) (bound : ℤ) (t : Times)
+    (h : TimedPlanTold rows rows' p o bound t) where
   abbrev v : Verdict
   v = judge (timed_rows o bound t (length rows))
 
-  told-plan : (q : TimedPlan) → p ≡ q → TimedToldBy v rows rows' q o bound t
-  told-plan q e = subst (λ (p : TimedPlan). TimedToldBy v rows rows' p o bound t) e h
+  told-plan : (q : Result (Option ℕ) Refusal) → p ≡ q → TimedPlanTold rows rows' q o bound t
+  told-plan q e = subst (λ (p : Result (Option ℕ) Refusal). TimedPlanTold rows rows' p o bound t) e h
 
-  pub timed-plan-refused : (why : Refusal) → p ≡ Refused why →
+  pub timed-plan-refused : (why : Refusal) → p ≡ Err why →
       (judge (timed_rows o bound t (length rows)) ≡ refusal_told why) × (rows' ≡ rows)
   timed-plan-refused why e =
-      let u = told-plan (Refused why) e in
+      let u = told-plan (Err why) e in
       let w = verdict-refused v why 0 0 u.0 in
       let r = refused-told why in
       (w, kept v o bound t rows rows' 0 u.1 r.0 r.1 (w ∙ r.2))
 
-  pub timed-plan-tight : p ≡ Tight → (judge (timed_rows o bound t (length rows)) ≡ refused 10 0) × (rows' ≡ rows)
+  pub timed-plan-tight : p ≡ Ok None → (judge (timed_rows o bound t (length rows)) ≡ refused 10 0) × (rows' ≡ rows)
   timed-plan-tight e =
-      let u = told-plan Tight e in
+      let u = told-plan (Ok None) e in
       let w = refused-by v 10 0 0 u.0 in
       (w, kept v o bound t rows rows' 0 u.1 10 0 w)
 
-  pub timed-plan-rows : (count : ℕ) → p ≡ Rows count →
+  pub timed-plan-rows : (count : ℕ) → p ≡ Ok (Some count) →
       (judge (timed_rows o bound t (length rows)) ≡ accepted) × TimedWritten o bound t rows rows' count
   timed-plan-rows count e =
-      let u = told-plan (Rows count) e in
+      let u = told-plan (Ok (Some count)) e in
       let w = (verdict-accepted v count count u.0).0 in
       (w, filled v o bound t rows rows' count u.1 w)
 

@@ -1,15 +1,16 @@
 -- How a call with times comes to its verdict: the answer's room, the file, the lengths of the lists, then the reader.
-use Prim.Native.Nat.{ℕ, ◌*◌, ◌≤◌, ◌<◌}
-use mathlib.Core.Path.{◌≡◌, sym, ap, ◌∙◌}
+use Rattle.std.specs.Prelude.{Option, Some, None, Result, Ok, Err}
+use Prim.Native.Nat.{ℕ, ◌*◌, ◌≤◌}
+use mathlib.Core.Path.{◌≡◌, refl, sym, ap, ◌∙◌}
 use mathlib.Core.Bool.{true}
 use mathlib.Core.List.{List}
 use mathlib.Core.Logic.{◌≢◌}
-use borrow.Author.Tests.{lt-ltb, le-ltb, eq-eqb, ne_eqb}
+use borrow.Author.Tests.{le-ltb, eq-eqb, ne_eqb}
 use lib.ListN.{length}
 use Rattle.order.specs.Refusals.{limits, Verdict, refused, judge, answer_by, order_rows}
-use Rattle.order.specs.Table.{order_of, refusal_told}
+use Rattle.order.specs.Table.{refusal_told}
 use Rattle.order.proofs.TableLaws.{refused-told}
-use Rattle.order.specs.declared.Acceptance.TheVariants.{Accepted as Accepts, Refused as Refuses}
+use Rattle.order.specs.declared.Order.{Order as OrderTable}
 use Rattle.order.specs.declared.Refusal.{Refusal}
 use Rattle.order_file.specs.File.{good_file, order_in, read_rows}
 use Rattle.order_file.specs.Inside.{trailer_of, Within, Placed}
@@ -17,13 +18,9 @@ use Rattle.order_file.specs.ReaderLaws.{reader-refused, order_is, order-accepted
 use Rattle.order_file.specs.Told.{read_told}
 use Rattle.order_file.specs.TrailerLaws.{trailer-bad, trailer-good, lists-placed, processors-are, jobs-are}
 use Rattle.order_file.specs.declared.Lists.{Lists}
-use Rattle.order_file.specs.declared.OrderRead.{OrderRead}
-use Rattle.order_file.specs.declared.Trailer.{Trailer}
-use Rattle.order_file.specs.declared.Trailer.TheVariants.{Good, Bad}
+use Rattle.timed.specs.declared.Times.{Times as TimesTable}
 use Rattle.highboyrobin.specs.Results.{result_of}
 use Rattle.highboyrobin.specs.TimedCalls.{times_from, timed_call, ReadBy}
-use Rattle.highboyrobin.specs.declared.TimedRead.{TimedRead}
-use Rattle.highboyrobin.specs.declared.ReadStatus.TheVariants.{Refused, Read}
 use Rattle.highboyrobin.proofs.StatusTold.{refused-status, read-status}
 
 module _ (lent : ℕ) (f ready windows : List ℕ) where
@@ -31,25 +28,21 @@ module _ (lent : ℕ) (f ready windows : List ℕ) where
   abbrev verdict : Verdict
   verdict = judge (timed_call lent f ready windows (order_rows limits (order_in f)))
 
-  -- the answer has no room
-  short : lent < 1 → verdict ≡ refused 255 0
-  unfolding judge timed_call
-  short h = rw (lt-ltb lent 1 h)
+  refuses : (number result : ℕ) → verdict ≡ refused number 0 → result ≡ result_of (refused number 0) →
+      ReadBy verdict f ready windows (Err result)
+  refuses number result v e = refused-status verdict (Err result) _ number 0 v (ap (λ (n : ℕ). Err n) e)
 
-  pub no_room : (r : TimedRead) → lent < 1 → r.status ≡ Refused 255 → ReadBy verdict f ready windows r
-  no_room r h s = refused-status verdict r.status _ 255 0 (short h) s
-
-  module _ (room : 1 ≤ lent) (t : Trailer) (is : t ≡ trailer_of f) where
+  module _ (room : 1 ≤ lent) (t : Option Lists) (is : t ≡ trailer_of f) where
     -- the file is bad
-    bad : t ≡ Bad → verdict ≡ refused 12 0
+    bad : t ≡ None → verdict ≡ refused 12 0
     unfolding judge timed_call
     bad e = rw (le-ltb lent 1 room, trailer-bad f t is e)
 
-    pub bad-file : (r : TimedRead) → t ≡ Bad → r.status ≡ Refused 12 → ReadBy verdict f ready windows r
-    bad-file r e s = refused-status verdict r.status _ 12 0 (bad e) s
+    pub bad-file : t ≡ None → ReadBy verdict f ready windows (Err 12)
+    bad-file e = refuses 12 12 (bad e) refl
 
     -- the file is good, and its trailer gives the lists l
-    module _ (l : Lists) (w : Within f t) (good : t ≡ Good l) where
+    module _ (l : Lists) (w : Within f t) (good : t ≡ Some l) where
       placed : Placed f l.processors_at l.jobs_at l.processors l.jobs
       placed = lists-placed f t l w good
 
@@ -73,16 +66,15 @@ module _ (lent : ℕ) (f ready windows : List ℕ) where
             ne_eqb (length windows) (2 * l.processors) d,
           )
 
-      pub other-jobs : (r : TimedRead) → length ready ≢ l.jobs → r.status ≡ Refused 253 → ReadBy verdict f ready windows r
-      other-jobs r d s = refused-status verdict r.status _ 253 0 (jobs-differ d) s
+      pub other-jobs : length ready ≢ l.jobs → ReadBy verdict f ready windows (Err 253)
+      other-jobs d = refuses 253 253 (jobs-differ d) refl
 
       module _ (ej : length ready ≡ l.jobs) where
-        pub other-windows : (r : TimedRead) → length windows ≢ 2 * l.processors → r.status ≡ Refused 253 →
-            ReadBy verdict f ready windows r
-        other-windows r d s = refused-status verdict r.status _ 253 0 (windows-differ ej d) s
+        pub other-windows : length windows ≢ 2 * l.processors → ReadBy verdict f ready windows (Err 253)
+        other-windows d = refuses 253 253 (windows-differ ej d) refl
 
         -- the lists are as long: the reader decides
-        module _ (ew : length windows ≡ 2 * l.processors) (o : OrderRead)
+        module _ (ew : length windows ≡ 2 * l.processors) (o : Result OrderTable Refusal)
             (e : read_told o ≡ answer_by (judge (read_rows f)) (order_in f)) where
           order-decides : verdict ≡ judge (order_rows limits (order_in f))
           unfolding judge timed_call
@@ -100,15 +92,15 @@ module _ (lent : ℕ) (f ready windows : List ℕ) where
           unfolding judge read_rows
           reader-decides = rw is-good
 
-          pub reader-refuses : (r : TimedRead) (why : Refusal) → o.status ≡ Refuses why → (result : ℕ) →
-              result ≡ result_of (refusal_told why) → r.status ≡ Refused result → ReadBy verdict f ready windows r
-          reader-refuses r why st result er s =
-              let v : verdict ≡ refusal_told why = order-decides ∙ (sym reader-decides ∙ reader-refused f o e why st) in
+          pub reader-refuses : (why : Refusal) → o ≡ Err why → (result : ℕ) → result ≡ result_of (refusal_told why) →
+              ReadBy verdict f ready windows (Err result)
+          reader-refuses why is result er =
+              let v : verdict ≡ refusal_told why = order-decides ∙ (sym reader-decides ∙ reader-refused f o e why is) in
               let k = refused-told why in
-              refused-status verdict r.status _ k.0 k.1 (v ∙ k.2)
-              (s ∙ ap (λ (n : ℕ). Refused n) (er ∙ ap result_of k.2))
+              refused-status verdict (Err result) _ k.0 k.1 (v ∙ k.2) (ap (λ (n : ℕ). Err n) (er ∙ ap result_of k.2))
 
-          pub reader-accepts : (r : TimedRead) → o.status ≡ Accepts → r.status ≡ Read → r.order ≡ o.order →
-              r.times ≡ times_from ready windows → ReadBy verdict f ready windows r
-          reader-accepts r st s eo et =
-              read-status verdict r.status _ (order-decides ∙ order-accepted f o e st) s (ap order_of eo ∙ order_is f o e st, et)
+          pub reader-accepts : (order : OrderTable) → o ≡ Ok order → (times : TimesTable) → times ≡ times_from ready windows →
+              ReadBy verdict f ready windows (Ok (order, times))
+          reader-accepts order is times et =
+              read-status verdict (Ok (order, times)) _ (order-decides ∙ order-accepted f o e order is) (order, times) refl
+              (order_is f o e order is, et)

@@ -1,14 +1,14 @@
 -- What the two exported functions with times between answer (document 02, §9), and by which rows of the refusal table they judge. The
 -- lows are the times of the file's order, the highs are lent one to a job.
-use Rattle.std.specs.Prelude.{ℕ, ◌≡◌, not, List, [], ◌∷◌, ◌++◌, eqb, ℤ, pos, length}
+use Rattle.std.specs.Prelude.{ℕ, ◌≡◌, not, List, [], ◌∷◌, ◌++◌, eqb, ℤ, pos, length, Result}
 use Rattle.order.specs.Order.{Order, job_count}
 use Rattle.order.specs.Refusals.{limits, TableRow, Verdict, judge, left_by, row, whole, room_row, file_row}
 use Rattle.order_file.specs.File.{good_file, order_in, file_of, ReadBackBy}
 use Rattle.profile.specs.Search.{Found, nothing, found}
 use Rattle.estimate.specs.Estimate.{Estimate, least_at_lows, least_at_highs, order_met, estimate_rows}
 use Rattle.estimate.specs.Told.{estimated, estimate_of}
+use Rattle.estimate.specs.declared.Estimate.{Estimate as EstimateTable}
 use Rattle.highboyrobin.specs.Results.{result_of, answer_row, StatusBy}
-use Rattle.highboyrobin.specs.declared.EstimateRead.{EstimateRead}
 
 abbrev pub estimate_in : (file highs : List ℕ) → Estimate
 estimate_in file highs = estimated (order_in file) highs
@@ -22,9 +22,10 @@ unfoldable pub between_call : (lent asked : ℕ) → (file highs : List ℕ) →
 between_call lent asked file highs rows =
     answer_row lent asked ∷ file_row (good_file file) ∷ wrong_highs_row (order_in file) (length highs) ∷ rows
 
--- what both read, by those of these rows that are about file, highs and counts: the estimate, or the result
-abbrev pub EstimateBy : Verdict → (file highs : List ℕ) → EstimateRead → Type 0
-EstimateBy v file highs r = StatusBy v r.status (estimate_of r.estimate ≡ estimate_in file highs)
+-- what both read, by those of these rows that are about file, highs and counts: the estimate, or the result of the first row that
+-- refuses
+abbrev pub EstimateBy : Verdict → (file highs : List ℕ) → Result EstimateTable ℕ → Type 0
+EstimateBy v file highs r = StatusBy v r (λ read. estimate_of read ≡ estimate_in file highs)
 
 -- hbr_between: the least lateness at all lows and at all highs
 abbrev pub leasts_call : (file highs : List ℕ) → ℕ → List TableRow

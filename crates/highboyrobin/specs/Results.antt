@@ -1,10 +1,8 @@
 -- What a call from C or Rust returns: one number as its result; and the rows that stand before the refusal table.
-use Rattle.std.specs.Prelude.{ℕ, ◌+◌, ◌*◌, ◌%◌, ◌≡◌, not, List, ◌∷◌, ltb, eqb}
+use Rattle.std.specs.Prelude.{ℕ, ◌+◌, ◌*◌, ◌%◌, ◌≡◌, not, List, ◌∷◌, ltb, eqb, Result, Ok, Err}
 use Rattle.order.specs.Refusals.{TableRow, Verdict, accepted, refused, row, whole, file_row}
 use Rattle.order.specs.Table.{number_by, carried_by}
 use Rattle.order_file.specs.File.{good_file}
-use Rattle.highboyrobin.specs.declared.ReadStatus.{ReadStatus}
-use Rattle.highboyrobin.specs.declared.ReadStatus.TheVariants.{Refused, Read}
 
 -- the result: 0 where the call succeeds, else the refusal's number and 256 times what it carries
 abbrev pub result_of : Verdict → ℕ
@@ -21,10 +19,12 @@ part_job_row numbers = row 254 (whole (not (eqb (numbers % 4) 0)))
 abbrev pub short_list_row : ℕ → ℕ → TableRow
 short_list_row numbers asked = row 253 (whole (ltb numbers asked))
 
--- what a call that reads a file and the lists beside it tells: that they were read, and what holds of them then; or the result
-abbrev pub StatusBy : Verdict → ReadStatus → Type 0 → Type 0
-StatusBy accepted status P = (status ≡ Read) × P
-StatusBy (refused number carried) status P = status ≡ Refused (result_of (refused number carried))
+-- what a call that reads a file and the lists beside it answers: what was read, and this holds of it; or the result
+abbrev pub StatusBy : {A : Type 0} → Verdict → Result A ℕ → (A → Type 0) → Type 0
+StatusBy accepted (Ok read) P = P read
+StatusBy accepted (Err result) P = ⊥
+StatusBy (refused number carried) (Ok read) P = ⊥
+StatusBy (refused number carried) (Err result) P = result ≡ result_of (refused number carried)
 
 -- the table of a call that takes a file: the answer's room, 12, then the rows of the entry point
 unfoldable pub file_call : ℕ → ℕ → List ℕ → List TableRow → List TableRow

@@ -1,10 +1,11 @@
 -- What the exported functions with ready minutes and windows answer (document 02, §5), and by which rows of the refusal table they judge.
 -- The ready minutes are lent one to a job, the windows as two numbers to a processor: when it opens, and when it closes.
-use Rattle.std.specs.Prelude.{ℕ, ◌+◌, ◌*◌, ◌≡◌, not, ◌&&◌, List, [], ◌∷◌, eqb, ℤ, pos, length, get_or, drop}
+use Rattle.std.specs.Prelude.{ℕ, ◌+◌, ◌*◌, ◌≡◌, not, ◌&&◌, List, [], ◌∷◌, eqb, ℤ, pos, length, get_or, drop, Result}
 use Rattle.sums.specs.Lists.{tabulate}
 use Rattle.order.specs.Order.{Order, processor_count, job_count}
 use Rattle.order.specs.Refusals.{TableRow, Verdict, accepted, refused, judge, left_by, row, whole, file_row}
 use Rattle.order.specs.Table.{order_of}
+use Rattle.order.specs.declared.Order.{Order as OrderTable}
 use Rattle.order_file.specs.File.{good_file, order_in}
 use Rattle.wrap.specs.FrameAt.{Times}
 use Rattle.timed.specs.Changes.{timed_rows_asked}
@@ -15,7 +16,6 @@ use Rattle.timed.specs.Written.{TimedWritten}
 use Rattle.timed.specs.declared.Times.{Times as TimesTable}
 use Rattle.highboyrobin.specs.Calls.{yes_or_no}
 use Rattle.highboyrobin.specs.Results.{answer_row, StatusBy}
-use Rattle.highboyrobin.specs.declared.TimedRead.{TimedRead}
 
 -- the times of lent lists, as the struct that they are handed over in: 0 where a list has no number
 abbrev pub times_from : (ready windows : List ℕ) → TimesTable
@@ -40,10 +40,11 @@ timed_call lent file ready windows rows =
     ∷ wrong_times_row (order_in file) (length ready) (length windows)
     ∷ rows
 
--- what all three read, by those of these rows that are about file, lists and order: the order and the times, or the result
-abbrev pub ReadBy : Verdict → (file ready windows : List ℕ) → TimedRead → Type 0
+-- what all three read, by those of these rows that are about file, lists and order: the order and the times, or the result of the first row
+-- that refuses
+abbrev pub ReadBy : Verdict → (file ready windows : List ℕ) → Result (OrderTable × TimesTable) ℕ → Type 0
 ReadBy v file ready windows r =
-    StatusBy v r.status ((order_of r.order ≡ order_in file) × (r.times ≡ times_from ready windows))
+    StatusBy v r (λ read. (order_of read.0 ≡ order_in file) × (read.1 ≡ times_from ready windows))
 
 -- hbr_timed_rows: the rows to be lent at a bound
 abbrev pub timed_rows_call : (file : List ℕ) → ℤ → (ready windows : List ℕ) → ℕ → List TableRow

@@ -4,11 +4,9 @@ ghost use Rattle.order.specs.Refusals.{judge, left_by};
 ghost use Rattle.highboyrobin.specs.BetweenCalls.{leasts_call, leasts_in};
 ghost use Rattle.highboyrobin.specs.Results.{result_of};
 
-use super::ReadStatus;
 use super::answers::put_two;
 use super::estimating::read_estimate;
 use super::results::result_of;
-use estimate::Leasts;
 use estimate::between::least_between;
 
 pub fn hbr_between(file: &[u8], highs: &[u32], answer: &mut [i32]) -> u32
@@ -17,17 +15,15 @@ pub fn hbr_between(file: &[u8], highs: &[u32], answer: &mut [i32]) -> u32
         ≡ left_by (judge (leasts_call file.now highs.now (length answer.old)))
         (leasts_in file.now highs.now) answer.old }
 {
-    let got = read_estimate(file, highs, answer.len(), 2);
-    let status = got.status;
-    if let ReadStatus::Refused(result) = status {
-        return result;
-    }
-    let estimate = got.estimate;
+    let estimate = match read_estimate(file, highs, answer.len(), 2) {
+        Ok(estimate) => estimate,
+        Err(result) => return result,
+    };
     match least_between(estimate) {
-        Leasts::Refused(refusal) => result_of(refusal),
-        Leasts::Between(low, high) => {
-            put_two(answer, low, high);
+        Ok(leasts) => {
+            put_two(answer, leasts.low, leasts.high);
             0
         }
+        Err(refusal) => result_of(refusal),
     }
 }

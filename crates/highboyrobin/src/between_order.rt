@@ -7,14 +7,11 @@ ghost use Rattle.estimate.specs.Estimate.{order_met};
 ghost use Rattle.highboyrobin.specs.BetweenCalls.{estimate_in, order_call, file_in, BackBy, HandedBy};
 ghost use Rattle.highboyrobin.specs.Results.{result_of};
 
-use super::ReadStatus;
 use super::answers::put_count;
 use super::estimating::read_estimate;
 use super::results::result_of;
-use estimate::Meeting;
 use estimate::met::order_between;
 use order::Order;
-use order_file::OrderWritten;
 use order_file::write::write_order;
 
 // The file of an order into the buffer, its length into the answer; 9 where the buffer is too short.
@@ -23,11 +20,11 @@ fn hand_out(found: Order, order: &mut [u8], answer: &mut [i32]) -> u32
     ensures { HandedBy (order_of found) order.old order.new answer.old answer.new result }
 {
     match write_order(found, order) {
-        OrderWritten::Refused(refusal) => result_of(refusal),
-        OrderWritten::Bytes(n) => {
+        Ok(n) => {
             put_count(answer, n as u32);
             0
         }
+        Err(refusal) => result_of(refusal),
     }
 }
 
@@ -50,20 +47,16 @@ pub fn hbr_between_order(
         (length order.old) (length answer.old)))
         (pos (length (file_in file.now highs.now number)) ∷ []) answer.old }
 {
-    let got = read_estimate(file, highs, answer.len(), 1);
-    let status = got.status;
-    if let ReadStatus::Refused(result) = status {
-        return result;
-    }
-    let estimate = got.estimate;
-    let met = order_between(estimate, number);
-    let meeting = met.meeting;
-    match meeting {
-        Meeting::Refused(refusal) => result_of(refusal),
-        Meeting::Nowhere => {
+    let estimate = match read_estimate(file, highs, answer.len(), 1) {
+        Ok(estimate) => estimate,
+        Err(result) => return result,
+    };
+    match order_between(estimate, number) {
+        Ok(Some(met)) => hand_out(met, order, answer),
+        Ok(None) => {
             put_count(answer, 0);
             0
         }
-        Meeting::Met => hand_out(met.order, order, answer),
+        Err(refusal) => result_of(refusal),
     }
 }

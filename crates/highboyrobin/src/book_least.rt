@@ -10,11 +10,10 @@ ghost use Rattle.highboyrobin.specs.BookCalls.{book_least_call, book_left};
 use super::answers::put_least;
 use super::books::{book_from, put_book};
 use super::results::{SHORT_ANSWER, SHORT_BOOK, result_of};
-use order::Acceptance;
 use order_file::read::read_order;
-use planner::Least;
 use planner::lateness_booked::least_booked;
 
+#[tactic(auto, using(crate::proofs::Carried::reader_carries), unfolding(order::specs::Refusals::judge, crate::specs::Results::list_call))]
 pub fn hbr_book_least(file: &[u8], rows: &mut [u32], book: &mut [u32], answer: &mut [i32]) -> u32
     ensures value { result ≡ result_of (judge (book_least_call file.now (length rows.old) book.old
         (length answer.old))) }
@@ -31,21 +30,17 @@ pub fn hbr_book_least(file: &[u8], rows: &mut [u32], book: &mut [u32], answer: &
     if book.len() < 16 {
         return SHORT_BOOK;
     }
-    let got = read_order(file);
-    let status = got.status;
-    if let Acceptance::Refused(refusal) = status {
-        return result_of(refusal);
-    }
-    let told = least_booked(got.order, rows, book_from(book));
-    let least = told.least;
-    match least {
-        Least::Refused(refusal) => result_of(refusal),
-        Least::At(lateness, count) => {
-            let after = told.book;
-            let counts = after.counts;
-            put_book(book, counts);
-            put_least(answer, lateness, count);
+    let order = match read_order(file) {
+        Ok(order) => order,
+        Err(refusal) => return result_of(refusal),
+    };
+    let mut booked = book_from(book);
+    match least_booked(order, rows, &mut booked) {
+        Ok(least) => {
+            put_book(book, booked.counts);
+            put_least(answer, least.lateness, least.rows);
             0
         }
+        Err(refusal) => result_of(refusal),
     }
 }

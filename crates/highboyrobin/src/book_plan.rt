@@ -9,11 +9,11 @@ ghost use Rattle.highboyrobin.specs.BookCalls.{book_plan_call, book_left};
 use super::answers::put_count;
 use super::books::{book_from, put_book};
 use super::results::{SHORT_ANSWER, SHORT_BOOK, TOO_TIGHT, result_of};
-use order::Acceptance;
 use order_file::read::read_order;
-use planner::Planned;
+use planner::NoPlan;
 use planner::bound_booked::plan_booked;
 
+#[tactic(auto, using(crate::proofs::Carried::reader_carries), unfolding(order::specs::Refusals::judge, crate::specs::Results::list_call))]
 pub fn hbr_book_plan(
     file: &[u8],
     bound: i32,
@@ -35,23 +35,18 @@ pub fn hbr_book_plan(
     if book.len() < 16 {
         return SHORT_BOOK;
     }
-    let got = read_order(file);
-    let status = got.status;
-    if let Acceptance::Refused(refusal) = status {
-        return result_of(refusal);
-    }
-    let told = plan_booked(got.order, bound, rows, book_from(book));
-    let plan = told.answer;
-    let planned = plan.planned;
-    match planned {
-        Planned::Refused(refusal) => result_of(refusal),
-        Planned::Tight(_) => TOO_TIGHT,
-        Planned::Rows(count) => {
-            let after = told.book;
-            let counts = after.counts;
-            put_book(book, counts);
+    let order = match read_order(file) {
+        Ok(order) => order,
+        Err(refusal) => return result_of(refusal),
+    };
+    let mut booked = book_from(book);
+    match plan_booked(order, bound, rows, &mut booked) {
+        Ok(count) => {
+            put_book(book, booked.counts);
             put_count(answer, count);
             0
         }
+        Err(NoPlan::Refused(refusal)) => result_of(refusal),
+        Err(NoPlan::TooTight(_, _)) => TOO_TIGHT,
     }
 }

@@ -6,11 +6,10 @@ ghost use Rattle.highboyrobin.specs.Calls.{check_call, check_answer};
 
 use super::answers::put_count;
 use super::results::{SHORT_ANSWER, result_of};
-use order::Acceptance;
 use order_file::read::read_order;
-use plan::Checked;
 use plan::check::check_plan;
 
+#[tactic(auto, using(crate::proofs::Carried::reader_carries), unfolding(order::specs::Refusals::judge, crate::specs::Results::file_call))]
 pub fn hbr_check(file: &[u8], bound: i32, rows: &[u32], answer: &mut [i32]) -> u32
     ensures value { result ≡ result_of (judge (check_call file.now bound (length rows.now)
         (length answer.old))) }
@@ -19,21 +18,15 @@ pub fn hbr_check(file: &[u8], bound: i32, rows: &[u32], answer: &mut [i32]) -> u
     if answer.len() < 1 {
         return SHORT_ANSWER;
     }
-    let got = read_order(file);
-    let status = got.status;
-    if let Acceptance::Refused(refusal) = status {
-        return result_of(refusal);
-    }
-    let checked = check_plan(got.order, bound, rows);
-    match checked {
-        Checked::Refused(refusal) => result_of(refusal),
-        Checked::Yes => {
-            put_count(answer, 1);
+    let order = match read_order(file) {
+        Ok(order) => order,
+        Err(refusal) => return result_of(refusal),
+    };
+    match check_plan(order, bound, rows) {
+        Ok(right) => {
+            put_count(answer, u32::from(right));
             0
         }
-        Checked::No => {
-            put_count(answer, 0);
-            0
-        }
+        Err(refusal) => result_of(refusal),
     }
 }

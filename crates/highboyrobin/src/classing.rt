@@ -8,7 +8,6 @@ ghost use Rattle.highboyrobin.specs.ClassCalls.{classes_call, pairs_to, class_co
 
 use super::answers::put_count;
 use super::results::{SHORT_ANSWER, SHORT_CLASSES, result_of};
-use order::Acceptance;
 use order::orderings::processor_order;
 use order_file::read::read_order;
 use table::Listing;
@@ -26,6 +25,7 @@ fn put_classes(list: &mut [u32], found: Listing)
     }
 }
 
+#[tactic(auto, using(crate::proofs::Carried::reader_carries, crate::proofs::ClassesTold::read_few), unfolding(order::specs::Refusals::judge, crate::specs::Results::list_call))]
 pub fn hbr_classes(file: &[u8], classes: &mut [u32], answer: &mut [i32]) -> u32
     ensures value { result ≡ result_of (judge (classes_call file.now (length classes.old)
         (length answer.old))) }
@@ -40,12 +40,10 @@ pub fn hbr_classes(file: &[u8], classes: &mut [u32], answer: &mut [i32]) -> u32
     if classes.len() < 32 {
         return SHORT_CLASSES;
     }
-    let got = read_order(file);
-    let status = got.status;
-    if let Acceptance::Refused(refusal) = status {
-        return result_of(refusal);
-    }
-    let order = got.order;
+    let order = match read_order(file) {
+        Ok(order) => order,
+        Err(refusal) => return result_of(refusal),
+    };
     let found = classes_of(order, processor_order(order));
     put_classes(classes, found);
     put_count(answer, found.count as u32);

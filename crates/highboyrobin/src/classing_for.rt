@@ -9,8 +9,9 @@ ghost use Rattle.highboyrobin.specs.ClassCalls.{classes_call, class_count, class
 use super::classing::hbr_classes;
 use super::results::{SHORT_ANSWER, SHORT_CLASSES, result_of};
 use callers::files::accept_file_for;
-use order::{Acceptance, Caller};
+use order::Caller;
 
+#[tactic(auto, using(crate::proofs::Screening::trailer_carries), unfolding(order::specs::Refusals::judge, crate::specs::Results::list_call, order::specs::Callers::rows_by))]
 pub fn classes_for(caller: Caller, file: &[u8], classes: &mut [u32], answer: &mut [i32]) -> u32
     ensures value { result ≡ result_of (judge (rows_for caller (order_in file.now)
         (classes_call file.now (length classes.old) (length answer.old)))) }
@@ -27,7 +28,7 @@ pub fn classes_for(caller: Caller, file: &[u8], classes: &mut [u32], answer: &mu
     if classes.len() < 32 {
         return SHORT_CLASSES;
     }
-    if let Acceptance::Refused(refusal) = accept_file_for(caller, file) {
+    if let Err(refusal) = accept_file_for(caller, file) {
         return result_of(refusal);
     }
     hbr_classes(file, classes, answer)

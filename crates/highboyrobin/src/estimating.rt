@@ -7,50 +7,28 @@ ghost use Rattle.highboyrobin.specs.BetweenCalls.{between_call, EstimateBy};
 
 use super::lists::by_job;
 use super::results::{BAD_FILE, SHORT_ANSWER, WRONG_HIGHS, result_of};
-use super::{EstimateRead, ReadStatus};
 use estimate::Estimate;
-use order::Acceptance;
-use order::none::no_order;
-use order_file::Trailer;
 use order_file::read::{read_counted, read_trailer};
 
-// A result, with no estimate.
-fn refuse(res: u32) -> EstimateRead
-    ensures { result.status ≡ ReadStatus.Refused res }
-{
-    EstimateRead {
-        status: ReadStatus::Refused(res),
-        estimate: Estimate {
-            order: no_order(),
-            highs: [0u32; 48],
-        },
-    }
-}
-
 // The estimate: an answer of fewer numbers than asked for, 12, highs that are not as long as the file's jobs, then the rows of the counts.
-pub fn read_estimate(file: &[u8], highs: &[u32], lent: usize, asked: usize) -> EstimateRead
+#[tactic(auto, unfolding(order::specs::Refusals::judge, crate::specs::BetweenCalls::between_call))]
+pub fn read_estimate(file: &[u8], highs: &[u32], lent: usize, asked: usize) -> Result<Estimate, u32>
     ensures { EstimateBy (judge (between_call lent asked file.now highs.now
         (count_rows limits (processor_count (order_in file.now)) (job_count (order_in file.now)))))
         file.now highs.now result }
 {
     if lent < asked {
-        return refuse(SHORT_ANSWER);
+        return Err(SHORT_ANSWER);
     }
-    let Trailer::Good(lists) = read_trailer(file) else {
-        return refuse(BAD_FILE);
-    };
+    let lists = read_trailer(file).ok_or(BAD_FILE)?;
     if highs.len() != lists.jobs {
-        return refuse(WRONG_HIGHS);
+        return Err(WRONG_HIGHS);
     }
-    let got = read_counted(file, lists);
-    let status = got.status;
-    if let Acceptance::Refused(refusal) = status {
-        return refuse(result_of(refusal));
-    }
-    let order = got.order;
-    let highs = by_job(highs);
-    EstimateRead {
-        status: ReadStatus::Read,
-        estimate: Estimate { order, highs },
+    match read_counted(file, lists) {
+        Ok(order) => Ok(Estimate {
+            order,
+            highs: by_job(highs),
+        }),
+        Err(refusal) => Err(result_of(refusal)),
     }
 }

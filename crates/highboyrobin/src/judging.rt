@@ -7,9 +7,9 @@ ghost use Rattle.highboyrobin.specs.Calls.{judge_call, sizes_of};
 
 use super::answers::put_sizes;
 use super::results::{SHORT_ANSWER, result_of};
-use order::Acceptance;
 use order_file::read::read_order;
 
+#[tactic(auto, using(crate::proofs::Carried::reader_carries, crate::proofs::Calling::read_accepted), unfolding(order::specs::Refusals::judge, crate::specs::Results::file_call))]
 pub fn hbr_judge(file: &[u8], answer: &mut [i32]) -> u32
     ensures value { result ≡ result_of (judge (judge_call file.now (length answer.old))) }
     ensures answer_after { answer.new ≡ left_by (judge (judge_call file.now (length answer.old)))
@@ -18,11 +18,10 @@ pub fn hbr_judge(file: &[u8], answer: &mut [i32]) -> u32
     if answer.len() < 3 {
         return SHORT_ANSWER;
     }
-    let got = read_order(file);
-    let status = got.status;
-    if let Acceptance::Refused(refusal) = status {
-        return result_of(refusal);
-    }
-    put_sizes(answer, got.order);
+    let order = match read_order(file) {
+        Ok(order) => order,
+        Err(refusal) => return result_of(refusal),
+    };
+    put_sizes(answer, order);
     0
 }

@@ -8,11 +8,10 @@ ghost use Rattle.highboyrobin.specs.Calls.{least_call, PlanBy};
 
 use super::answers::put_least;
 use super::results::{SHORT_ANSWER, result_of};
-use order::Acceptance;
 use order_file::read::read_order;
-use planner::Least;
 use planner::lateness::least_lateness;
 
+#[tactic(auto, using(crate::proofs::Carried::reader_carries), unfolding(order::specs::Refusals::judge, crate::specs::Results::file_call))]
 pub fn hbr_least(file: &[u8], rows: &mut [u32], answer: &mut [i32]) -> u32
     ensures value { result ≡ result_of (judge (least_call file.now (length rows.old) (length answer.old))) }
     ensures plan_by { PlanBy (judge (least_call file.now (length rows.old) (length answer.old)))
@@ -23,17 +22,15 @@ pub fn hbr_least(file: &[u8], rows: &mut [u32], answer: &mut [i32]) -> u32
     if answer.len() < 2 {
         return SHORT_ANSWER;
     }
-    let got = read_order(file);
-    let status = got.status;
-    if let Acceptance::Refused(refusal) = status {
-        return result_of(refusal);
-    }
-    let least = least_lateness(got.order, rows);
-    match least {
-        Least::Refused(refusal) => result_of(refusal),
-        Least::At(lateness, count) => {
-            put_least(answer, lateness, count);
+    let order = match read_order(file) {
+        Ok(order) => order,
+        Err(refusal) => return result_of(refusal),
+    };
+    match least_lateness(order, rows) {
+        Ok(least) => {
+            put_least(answer, least.lateness, least.rows);
             0
         }
+        Err(refusal) => result_of(refusal),
     }
 }

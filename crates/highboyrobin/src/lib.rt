@@ -2,10 +2,6 @@
 // call writes nothing; a refused command of the register block is a call that succeeds. link/highboyrobin.h declares them.
 #![tactic(auto)]
 
-use estimate::Estimate;
-use order::Order;
-use timed::Times;
-
 mod answers; // what is written into a lent answer
 mod books; // a book from a lent one, and into it
 mod estimating; // an estimate of a file and the highs beside it
@@ -41,25 +37,3 @@ pub mod timed_check; // hbr_timed_check
 pub mod timed_plan; // hbr_timed_plan
 pub mod timed_rows; // hbr_timed_rows
 pub mod writing; // hbr_write
-
-// Whether a file and the lists beside it were read, or the result of the call.
-#[derive(Clone, Copy)]
-pub enum ReadStatus {
-    Refused(u32),
-    Read,
-}
-
-// The order of a file and the times beside it; where they were not read, neither is looked at.
-#[derive(Clone, Copy)]
-pub struct TimedRead {
-    pub status: ReadStatus,
-    pub order: Order,
-    pub times: Times,
-}
-
-// The estimate of a file and the highs beside it; where it was not read, it is not looked at.
-#[derive(Clone, Copy)]
-pub struct EstimateRead {
-    pub status: ReadStatus,
-    pub estimate: Estimate,
-}

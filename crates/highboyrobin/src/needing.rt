@@ -7,12 +7,13 @@ ghost use Rattle.highboyrobin.specs.Results.{result_of};
 
 use super::answers::put_count;
 use super::results::{LONG_LIST, SHORT_ANSWER, result_from};
-use needs::Filled;
+use needs::Unfilled;
 use needs::filling::fill_needs;
 
 // The most lengths of a call: a larger place has no room in a result.
 pub const MOST_LENGTHS: usize = 16777215;
 
+#[tactic(auto, unfolding(order::specs::Refusals::judge, crate::specs::NeedCalls::needs_call))]
 pub fn hbr_needs(table: &[u32], lengths: &[u32], needs: &mut [u32], answer: &mut [i32]) -> u32
     ensures value { result ≡ result_of (judge (needs_call table.now lengths.now (length needs.old)
         (length answer.old))) }
@@ -29,15 +30,14 @@ pub fn hbr_needs(table: &[u32], lengths: &[u32], needs: &mut [u32], answer: &mut
     if MOST_LENGTHS < lengths.len() {
         return LONG_LIST;
     }
-    let filled = fill_needs(table, lengths, needs);
-    match filled {
-        Filled::NoLine(length) => result_from(17, length),
-        Filled::TwoLines(length) => result_from(18, length),
-        Filled::LengthOutOfRange(place) => result_from(5, place as u32),
-        Filled::BufferTooShort => 9,
-        Filled::Needs(n) => {
+    match fill_needs(table, lengths, needs) {
+        Ok(n) => {
             put_count(answer, n as u32);
             0
         }
+        Err(Unfilled::NoLine(length)) => result_from(17, length),
+        Err(Unfilled::TwoLines(length)) => result_from(18, length),
+        Err(Unfilled::LengthOutOfRange(place)) => result_from(5, place as u32),
+        Err(Unfilled::BufferTooShort) => 9,
     }
 }

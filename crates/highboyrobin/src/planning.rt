@@ -7,11 +7,11 @@ ghost use Rattle.highboyrobin.specs.Calls.{plan_call, PlanBy};
 
 use super::answers::put_count;
 use super::results::{SHORT_ANSWER, TOO_TIGHT, result_of};
-use order::Acceptance;
 use order_file::read::read_order;
-use planner::Planned;
+use planner::NoPlan;
 use planner::bound::plan_at;
 
+#[tactic(auto, using(crate::proofs::Carried::reader_carries), unfolding(order::specs::Refusals::judge, crate::specs::Results::file_call))]
 pub fn hbr_plan(file: &[u8], bound: i32, rows: &mut [u32], answer: &mut [i32]) -> u32
     ensures value { result ≡ result_of (judge (plan_call file.now bound (length rows.old)
         (length answer.old))) }
@@ -21,19 +21,16 @@ pub fn hbr_plan(file: &[u8], bound: i32, rows: &mut [u32], answer: &mut [i32]) -
     if answer.len() < 1 {
         return SHORT_ANSWER;
     }
-    let got = read_order(file);
-    let status = got.status;
-    if let Acceptance::Refused(refusal) = status {
-        return result_of(refusal);
-    }
-    let told = plan_at(got.order, bound, rows);
-    let planned = told.planned;
-    match planned {
-        Planned::Refused(refusal) => result_of(refusal),
-        Planned::Tight(_) => TOO_TIGHT,
-        Planned::Rows(count) => {
+    let order = match read_order(file) {
+        Ok(order) => order,
+        Err(refusal) => return result_of(refusal),
+    };
+    match plan_at(order, bound, rows) {
+        Ok(count) => {
             put_count(answer, count);
             0
         }
+        Err(NoPlan::Refused(refusal)) => result_of(refusal),
+        Err(NoPlan::TooTight(_, _)) => TOO_TIGHT,
     }
 }

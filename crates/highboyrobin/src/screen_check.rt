@@ -10,9 +10,10 @@ ghost use Rattle.highboyrobin.specs.ScreenCalls.{screened};
 use super::checking::hbr_check;
 use super::results::{SHORT_ANSWER, result_of};
 use callers::files::accept_file_for;
-use order::{Acceptance, Caller};
+use order::Caller;
 
 // Not inlined into its export, which would keep numbers below the stack pointer: link/highboyrobin.h says that no call does.
+#[tactic(auto, using(crate::proofs::Screening::trailer_carries), unfolding(order::specs::Refusals::judge, crate::specs::Results::file_call, order::specs::Callers::rows_by))]
 #[inline(never)]
 pub fn hbr_screen_check(file: &[u8], bound: i32, rows: &[u32], answer: &mut [i32]) -> u32
     ensures value { result ≡ result_of (judge (screened file.now
@@ -24,7 +25,7 @@ pub fn hbr_screen_check(file: &[u8], bound: i32, rows: &[u32], answer: &mut [i32
     if answer.len() < 1 {
         return SHORT_ANSWER;
     }
-    if let Acceptance::Refused(refusal) = accept_file_for(Caller::Screen, file) {
+    if let Err(refusal) = accept_file_for(Caller::Screen, file) {
         return result_of(refusal);
     }
     hbr_check(file, bound, rows, answer)

@@ -9,8 +9,9 @@ ghost use Rattle.highboyrobin.specs.ScreenCalls.{screened};
 use super::judging::hbr_judge;
 use super::results::{SHORT_ANSWER, result_of};
 use callers::files::accept_file_for;
-use order::{Acceptance, Caller};
+use order::Caller;
 
+#[tactic(auto, using(crate::proofs::Screening::trailer_carries), unfolding(order::specs::Refusals::judge, crate::specs::Results::file_call, order::specs::Callers::rows_by))]
 pub fn hbr_screen_judge(file: &[u8], answer: &mut [i32]) -> u32
     ensures value { result ≡ result_of (judge (screened file.now
         (judge_call file.now (length answer.old)))) }
@@ -21,7 +22,7 @@ pub fn hbr_screen_judge(file: &[u8], answer: &mut [i32]) -> u32
     if answer.len() < 3 {
         return SHORT_ANSWER;
     }
-    if let Acceptance::Refused(refusal) = accept_file_for(Caller::Screen, file) {
+    if let Err(refusal) = accept_file_for(Caller::Screen, file) {
         return result_of(refusal);
     }
     hbr_judge(file, answer)

@@ -10,8 +10,9 @@ ghost use Rattle.highboyrobin.specs.ScreenCalls.{screened};
 use super::reasoning::hbr_reason;
 use super::results::{SHORT_ANSWER, result_of};
 use callers::files::accept_file_for;
-use order::{Acceptance, Caller};
+use order::Caller;
 
+#[tactic(auto, using(crate::proofs::Screening::trailer_carries), unfolding(order::specs::Refusals::judge, crate::specs::Results::file_call, order::specs::Callers::rows_by))]
 pub fn hbr_screen_reason(file: &[u8], bound: i32, answer: &mut [i32]) -> u32
     ensures value { result ≡ result_of (judge (screened file.now
         (reason_call file.now bound (length answer.old)))) }
@@ -22,7 +23,7 @@ pub fn hbr_screen_reason(file: &[u8], bound: i32, answer: &mut [i32]) -> u32
     if answer.len() < 19 {
         return SHORT_ANSWER;
     }
-    if let Acceptance::Refused(refusal) = accept_file_for(Caller::Screen, file) {
+    if let Err(refusal) = accept_file_for(Caller::Screen, file) {
         return result_of(refusal);
     }
     hbr_reason(file, bound, answer)

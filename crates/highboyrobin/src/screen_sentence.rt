@@ -8,8 +8,9 @@ ghost use Rattle.highboyrobin.specs.ScreenCalls.{screened};
 use super::results::{SHORT_ANSWER, SHORT_REASON, result_of};
 use super::sentencing::hbr_sentence;
 use callers::files::accept_file_for;
-use order::{Acceptance, Caller};
+use order::Caller;
 
+#[tactic(auto, using(crate::proofs::Screening::trailer_carries), unfolding(order::specs::Refusals::judge, crate::specs::Results::list_call, order::specs::Callers::rows_by))]
 pub fn hbr_screen_sentence(
     file: &[u8],
     bound: i32,
@@ -32,7 +33,7 @@ pub fn hbr_screen_sentence(
     if reason.len() < 19 {
         return SHORT_REASON;
     }
-    if let Acceptance::Refused(refusal) = accept_file_for(Caller::Screen, file) {
+    if let Err(refusal) = accept_file_for(Caller::Screen, file) {
         return result_of(refusal);
     }
     hbr_sentence(file, bound, reason, line, answer)

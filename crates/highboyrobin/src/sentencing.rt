@@ -7,11 +7,10 @@ ghost use Rattle.highboyrobin.specs.Calls.{line_from, sentence_call};
 use super::answers::put_count;
 use super::handing::why_from;
 use super::results::{SHORT_ANSWER, SHORT_REASON, result_of};
-use order::Acceptance;
 use order_file::read::read_order;
-use sentence::Composed;
 use sentence::compose::compose;
 
+#[tactic(auto, using(crate::proofs::Carried::reader_carries), unfolding(order::specs::Refusals::judge, crate::specs::Results::list_call))]
 pub fn hbr_sentence(
     file: &[u8],
     bound: i32,
@@ -34,17 +33,15 @@ pub fn hbr_sentence(
     if reason.len() < 19 {
         return SHORT_REASON;
     }
-    let got = read_order(file);
-    let status = got.status;
-    if let Acceptance::Refused(refusal) = status {
-        return result_of(refusal);
-    }
-    let composed = compose(got.order, bound, why_from(reason), line);
-    match composed {
-        Composed::Refused(refusal) => result_of(refusal),
-        Composed::Length(n) => {
+    let order = match read_order(file) {
+        Ok(order) => order,
+        Err(refusal) => return result_of(refusal),
+    };
+    match compose(order, bound, why_from(reason), line) {
+        Ok(n) => {
             put_count(answer, n);
             0
         }
+        Err(refusal) => result_of(refusal),
     }
 }

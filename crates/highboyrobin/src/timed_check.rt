@@ -4,11 +4,9 @@ ghost use Rattle.order.specs.Refusals.{judge};
 ghost use Rattle.highboyrobin.specs.Results.{result_of};
 ghost use Rattle.highboyrobin.specs.TimedCalls.{timed_check_call, timed_check_answer};
 
-use super::ReadStatus;
 use super::answers::put_count;
 use super::results::result_of;
 use super::timing::read_timed;
-use plan::Checked;
 use timed::checking::check_timed;
 
 pub fn hbr_timed_check(
@@ -24,22 +22,15 @@ pub fn hbr_timed_check(
     ensures answer_after { answer.new ≡ timed_check_answer file.now bound ready.now windows.now
         rows.now answer.old }
 {
-    let got = read_timed(file, ready, windows, answer.len());
-    let status = got.status;
-    if let ReadStatus::Refused(result) = status {
-        return result;
-    }
-    let order = got.order;
-    let times = got.times;
+    let (order, times) = match read_timed(file, ready, windows, answer.len()) {
+        Ok(read) => read,
+        Err(result) => return result,
+    };
     match check_timed(order, bound, times, rows) {
-        Checked::Refused(refusal) => result_of(refusal),
-        Checked::Yes => {
-            put_count(answer, 1);
+        Ok(right) => {
+            put_count(answer, u32::from(right));
             0
         }
-        Checked::No => {
-            put_count(answer, 0);
-            0
-        }
+        Err(refusal) => result_of(refusal),
     }
 }

@@ -5,11 +5,9 @@ ghost use Rattle.order_file.specs.File.{order_in};
 ghost use Rattle.highboyrobin.specs.Results.{result_of};
 ghost use Rattle.highboyrobin.specs.TimedCalls.{times_in, timed_plan_call, TimedPlanBy};
 
-use super::ReadStatus;
 use super::answers::put_count;
 use super::results::{TOO_TIGHT, result_of};
 use super::timing::read_timed;
-use timed::TimedPlan;
 use timed::planning::plan_timed;
 
 pub fn hbr_timed_plan(
@@ -27,19 +25,16 @@ pub fn hbr_timed_plan(
         (times_in ready.now windows.now)
         rows.old rows.new answer.old answer.new }
 {
-    let got = read_timed(file, ready, windows, answer.len());
-    let status = got.status;
-    if let ReadStatus::Refused(result) = status {
-        return result;
-    }
-    let order = got.order;
-    let times = got.times;
+    let (order, times) = match read_timed(file, ready, windows, answer.len()) {
+        Ok(read) => read,
+        Err(result) => return result,
+    };
     match plan_timed(order, bound, times, rows) {
-        TimedPlan::Refused(refusal) => result_of(refusal),
-        TimedPlan::Tight => TOO_TIGHT,
-        TimedPlan::Rows(count) => {
+        Ok(Some(count)) => {
             put_count(answer, count);
             0
         }
+        Ok(None) => TOO_TIGHT,
+        Err(refusal) => result_of(refusal),
     }
 }

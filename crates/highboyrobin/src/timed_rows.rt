@@ -4,11 +4,9 @@ ghost use Rattle.order.specs.Refusals.{judge};
 ghost use Rattle.highboyrobin.specs.Results.{result_of};
 ghost use Rattle.highboyrobin.specs.TimedCalls.{timed_rows_call, timed_rows_answer};
 
-use super::ReadStatus;
 use super::answers::put_count;
 use super::results::result_of;
 use super::timing::read_timed;
-use timed::TimedRows;
 use timed::asking::rows_timed;
 
 pub fn hbr_timed_rows(
@@ -23,18 +21,15 @@ pub fn hbr_timed_rows(
     ensures answer_after { answer.new ≡ timed_rows_answer file.now bound ready.now windows.now
         answer.old }
 {
-    let got = read_timed(file, ready, windows, answer.len());
-    let status = got.status;
-    if let ReadStatus::Refused(result) = status {
-        return result;
-    }
-    let order = got.order;
-    let times = got.times;
+    let (order, times) = match read_timed(file, ready, windows, answer.len()) {
+        Ok(read) => read,
+        Err(result) => return result,
+    };
     match rows_timed(order, bound, times) {
-        TimedRows::Refused(refusal) => result_of(refusal),
-        TimedRows::Rows(rows) => {
+        Ok(rows) => {
             put_count(answer, rows);
             0
         }
+        Err(refusal) => result_of(refusal),
     }
 }

@@ -7,10 +7,7 @@ ghost use Rattle.highboyrobin.specs.TimedCalls.{times_from, timed_call, ReadBy};
 
 use super::lists::{by_job, column_of};
 use super::results::{BAD_FILE, SHORT_ANSWER, WRONG_TIMES, result_of};
-use super::{ReadStatus, TimedRead};
-use order::Acceptance;
-use order::none::no_order;
-use order_file::Trailer;
+use order::Order;
 use order_file::read::{read_order, read_trailer};
 use timed::Times;
 
@@ -25,48 +22,27 @@ fn times_from(ready: &[u32], windows: &[u32]) -> Times
     }
 }
 
-// A result, with no order.
-fn refuse(res: u32) -> TimedRead
-    ensures { result.status ≡ ReadStatus.Refused res }
-{
-    TimedRead {
-        status: ReadStatus::Refused(res),
-        order: no_order(),
-        times: Times {
-            ready: [0u32; 48],
-            opens: [0u32; 16],
-            closes: [0u32; 16],
-        },
-    }
-}
-
 // The order of a file and the times: an answer of so many numbers that is too short, 12, lists that are not as long as the file's counts,
 // then the rows of acceptance.
-pub fn read_timed(file: &[u8], ready: &[u32], windows: &[u32], lent: usize) -> TimedRead
+#[tactic(auto, using(crate::proofs::Carried::reader_carries), unfolding(order::specs::Refusals::judge, crate::specs::TimedCalls::timed_call))]
+pub fn read_timed(
+    file: &[u8],
+    ready: &[u32],
+    windows: &[u32],
+    lent: usize,
+) -> Result<(Order, Times), u32>
     ensures { ReadBy (judge (timed_call lent file.now ready.now windows.now
         (order_rows limits (order_in file.now)))) file.now ready.now windows.now result }
 {
     if lent < 1 {
-        return refuse(SHORT_ANSWER);
+        return Err(SHORT_ANSWER);
     }
-    let Trailer::Good(lists) = read_trailer(file) else {
-        return refuse(BAD_FILE);
-    };
-    if ready.len() != lists.jobs {
-        return refuse(WRONG_TIMES);
+    let lists = read_trailer(file).ok_or(BAD_FILE)?;
+    if ready.len() != lists.jobs || windows.len() != 2 * lists.processors {
+        return Err(WRONG_TIMES);
     }
-    if windows.len() != 2 * lists.processors {
-        return refuse(WRONG_TIMES);
-    }
-    let got = read_order(file);
-    let status = got.status;
-    if let Acceptance::Refused(refusal) = status {
-        return refuse(result_of(refusal));
-    }
-    let order = got.order;
-    TimedRead {
-        status: ReadStatus::Read,
-        order,
-        times: times_from(ready, windows),
+    match read_order(file) {
+        Ok(order) => Ok((order, times_from(ready, windows))),
+        Err(refusal) => Err(result_of(refusal)),
     }
 }

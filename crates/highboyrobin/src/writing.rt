@@ -9,9 +9,9 @@ use super::answers::put_count;
 use super::gathering::order_from;
 use super::results::{PART_JOB, SHORT_ANSWER, result_of};
 use order::{Caller, Refusal};
-use order_file::OrderWritten;
 use order_file::write::write_order;
 
+#[tactic(auto, unfolding(order::specs::Refusals::judge, crate::specs::Calls::write_call))]
 pub fn hbr_write(memories: &[u32], jobs: &[u32], file: &mut [u8], answer: &mut [i32]) -> u32
     ensures value { result ≡ result_of (judge (write_call memories.now jobs.now (length file.old)
         (length answer.old))) }
@@ -39,12 +39,11 @@ pub fn hbr_write(memories: &[u32], jobs: &[u32], file: &mut [u8], answer: &mut [
         }
         return result_of(Refusal::TooManyJobs(Caller::Dock));
     }
-    let written = write_order(order_from(memories, jobs), file);
-    match written {
-        OrderWritten::Refused(refusal) => result_of(refusal),
-        OrderWritten::Bytes(n) => {
+    match write_order(order_from(memories, jobs), file) {
+        Ok(n) => {
             put_count(answer, n as u32);
             0
         }
+        Err(refusal) => result_of(refusal),
     }
 }

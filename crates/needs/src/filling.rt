@@ -8,7 +8,7 @@ ghost use Rattle.needs.specs.Told.{filled_told};
 use super::gaps::first_unmet;
 use super::meeting::{line_count, lines_of, need_for};
 use super::overlaps::first_twice;
-use super::{Filled, LONGEST};
+use super::{LONGEST, Unfilled};
 
 // The first place in the list whose length is not in range.
 fn first_out(lengths: &[u32]) -> Option<usize>
@@ -28,9 +28,9 @@ fn put_needs(table: &[u32], n: usize, lengths: &[u32], needs: &mut [u32])
     }
 }
 
-// Refusals 17, 18, 5 and 9, in that order; else each length's need. The lines that count are copied once, so that nothing else is
-// read of the table.
-pub fn fill_needs(table: &[u32], lengths: &[u32], needs: &mut [u32]) -> Filled
+// How many needs are filled in: refusals 17, 18, 5 and 9, in that order; else each length's need. The lines that count are copied once,
+// so that nothing else is read of the table.
+pub fn fill_needs(table: &[u32], lengths: &[u32], needs: &mut [u32]) -> Result<usize, Unfilled>
     ensures result_value { filled_told result ≡ answer_by (judge (need_rows table.now lengths.now (length needs.old)))
         (length lengths.now) }
     ensures needs_after { needs.new ≡ left_by (judge (need_rows table.now lengths.now
@@ -39,17 +39,17 @@ pub fn fill_needs(table: &[u32], lengths: &[u32], needs: &mut [u32]) -> Filled
     let n = line_count(table);
     let lines = lines_of(table, n);
     if let Some(gap) = first_unmet(&lines, n) {
-        return Filled::NoLine(gap);
+        return Err(Unfilled::NoLine(gap));
     }
     if let Some(twice) = first_twice(&lines, n) {
-        return Filled::TwoLines(twice);
+        return Err(Unfilled::TwoLines(twice));
     }
     if let Some(k) = first_out(lengths) {
-        return Filled::LengthOutOfRange(k + 1);
+        return Err(Unfilled::LengthOutOfRange(k + 1));
     }
     if needs.len() < lengths.len() {
-        return Filled::BufferTooShort;
+        return Err(Unfilled::BufferTooShort);
     }
     put_needs(&lines, n, lengths, needs);
-    Filled::Needs(lengths.len())
+    Ok(lengths.len())
 }

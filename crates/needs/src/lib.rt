@@ -11,11 +11,9 @@ pub const LONGEST: u32 = 100000;
 
 pub const MOST_LINES: usize = 32;
 
-// How many needs were filled in, or the refusal: 17 and 18 with the smallest such length, 5 with the first such place in the
-// list, counted from 1, and 9.
+// Why no needs are filled in: 17 and 18 with the smallest such length, 5 with the first such place in the list, counted from 1, and 9.
 #[derive(Clone, Copy)]
-pub enum Filled {
-    Needs(usize),
+pub enum Unfilled {
     NoLine(u32),
     TwoLines(u32),
     LengthOutOfRange(usize),

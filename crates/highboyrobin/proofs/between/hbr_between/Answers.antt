@@ -1,3 +1,4 @@
+use Rattle.std.specs.Prelude.{Ok, Err}
 use mathlib.Core.Path.{◌∙◌, subst}
 use lib.ListN.{length}
 use Rattle.highboyrobin.specs.BetweenCalls.{estimate_in}
@@ -7,71 +8,57 @@ use Rattle.highboyrobin.proofs.BetweenTold.{LeastsSay, leasts-refused, leasts-ar
 use Rattle.highboyrobin.proofs.Carried.{carried-few, estimate-carries}
 use Rattle.highboyrobin.proofs.between.hbr_between.Goals as goal
 
-pub returns-in-Refused : goal.returns-in-Refused
-returns-in-Refused c =
+pub returns-in-Err : goal.returns-in-Err
+returns-in-Err c =
     let s = c.args in
-    let f = c.args.file.now in
-    let h = c.args.highs.now in
+    let f = s.file.now in
+    let h = s.highs.now in
     let n = length s.answer.now in
-    let got = c.read_estimate-got in
-    let r = c.read_estimate-got.result in
-    let w = between-refused n 2 f h r got.ensures _ _ (rows-begin f h) c.in-Refused.result c.in-Refused.is in
+    let w = between-refused n 2 f h c.in-Err.result c.in-Err.ensures _ _ (rows-begin f h) in
     let t = read-ended _ _ _ w.0 w.1 _ w.2 w.3 in
     record { value = t.0; answer_after = t.1 }
-
-pub result_of-requires : goal.result_of-requires
-result_of-requires c =
-    let s = c.args in
-    let f = c.args.file.now in
-    let h = c.args.highs.now in
-    let n = length s.answer.now in
-    let got = c.read_estimate-got in
-    let r = c.read_estimate-got.result in
-    let ok = c.in_default.is in
-    let e = estimate_in f h in
-    let l = c.least_between in
-    let t = subst (LeastsSay l.result) (between-estimate n 2 f h r got.ensures ok) l.ensures in
-    carried-few _ _ (leasts-refused l.result e t c.in-Refused-least_between.refusal c.in-Refused-least_between.is) (estimate-carries e)
 
 pub put_two-requires : goal.put_two-requires
 put_two-requires c =
     let s = c.args in
-    let f = c.args.file.now in
-    let h = c.args.highs.now in
-    let n = length s.answer.now in
-    let got = c.read_estimate-got in
-    let r = c.read_estimate-got.result in
-    between-room n 2 f h r got.ensures c.in_default.is
+    between-room (length s.answer.now) 2 s.file.now s.highs.now c.in-Ok.estimate c.in-Ok.ensures
 
-pub returns-in-Refused-least_between : goal.returns-in-Refused-least_between
-returns-in-Refused-least_between c =
+pub result_of-requires : goal.result_of-requires
+result_of-requires c =
     let s = c.args in
-    let f = c.args.file.now in
-    let h = c.args.highs.now in
+    let f = s.file.now in
+    let h = s.highs.now in
     let n = length s.answer.now in
-    let got = c.read_estimate-got in
-    let r = c.read_estimate-got.result in
-    let ok = c.in_default.is in
     let e = estimate_in f h in
-    let l = c.least_between in
-    let t = subst (LeastsSay l.result) (between-estimate n 2 f h r got.ensures ok) l.ensures in
-    let t = ended-told _ _ _ c.in-Refused-least_between.refusal (between-read n 2 f h r got.ensures ok _ ∙ leasts-refused l.result e t c.in-Refused-least_between.refusal c.in-Refused-least_between.is) _
-    c.result_of.ensures in
+    let d = c.in-Ok.estimate in
+    let why = c.in-Err-least_between.refusal in
+    let t = subst (LeastsSay (Err why)) (between-estimate n 2 f h d c.in-Ok.ensures) c.in-Err-least_between.ensures in
+    carried-few _ _ (leasts-refused e why t) (estimate-carries e)
+
+pub returns-in-Err-least_between : goal.returns-in-Err-least_between
+returns-in-Err-least_between c =
+    let s = c.args in
+    let f = s.file.now in
+    let h = s.highs.now in
+    let n = length s.answer.now in
+    let e = estimate_in f h in
+    let d = c.in-Ok.estimate in
+    let why = c.in-Err-least_between.refusal in
+    let t = subst (LeastsSay (Err why)) (between-estimate n 2 f h d c.in-Ok.ensures) c.in-Err-least_between.ensures in
+    let t = ended-told _ _ _ why (between-read n 2 f h d c.in-Ok.ensures _ ∙ leasts-refused e why t) _ c.result_of.ensures in
     record { value = t.0; answer_after = t.1 }
 
-pub returns-in-Between : goal.returns-in-Between
-returns-in-Between c =
+pub returns-in-Ok-least_between : goal.returns-in-Ok-least_between
+returns-in-Ok-least_between c =
     let s = c.args in
-    let f = c.args.file.now in
-    let h = c.args.highs.now in
+    let f = s.file.now in
+    let h = s.highs.now in
     let n = length s.answer.now in
-    let got = c.read_estimate-got in
-    let r = c.read_estimate-got.result in
-    let ok = c.in_default.is in
     let e = estimate_in f h in
-    let l = c.least_between in
-    let t = subst (LeastsSay l.result) (between-estimate n 2 f h r got.ensures ok) l.ensures in
-    let q = leasts-are l.result e t _ _ c.in-Between.is in
-    let t = ended-done _ _ _ _ (between-read n 2 f h r got.ensures ok _ ∙ q.0)
+    let d = c.in-Ok.estimate in
+    let l = c.in-Ok-least_between.leasts in
+    let t = subst (LeastsSay (Ok l)) (between-estimate n 2 f h d c.in-Ok.ensures) c.in-Ok-least_between.ensures in
+    let q = leasts-are e l t in
+    let t = ended-done _ _ _ _ (between-read n 2 f h d c.in-Ok.ensures _ ∙ q.0)
     (c.put_two.ensures ∙ two-same (low_read e q.0 _ q.1) (high_read e q.0 _ q.2)) in
     record { value = t.0; answer_after = t.1 }

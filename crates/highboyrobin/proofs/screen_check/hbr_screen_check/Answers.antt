@@ -1,6 +1,6 @@
-use Rattle.highboyrobin.proofs.Answering.{ended-refused, ended-told}
+use Rattle.highboyrobin.proofs.Answering.{ended-told}
 use Rattle.highboyrobin.proofs.ChecksTold.{check-begins}
-use Rattle.highboyrobin.proofs.Screening.{trailer-carries, for-short, for-refused, same-replies-at, LeftAt}
+use Rattle.highboyrobin.proofs.Screening.{for-refused, same-replies-at, LeftAt}
 use Rattle.highboyrobin.specs.Calls.{yes_or_no}
 use Rattle.highboyrobin.specs.ScreenCallLaws.{check-itself}
 use Rattle.order.specs.declared.Caller.TheVariants.{Screen}
@@ -11,24 +11,13 @@ use mir.Syntax.{w32}
 use mir.ValLaws.{to_z-of_z}
 use Rattle.highboyrobin.proofs.screen_check.hbr_screen_check.Goals as goal
 
-pub returns-then-answer-lt1 : goal.returns-then-answer-lt1
-returns-then-answer-lt1 c =
-    let t = ended-refused _ _ _ 255 0 (for-short Screen c.args.file.now (length c.args.answer.now) 1 _ c.if-answer-lt1.true) in
-    record { value = t.0; answer_after = t.1 }
-
-pub result_of-requires : goal.result_of-requires
-result_of-requires c =
+pub returns-in-Err : goal.returns-in-Err
+returns-in-Err c =
     let k = c.accept_file_for in
-    trailer-carries Screen c.args.file.now k.result k.ensures _
-    c.in-Refused.is
-
-pub returns-in-Refused : goal.returns-in-Refused
-returns-in-Refused c =
-    let k = c.accept_file_for in
-    let t = ended-told _ _ _ c.in-Refused.refusal
+    let t = ended-told _ _ _ c.in-Err.refusal
     (for-refused Screen c.args.file.now (length c.args.answer.now) 1 c.if-answer-lt1.false
     k.result k.ensures _
-    c.in-Refused.is _ _ (check-begins (order_in c.args.file.now) c.args.bound (length c.args.rows.now)))
+    c.in-Err.is _ _ (check-begins (order_in c.args.file.now) c.args.bound (length c.args.rows.now)))
     _ c.result_of.ensures in
     record { value = t.0; answer_after = t.1 }
 

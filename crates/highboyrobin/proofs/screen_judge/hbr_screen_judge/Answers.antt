@@ -1,5 +1,5 @@
-use Rattle.highboyrobin.proofs.Answering.{ended-refused, ended-told}
-use Rattle.highboyrobin.proofs.Screening.{trailer-carries, for-short, for-refused, same-replies-at, LeftAt}
+use Rattle.highboyrobin.proofs.Answering.{ended-told}
+use Rattle.highboyrobin.proofs.Screening.{for-refused, same-replies-at, LeftAt}
 use Rattle.highboyrobin.specs.Calls.{sizes_of}
 use Rattle.highboyrobin.specs.ScreenCallLaws.{judge-itself}
 use Rattle.order.specs.Refusals.{limits, order_rows}
@@ -11,24 +11,13 @@ use mathlib.Core.List.{append-nil}
 use mathlib.Core.Path.{refl, sym}
 use Rattle.highboyrobin.proofs.screen_judge.hbr_screen_judge.Goals as goal
 
-pub returns-then-answer-lt3 : goal.returns-then-answer-lt3
-returns-then-answer-lt3 c =
-    let t = ended-refused _ _ _ 255 0 (for-short Screen c.args.file.now (length c.args.answer.now) 3 _ c.if-answer-lt3.true) in
-    record { value = t.0; answer_after = t.1 }
-
-pub result_of-requires : goal.result_of-requires
-result_of-requires c =
+pub returns-in-Err : goal.returns-in-Err
+returns-in-Err c =
     let k = c.accept_file_for in
-    trailer-carries Screen c.args.file.now k.result k.ensures _
-    c.in-Refused.is
-
-pub returns-in-Refused : goal.returns-in-Refused
-returns-in-Refused c =
-    let k = c.accept_file_for in
-    let t = ended-told _ _ _ c.in-Refused.refusal
+    let t = ended-told _ _ _ c.in-Err.refusal
     (for-refused Screen c.args.file.now (length c.args.answer.now) 3 c.if-answer-lt3.false
     k.result k.ensures _
-    c.in-Refused.is _ _ (sym (append-nil (order_rows limits (order_in c.args.file.now)))))
+    c.in-Err.is _ _ (sym (append-nil (order_rows limits (order_in c.args.file.now)))))
     _ c.result_of.ensures in
     record { value = t.0; answer_after = t.1 }
 

@@ -1,5 +1,5 @@
-use Rattle.highboyrobin.proofs.Answering.{plan-refused, plan-told}
-use Rattle.highboyrobin.proofs.Screening.{trailer-carries, for-short, for-refused, same-replies-at, PlanAt}
+use Rattle.highboyrobin.proofs.Answering.{plan-told}
+use Rattle.highboyrobin.proofs.Screening.{for-refused, same-replies-at, PlanAt}
 use Rattle.highboyrobin.specs.ScreenCallLaws.{plan-itself}
 use Rattle.order.specs.declared.Caller.TheVariants.{Screen}
 use Rattle.order_file.specs.File.{order_in}
@@ -11,24 +11,13 @@ use mir.Syntax.{w32}
 use mir.ValLaws.{to_z-of_z}
 use Rattle.highboyrobin.proofs.screen_plan.hbr_screen_plan.Goals as goal
 
-pub returns-then-answer-lt1 : goal.returns-then-answer-lt1
-returns-then-answer-lt1 c =
-    let t = plan-refused _ _ _ _ _ _ 255 0 (for-short Screen c.args.file.now (length c.args.answer.now) 1 _ c.if-answer-lt1.true) _ refl in
-    record { value = t.0; plan_by = t.1 }
-
-pub result_of-requires : goal.result_of-requires
-result_of-requires c =
+pub returns-in-Err : goal.returns-in-Err
+returns-in-Err c =
     let k = c.accept_file_for in
-    trailer-carries Screen c.args.file.now k.result k.ensures _
-    c.in-Refused.is
-
-pub returns-in-Refused : goal.returns-in-Refused
-returns-in-Refused c =
-    let k = c.accept_file_for in
-    let t = plan-told _ _ _ _ _ _ c.in-Refused.refusal
+    let t = plan-told _ _ _ _ _ _ c.in-Err.refusal
     (for-refused Screen c.args.file.now (length c.args.answer.now) 1 c.if-answer-lt1.false
     k.result k.ensures _
-    c.in-Refused.is _ _ (plan-begins (order_in c.args.file.now) c.args.bound (length c.args.rows.now)))
+    c.in-Err.is _ _ (plan-begins (order_in c.args.file.now) c.args.bound (length c.args.rows.now)))
     _ c.result_of.ensures _ refl in
     record { value = t.0; plan_by = t.1 }
 

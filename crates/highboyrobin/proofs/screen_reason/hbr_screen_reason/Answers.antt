@@ -1,5 +1,5 @@
-use Rattle.highboyrobin.proofs.Answering.{ended-refused, ended-told}
-use Rattle.highboyrobin.proofs.Screening.{trailer-carries, for-short, for-refused, same-replies-at, LeftAt}
+use Rattle.highboyrobin.proofs.Answering.{ended-told}
+use Rattle.highboyrobin.proofs.Screening.{for-refused, same-replies-at, LeftAt}
 use Rattle.highboyrobin.specs.Calls.{reason_numbers}
 use Rattle.highboyrobin.specs.ScreenCallLaws.{reason-itself}
 use Rattle.order.specs.declared.Caller.TheVariants.{Screen}
@@ -11,24 +11,13 @@ use mir.Syntax.{w32}
 use mir.ValLaws.{to_z-of_z}
 use Rattle.highboyrobin.proofs.screen_reason.hbr_screen_reason.Goals as goal
 
-pub returns-then-answer-lt19 : goal.returns-then-answer-lt19
-returns-then-answer-lt19 c =
-    let t = ended-refused _ _ _ 255 0 (for-short Screen c.args.file.now (length c.args.answer.now) 19 _ c.if-answer-lt19.true) in
-    record { value = t.0; answer_after = t.1 }
-
-pub result_of-requires : goal.result_of-requires
-result_of-requires c =
+pub returns-in-Err : goal.returns-in-Err
+returns-in-Err c =
     let k = c.accept_file_for in
-    trailer-carries Screen c.args.file.now k.result k.ensures _
-    c.in-Refused.is
-
-pub returns-in-Refused : goal.returns-in-Refused
-returns-in-Refused c =
-    let k = c.accept_file_for in
-    let t = ended-told _ _ _ c.in-Refused.refusal
+    let t = ended-told _ _ _ c.in-Err.refusal
     (for-refused Screen c.args.file.now (length c.args.answer.now) 19 c.if-answer-lt19.false
     k.result k.ensures _
-    c.in-Refused.is _ _ refl)
+    c.in-Err.is _ _ refl)
     _ c.result_of.ensures in
     record { value = t.0; answer_after = t.1 }
 

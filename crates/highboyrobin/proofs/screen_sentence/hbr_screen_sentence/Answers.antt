@@ -1,5 +1,5 @@
-use Rattle.highboyrobin.proofs.Screening.{trailer-carries, for-list-short, for-few, for-list-refused, same-replies-at, SentenceAt}
-use Rattle.highboyrobin.proofs.SentenceTold.{sentence-refused, sentence-told, compose-begins}
+use Rattle.highboyrobin.proofs.Screening.{for-list-refused, same-replies-at, SentenceAt}
+use Rattle.highboyrobin.proofs.SentenceTold.{sentence-told, compose-begins}
 use Rattle.highboyrobin.specs.Calls.{why_from, line_from}
 use Rattle.highboyrobin.specs.ScreenCallLaws.{sentence-itself}
 use Rattle.order.specs.declared.Caller.TheVariants.{Screen}
@@ -10,31 +10,13 @@ use mir.Syntax.{w32}
 use mir.ValLaws.{to_z-of_z}
 use Rattle.highboyrobin.proofs.screen_sentence.hbr_screen_sentence.Goals as goal
 
-pub returns-then-answer-lt1 : goal.returns-then-answer-lt1
-returns-then-answer-lt1 c =
-    let t = sentence-refused _ _ _ _ 255 0 (for-list-short Screen c.args.file.now (length c.args.answer.now) 1
-    (length c.args.reason.now) 19 _ c.if-answer-lt1.true) _ refl in
-    record { value = t.0; line_after = t.1.0; answer_after = t.1.1 }
-
-pub returns-then-reason-lt19 : goal.returns-then-reason-lt19
-returns-then-reason-lt19 c =
-    let t = sentence-refused _ _ _ _ 253 0 (for-few Screen c.args.file.now (length c.args.answer.now) 1 (length c.args.reason.now) 19
-    _ c.if-answer-lt1.false c.if-reason-lt19.true) _ refl in
-    record { value = t.0; line_after = t.1.0; answer_after = t.1.1 }
-
-pub result_of-requires : goal.result_of-requires
-result_of-requires c =
+pub returns-in-Err : goal.returns-in-Err
+returns-in-Err c =
     let k = c.accept_file_for in
-    trailer-carries Screen c.args.file.now k.result k.ensures _
-    c.in-Refused.is
-
-pub returns-in-Refused : goal.returns-in-Refused
-returns-in-Refused c =
-    let k = c.accept_file_for in
-    let t = sentence-told _ _ _ _ c.in-Refused.refusal
+    let t = sentence-told _ _ _ _ c.in-Err.refusal
     (for-list-refused Screen c.args.file.now (length c.args.answer.now) 1 (length c.args.reason.now) 19
     c.if-answer-lt1.false c.if-reason-lt19.false
-    k.result k.ensures _ c.in-Refused.is _ _
+    k.result k.ensures _ c.in-Err.is _ _
     (compose-begins (order_in c.args.file.now) c.args.bound (why_from c.args.reason.now) (length c.args.line.now)))
     _ c.result_of.ensures _ refl in
     record { value = t.0; line_after = t.1.0; answer_after = t.1.1 }

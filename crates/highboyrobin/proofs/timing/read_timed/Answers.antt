@@ -1,11 +1,7 @@
--- `read_timed`: room, file, lengths and order are judged one after the other, as the call's table has them.
-use mathlib.Core.Path.{refl}
-use Rattle.highboyrobin.specs.declared.ReadStatus.TheVariants.{Read}
-use Rattle.order_file.specs.ReaderLaws.{reader-refused}
-use Rattle.highboyrobin.proofs.Carried.{carried-few, read-carries}
-use Rattle.order_file.specs.TrailerLaws.{lists-placed}
+-- `read_timed`: file, lengths and order are judged one after the other, as the call's table has them.
+use Rattle.std.specs.Prelude.{Some, None, Err}
+use mathlib.Core.Path.{◌≡◌}
 use Rattle.highboyrobin.proofs.TimesRead.{
-  no_room,
   bad-file,
   other-jobs,
   other-windows,
@@ -13,56 +9,51 @@ use Rattle.highboyrobin.proofs.TimesRead.{
   reader-accepts,
 }
 use borrow.Author.Rules.{rules}
+use Rattle.highboyrobin.proofs.timing.read_timed.Goals.{
+  then-ready-lists-via-then-ready-lists,
+  then-ready-lists-via-else-ready-lists+then-windows-lists,
+}
 use Rattle.highboyrobin.proofs.timing.read_timed.Goals as goal
 
-pub returns-then-lent-lt1 : goal.returns-then-lent-lt1
-returns-then-lent-lt1 c =
+pub returns-in_err-lists : goal.returns-in_err-lists
+returns-in_err-lists c =
     let s = c.args in
-    no_room s.lent s.file.now s.ready.now s.windows.now c.refuse.result c.if-lent-lt1.true c.refuse.ensures
-
-pub returns-in_default : goal.returns-in_default
-returns-in_default c =
-    let s = c.args in
-    bad-file s.lent s.file.now s.ready.now s.windows.now c.if-lent-lt1.false c.read_trailer.result
-    c.read_trailer.ensures.value c.refuse-in_default.result c.in_default.is c.refuse-in_default.ensures
+    let none : c.read_trailer.result ≡ None = search rules in
+    let is : c.from_residual.result ≡ Err 12 = search rules in
+    rw is
+    (bad-file s.lent s.file.now s.ready.now s.windows.now c.if-lent-lt1.false c.read_trailer.result c.read_trailer.ensures.value none)
 
 pub returns-then-ready-lists : goal.returns-then-ready-lists
 returns-then-ready-lists c =
     let s = c.args in
-    other-jobs s.lent s.file.now s.ready.now s.windows.now c.if-lent-lt1.false c.read_trailer.result
-    c.read_trailer.ensures.value _ c.read_trailer.ensures.within c.in-Good.is
-    c.refuse-then-ready-lists.result c.if-ready-lists.true c.refuse-then-ready-lists.ensures
+    let t = c.read_trailer in
+    let l = c.in_ok-lists.lists in
+    let good : t.result ≡ Some l = search rules in
+    elim c.then-ready-lists.branch [
+      | then-ready-lists-via-then-ready-lists w ↦
+          other-jobs s.lent s.file.now s.ready.now s.windows.now c.if-lent-lt1.false t.result t.ensures.value l t.ensures.within good
+          w.if-ready-lists.true
+      | then-ready-lists-via-else-ready-lists+then-windows-lists w ↦
+          other-windows s.lent s.file.now s.ready.now s.windows.now c.if-lent-lt1.false t.result t.ensures.value l t.ensures.within good
+          w.if-ready-lists.false w.if-windows-lists.true
+    ]
 
-pub overflow_mul-lists : goal.overflow_mul-lists
-overflow_mul-lists c =
+pub returns-in-Err : goal.returns-in-Err
+returns-in-Err c =
     let s = c.args in
-    let p = lists-placed s.file.now _ _ c.read_trailer.ensures.within c.in-Good.is in search rules
+    let t = c.read_trailer in
+    let l = c.in_ok-lists.lists in
+    let good : t.result ≡ Some l = search rules in
+    reader-refuses s.lent s.file.now s.ready.now s.windows.now c.if-lent-lt1.false t.result t.ensures.value l t.ensures.within good
+    c.if-ready-lists.false c.if-windows-lists.false c.read_order.result c.read_order.ensures.result_value c.in-Err.refusal c.in-Err.is
+    _ c.result_of.ensures
 
-pub returns-then-windows-lists : goal.returns-then-windows-lists
-returns-then-windows-lists c =
+pub returns-in-Ok : goal.returns-in-Ok
+returns-in-Ok c =
     let s = c.args in
-    other-windows s.lent s.file.now s.ready.now s.windows.now c.if-lent-lt1.false c.read_trailer.result
-    c.read_trailer.ensures.value _ c.read_trailer.ensures.within c.in-Good.is
-    c.if-ready-lists.false c.refuse-then-windows-lists.result c.if-windows-lists.true c.refuse-then-windows-lists.ensures
-
-pub result_of-requires : goal.result_of-requires
-result_of-requires c =
-    let f = c.args.file.now in
-    carried-few _ _ (reader-refused f c.read_order-got.result c.read_order-got.ensures.result_value c.in-Refused.refusal c.in-Refused.is) (read-carries f)
-
-pub returns-in-Refused : goal.returns-in-Refused
-returns-in-Refused c =
-    let s = c.args in
-    reader-refuses s.lent s.file.now s.ready.now s.windows.now c.if-lent-lt1.false c.read_trailer.result
-    c.read_trailer.ensures.value _ c.read_trailer.ensures.within c.in-Good.is
-    c.if-ready-lists.false c.if-windows-lists.false c.read_order-got.result c.read_order-got.ensures.result_value
-    c.refuse-in-Refused.result c.in-Refused.refusal c.in-Refused.is _ c.result_of.ensures c.refuse-in-Refused.ensures
-
-pub returns : goal.returns
-returns c =
-    let s = c.args in
-    reader-accepts s.lent s.file.now s.ready.now s.windows.now c.if-lent-lt1.false c.read_trailer.result
-    c.read_trailer.ensures.value _ c.read_trailer.ensures.within c.in-Good.is
-    c.if-ready-lists.false c.if-windows-lists.false c.read_order-got.result c.read_order-got.ensures.result_value
-    (record { status = Read; order = c.read_order-got.result.order; times = c.times_from.result })
-    c.in_default-status.is refl refl c.times_from.ensures
+    let t = c.read_trailer in
+    let l = c.in_ok-lists.lists in
+    let good : t.result ≡ Some l = search rules in
+    reader-accepts s.lent s.file.now s.ready.now s.windows.now c.if-lent-lt1.false t.result t.ensures.value l t.ensures.within good
+    c.if-ready-lists.false c.if-windows-lists.false c.read_order.result c.read_order.ensures.result_value c.in-Ok.order c.in-Ok.is
+    _ c.times_from.ensures
