@@ -15,6 +15,10 @@ pub record Given (n q m : ℕ) (time class room : List ℕ) : Type 0 where
   pub idle-time : get_or time n 0 ≡ sum q (λ s. get_or room (s * m + (m - 1)) 0)
   pub no_room : (s : ℕ) → s < q → get_or room (s * m + 0) 0 ≡ 0
 
+-- the first to entries are those of another list
+pub record Copied (xs ys : List ℕ) (to : ℕ) : Type 0 where
+  pub each : (k : ℕ) → k < to → get_or ys k 0 ≡ get_or xs k 0
+
 -- row n holds the last rooms of the stretches, up to u; what lies below it is as before
 pub record IdleRow (room xs ys : List ℕ) (n q m u : ℕ) : Type 0 where
   pub idle : (s : ℕ) → s < u → get_or ys (n * q + s) 0 ≡ get_or room (s * m + (m - 1)) 0

@@ -8,6 +8,7 @@ ghost use Rattle.engine.specs.Run.{FillRun, RunOf};
 use super::advance::discharge;
 use super::instance::{Filling, Instance};
 use super::moves::{pick, stands};
+use super::slices::copy;
 
 // The idle job has the last room of each stretch.
 pub fn idle_row(room: &[u32], w: &mut [u32], n: usize, q: usize, m: usize)
@@ -63,7 +64,7 @@ pub fn solve(
 {
     w[..n * q].fill(0);
     idle_row(room, w, n, q, m);
-    slack[..q * m].copy_from_slice(&room[..q * m]);
+    copy(room, slack, q * m);
     left[..n].copy_from_slice(&time[..n]);
     left[n] = 0;
     height[..n].fill(1);

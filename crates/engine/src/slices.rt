@@ -1,6 +1,7 @@
 // Small work on lent slices of numbers. Each function serves this crate alone and has a `requires`.
 ghost use Rattle.std.specs.Prelude.{◌≢◌, ℕ, ◌+◌, ◌^◌, ◌<◌, ◌≤◌, length, get_or};
 ghost use Rattle.engine.specs.View.{Transferred, Lowered, Raised, FirstZero};
+ghost use Rattle.engine.specs.Start.{Copied};
 
 // d from one place to another.
 pub fn transfer(xs: &mut [u32], up: usize, down: usize, d: u32)
@@ -37,4 +38,14 @@ pub fn before_zero(xs: &[u32]) -> usize
     ensures { FirstZero xs.now result }
 {
     xs.iter().position(|x| *x == 0).unwrap_or(xs.len())
+}
+
+// The first `to` entries are those of `from`. One at a time: copy_from_slice over two lent slices would ask makers for a memmove.
+pub fn copy(from: &[u32], xs: &mut [u32], to: usize)
+    requires { (to ≤ length xs.old) × (to ≤ length from.now) }
+    ensures { Copied from.now xs.new to }
+{
+    for k in 0..to {
+        xs[k] = from[k];
+    }
 }
