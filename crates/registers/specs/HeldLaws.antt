@@ -229,3 +229,6 @@ number-byte (n ∷ numbers) (suc (suc (suc (suc k)))) =
     let q : suc (suc (suc (suc k))) / 4 ≡ suc (k / 4) = omega arith in
     let r : suc (suc (suc (suc k))) % 4 ≡ k % 4 = omega arith in
     rw (q, r) (number-byte numbers k)
+
+pub past-four : (n k : ℕ) → 4 ≤ k → get_or (bytes4 n) k 0 ≡ 0
+past-four n k h = get_or-eq_default (bytes4 n) 0 {n = k} h

@@ -7,6 +7,14 @@ use Rattle.registers.specs.Registers.{place_of}
 use Rattle.registers.specs.declared.Place.{Place}
 use Rattle.registers.specs.declared.Place.TheVariants.{Command, Flag, Number, Allow, Stored, Lateness, Held, Nothing}
 
+-- none of the first four
+pub from-four : (a : ℕ) → (a ≡ 0 → ⊥) → (a ≡ 1 → ⊥) → (a ≡ 2 → ⊥) → (a ≡ 3 → ⊥) → 4 ≤ a
+from-four zero p q r s = absurd (p refl)
+from-four (suc zero) p q r s = absurd (q refl)
+from-four (suc (suc zero)) p q r s = absurd (r refl)
+from-four (suc (suc (suc zero))) p q r s = absurd (s refl)
+from-four (suc (suc (suc (suc a)))) p q r s = omega arith
+
 module _ (a : ℕ) (h : 4 ≤ a) where
   pub request-at : a < 12 → place_of a ≡ Stored
   request-at l =

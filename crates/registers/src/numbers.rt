@@ -3,11 +3,17 @@ ghost use Rattle.std.specs.Prelude.{◌≡◌, ◌≤◌, length, get_or};
 ghost use Rattle.order_file.specs.Bytes.{bytes4};
 ghost use Rattle.registers.specs.Memory.{lateness_put};
 
-// A byte of a number, counted from 0; a number has four.
+// A byte of a number, counted from 0; a number has four. By cases: a place in to_le_bytes would be read below the stack pointer.
 pub fn byte_of(number: u32, which: usize) -> u8
     ensures { result ≡ get_or (bytes4 number) which 0 }
 {
-    number.to_le_bytes().get(which).copied().unwrap_or(0)
+    match which {
+        0 => (number % 256) as u8,
+        1 => (number / 256 % 256) as u8,
+        2 => (number / 65536 % 256) as u8,
+        3 => (number / 16777216 % 256) as u8,
+        _ => 0,
+    }
 }
 
 // Bytes 12 to 15.
