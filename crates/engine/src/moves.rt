@@ -36,7 +36,7 @@ pub fn aim(given: &Instance, filling: &Filling, s: usize, tight: usize, h: usize
     ensures { Aim given.now.class.now filling.now.w.now filling.now.height.now given.now.n given.now.q s tight h result }
 {
     let below = h.checked_sub(1)?;
-    for i in (0..=given.n).rev() {
+    for i in (0..given.n + 1).rev() {
         if filling.height[i] == below && given.class[i] <= tight && 0 < filling.w[i * given.q + s] {
             return Some(i);
         }
