@@ -330,3 +330,13 @@ module _ {A : Type 0} (test : A → Bool) (n : ℕ) (f : ℕ → A) where
       first-none test (tabulate n f) 0
       (All-from _ (tabulate n f) (f 0)
       (λ i l. let b : i < n = rw length-tabulate at l in ap test (get_d_tabulate n f (f 0) i b) ∙ h i b))
+
+module _ (need n : ℕ) (f : ℕ → ℕ) where
+  pub fits_some-tabulate : (i : ℕ) → i < n → need ≤ f i → fits_some need (tabulate n f) ≡ true
+  fits_some-tabulate i l h =
+      true-fits_some need (tabulate n f) i (rw length-tabulate l) (rw (get_d_tabulate n f 0 i l) h)
+
+pub fits_none-tabulate : (need n : ℕ) (f : ℕ → ℕ) → ((e : ℕ) → e < n → leb need (f e) ≡ false) → fits_some need (tabulate n f) ≡ false
+unfolding fits_some
+fits_none-tabulate need zero f h = refl
+fits_none-tabulate need (suc n) f h = rw (h 0 (omega arith)) (fits_none-tabulate need n (λ i. f (suc i)) (λ e l. h (suc e) (omega arith)))

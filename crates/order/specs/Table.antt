@@ -1,5 +1,5 @@
 -- What the code's values stand for: the order of its struct, the number of each refusal and what it carries.
-use Rattle.std.specs.Prelude.{ℕ, List, pos, get_or, Option, None, Some, Result, Ok, Err}
+use Rattle.std.specs.Prelude.{ℕ, zero, suc, List, pos, get_or, Option, None, Some, Result, Ok, Err}
 use Rattle.sums.specs.Lists.{tabulate}
 use Rattle.order.specs.Order.{Job, Order, no_job, processor_count, job_count}
 use Rattle.order.specs.Refusals.{limits, Finding, clear, holds, Verdict, accepted, refused}
@@ -89,6 +89,11 @@ carried_by (refused number carried) = carried
 abbrev pub finding : Option ℕ → Finding
 finding None = clear
 finding (Some job) = holds job
+
+-- a number that stands for a finding: 0 where there is none, else the job
+abbrev pub finding_of : ℕ → Finding
+finding_of zero = clear
+finding_of (suc j) = holds (suc j)
 
 -- the answer of acceptance
 abbrev pub Acceptance : Type 0
