@@ -6,7 +6,7 @@ use Rattle.std.proofs.Common.{sym, ◌∙◌, inl, inr, le_of_suc-le-suc, take_a
 use Rattle.std.proofs.Math.Bool.{true}
 use Rattle.std.proofs.Math.Decide.{dec_le}
 use native.Mathlib.Omega.{arith}
-use borrow.Author.Tests.{leb-true, le-leb}
+use borrow.Author.Tests.{leb-true, le-leb, lt-leb}
 use Rattle.std.proofs.Math.Dec.{leb}
 use Rattle.sums.specs.Lists.{only, tabulate}
 use Rattle.sums.specs.Places.{length-tabulate, tabulate-cong}
@@ -73,6 +73,15 @@ module _ (line : Line) (x : ℕ) where
         (le-leb line.to longest m.to-most)) (le-leb line.from x m.begun)) (le-leb x line.to m.not-over)) ∙ e))) ∙ sym e
   ]
 
+  -- where the line is in range and has begun, its end decides
+  pub end-decides : 1 ≤ line.from → line.to ≤ longest → line.from ≤ x → leb x line.to ≡ meets line x
+  end-decides f t b =
+      elim (dec_le x line.to) [
+        | yes w ↦ le-leb x line.to w
+            ∙ sym (facts-meet (record { from_one = f; begun = b; not-over = w; to-most = t }))
+        | no w ↦ lt-leb x line.to (omega arith) ∙ sym (not-meets (λ m. omega (arith, m.not-over)))
+      ]
+
   -- "a line out of range or running backwards meets no length"
   pub bad-meets-none : good_line line ≡ false → meets line x ≡ false
   unfolding meets
@@ -85,17 +94,24 @@ take-tabulated (suc k) zero f h = absurd (omega arith)
 take-tabulated (suc k) (suc n) f h = ap (λ (l : List Line). f 0 ∷ l) (take-tabulated k n (λ i. f (suc i)) (le_of_suc-le-suc h))
 
 -- the lines that count are the first 32, or all where there are fewer
-pub counted-first : (table : List ℕ) → counted table ≡ first_lines table (min most_lines (length table / 3))
+pub counted-most : (table : List ℕ) → most_lines ≤ length table / 3 → counted table ≡ first_lines table most_lines
 unfolding counted lines_in
+counted-most table h = take-tabulated most_lines (length table / 3) (line_at table) h
+
+pub counted-all : (table : List ℕ) → length table / 3 ≤ most_lines → counted table ≡ first_lines table (length table / 3)
+unfolding counted lines_in
+counted-all table h =
+    take_all most_lines (tabulate (length table / 3) (line_at table)) (omega (arith, length-tabulate (length table / 3) (line_at table)))
+
+pub counted-first : (table : List ℕ) → counted table ≡ first_lines table (min most_lines (length table / 3))
 counted-first table =
     elim (dec_le most_lines (length table / 3)) [
       | yes l ↦
           let is : most_lines ≡ min most_lines (length table / 3) = omega arith in
-          take-tabulated most_lines (length table / 3) (line_at table) l ∙ ap (first_lines table) is
+          counted-most table l ∙ ap (first_lines table) is
       | no l ↦
           let is : length table / 3 ≡ min most_lines (length table / 3) = omega arith in
-          take_all most_lines (tabulate (length table / 3) (line_at table)) (omega (arith, length-tabulate (length table / 3) (line_at table)))
-          ∙ ap (first_lines table) is
+          counted-all table (omega arith) ∙ ap (first_lines table) is
     ]
 
 -- lists that have the same first numbers have the same first lines
@@ -175,3 +191,7 @@ module _ (table : List ℕ) (n x : ℕ) where
 
   pub no-need : met_by (first_lines table n) x ≡ 0 → 0 ≡ need_for (first_lines table n) x
   no-need e = sym (need-nowhere (first_lines table n) x e)
+
+  -- where no line before place i meets the length, and i is behind all lines, none meets it
+  pub none-meets : (i : ℕ) → ((k : ℕ) → k < i → meets (line_at table k) x ≡ false) → n ≤ i → met_by (first_lines table n) x ≡ 0
+  none-meets i before l = met-nowhere table n x (λ k b. before k (omega arith))

@@ -3,7 +3,7 @@
 use Prim.Native.Nat.{ℕ, zero, suc, ◌+◌, ◌≤◌, ◌<◌, min, max}
 use Rattle.std.specs.Prelude.{◌≡◌, refl, Bool, true, false, ◌&&◌, ◌||◌, List, Option, None, Some, leb, length}
 use Rattle.std.specs.Bool.{then_some}
-use Rattle.std.proofs.Common.{sym, ap, ◌∙◌, true≢false, arith, le-leb, ne_eqb}
+use Rattle.std.proofs.Common.{sym, ap, ◌∙◌, true≢false, arith, le-leb, eq-eqb, ne_eqb}
 use Rattle.std.proofs.Math.Bool.{or-false}
 use Rattle.std.proofs.Math.Decide.{dec_le, dec_lt}
 use Rattle.std.proofs.lemmas.Bool.{lt-leb}
@@ -13,7 +13,7 @@ use Rattle.order.specs.Refusals.{clear, holds, first}
 use Rattle.order.proofs.RefusalLaws.{first-tabulate, none-tabulate, both_true, true-both}
 use Rattle.needs.specs.NeedTable.{Line, line_at, meets, met_by, longest, every_length, unmet, met_twice}
 use Rattle.needs.specs.Inside.{first_lines, FirstMeets, Smallest, SmallestOf, smaller}
-use Rattle.needs.specs.MeetLaws.{Meets, meets-facts, facts-meet, met-none, met-more, met_at}
+use Rattle.needs.specs.MeetLaws.{Meets, meets-facts, facts-meet, met-none, met-more, met_at, none-meets}
 
 -- what a row of the table finds
 module _ (test : ℕ → Bool) where
@@ -83,6 +83,19 @@ module _ (table : List ℕ) (n : ℕ) where
     pub most : x ≤ suc longest
     pub met : (y : ℕ) → 1 ≤ y → y < x → unmet (first_lines table n) y ≡ false
 
+  pub start : Climbed 1
+  start = record { from_one = omega arith; most = omega arith; met = λ y h l. absurd (omega arith) }
+
+  -- no line meets x: none before place i does, which is behind all lines
+  pub at_gap : (x i : ℕ) → Climbed x → ((k : ℕ) → k < i → meets (line_at table k) x ≡ false) → n ≤ i →
+      Smallest (unmet (first_lines table n)) x
+  at_gap x i c before l = record {
+    from_one = c.from_one;
+    most = c.most;
+    before = c.met;
+    here = λ b. eq-eqb (met_by (first_lines table n) x) 0 (none-meets table n x i before l);
+  }
+
   -- a line meets x, and so it meets all up to its end
   module _ (x i : ℕ) (c : Climbed x) (m : FirstMeets table n x i) where
     pub facts : Meets (line_at table i) x
@@ -101,6 +114,10 @@ module _ (table : List ℕ) (n : ℕ) where
       most = omega (arith, facts.to-most);
       met = λ y h k. elim (dec_lt y x) [ yes w ↦ c.met y h w | no w ↦ line-meets y (omega arith) (omega arith) ];
     }
+
+  -- at the top every length is met
+  pub at_top : (x : ℕ) → Climbed x → longest < x → Smallest (unmet (first_lines table n)) x
+  at_top x c l = record { from_one = c.from_one; most = c.most; before = c.met; here = λ b. absurd (omega arith) }
 
 -- two lines: both meet the later of their beginnings, or they have no length in common
 module _ (a b : Line) where
