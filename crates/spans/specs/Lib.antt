@@ -3,3 +3,4 @@ pub mod Drain
 pub mod Line
 pub mod LineLaws
 pub mod Turn
+pub mod TurnLaws

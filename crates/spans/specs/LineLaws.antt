@@ -1,6 +1,6 @@
 -- Rows on the line: two are apart exactly if they are clear of each other, and of rows in the order of their starts all are
 -- clear exactly if each is clear of the next.
-use Rattle.std.specs.Prelude.{ℕ, suc, ◌-◌, ◌/◌, ◌≤◌, ◌<◌, ◌≡◌, Bool, true, false, List, ◌↔◌, leb, length, get_or}
+use Rattle.std.specs.Prelude.{ℕ, suc, ◌+◌, ◌-◌, ◌/◌, ◌≤◌, ◌<◌, ◌≡◌, Bool, true, false, List, ◌↔◌, leb, length, get_or}
 use Rattle.std.proofs.Common.{sym, ap, ◌∙◌, subst, inl, inr, arith, leb-true, le-leb}
 use Rattle.std.proofs.Math.Bool.{or_comm, or-true}
 use Rattle.std.proofs.Math.Decide.{ℕ_discrete, dec_lt, dec_le}
@@ -99,6 +99,34 @@ module _ (numbers : List ℕ) (by : ℕ) where
   -- each starts where the one before has stopped, or later
   abbrev pub Linked : List ℕ → Type 0
   Linked xs = (i : ℕ) → 1 ≤ i → i < length xs → at stop xs (i - 1) ≤ at start xs i
+
+  -- each of the first i stops by the start of the next of them
+  abbrev pub FirstLinked : List ℕ → ℕ → Type 0
+  FirstLinked xs i = (k : ℕ) → suc k < i → at stop xs k ≤ at start xs (suc k)
+
+  pub linked-one : (xs : List ℕ) → FirstLinked xs 1
+  linked-one xs k l = absurd (omega arith)
+
+  pub linked-more : (xs : List ℕ) (i : ℕ) → FirstLinked xs i → 1 ≤ i → at stop xs (i - 1) ≤ at start xs i → FirstLinked xs (i + 1)
+  linked-more xs i h l m k b =
+      elim (dec_lt (suc k) i) [
+        | yes c ↦ h k c
+        | no c ↦
+            let e : k ≡ i - 1 = omega arith in
+            let f : suc k ≡ i = omega arith in
+            omega (arith, ap (at stop xs) e, ap (at start xs) f)
+      ]
+
+  -- all are linked exactly if as many as there are are
+  pub linked-all : (xs : List ℕ) (n : ℕ) → FirstLinked xs n → length xs ≤ n → Linked xs
+  linked-all xs n h l i a b =
+      let e : suc (i - 1) ≡ i = omega arith in
+      omega (arith, h (i - 1) (omega arith), ap (at start xs) e)
+
+  pub all-linked : (xs : List ℕ) (n : ℕ) → Linked xs → n ≤ length xs → FirstLinked xs n
+  all-linked xs n h l k b =
+      let e : suc k - 1 ≡ k = omega arith in
+      omega (arith, h (suc k) (omega arith) (omega arith), ap (at stop xs) e)
 
   module _ (xs : List ℕ) (spans : All (Span numbers by) xs) (rising : Sorted start xs) where
     pub linked-clear : Linked xs → Pairwise Clear xs
