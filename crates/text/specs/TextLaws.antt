@@ -1,8 +1,9 @@
 -- Laws of decimal numbers and of text put into a buffer.
-use Rattle.std.specs.Prelude.{ℕ, zero, suc, ◌+◌, ◌*◌, ◌^◌, ◌/◌, ◌%◌, ◌≤◌, ◌<◌, ◌≡◌, max, refl, List, [], ◌∷◌, ◌++◌, ℤ, pos, negsuc, length, take, drop}
-use Rattle.std.proofs.Common.{sym, ap, ◌∙◌, subst, append_assoc, arith, lt-ltb, le-ltb, length-append, take-append-drop, drop-drop, length-take-le, take_at}
+use Rattle.std.specs.Prelude.{ℕ, zero, suc, ◌+◌, ◌*◌, ◌^◌, ◌/◌, ◌%◌, ◌≤◌, ◌<◌, ◌≡◌, max, refl, List, [], ◌∷◌, ◌++◌, ℤ, pos, negsuc, length, get_or, take, drop, set}
+use Rattle.std.proofs.Common.{sym, ap, ◌∙◌, subst, append_assoc, arith, lt-ltb, le-ltb, length-append, length-set, take-append-drop, drop-drop, length-take-le, take_at, take-suc}
 use Rattle.std.proofs.Math.Decide.{dec_lt}
 use Rattle.std.proofs.Math.Seq.{drop-append-add}
+use Rattle.std.proofs.lemmas.List.{set_split}
 use Rattle.std.specs.Int.Signed.{mag}
 use Rattle.text.specs.Text.{digits_within, decimal, signed_decimal, signed_number, Put}
 
@@ -120,9 +121,28 @@ put-none s at h =
     let e : at + 0 ≡ at = omega arith in
     record { after_is = rw e (sym (take-append-drop at s)); next-is = omega arith; fits = omega arith; same_length = refl }
 
--- the same text told in another way
+-- one byte
+pub put_one : (s : List ℕ) (at b : ℕ) → at < length s → Put s at (b ∷ []) (set s at b) (at + 1)
+put_one s at b h =
+    let e : at + 1 ≡ suc at = omega arith in
+    record { after_is = rw e (set_split s at b h); next-is = refl; fits = omega arith; same_length = length-set s at b }
+
+-- the same text told in another way, and the same place
 pub put_as : {s : List ℕ} {at : ℕ} {xs ys t : List ℕ} {k : ℕ} → xs ≡ ys → Put s at xs t k → Put s at ys t k
 put_as {s} {at} {xs} {ys} {t} {k} e p = subst (λ (w : List ℕ). Put s at w t k) e p
+
+pub put-at : {s : List ℕ} {at : ℕ} {xs t : List ℕ} {k l : ℕ} → k ≡ l → Put s at xs t k → Put s at xs t l
+put-at {s} {at} {xs} {t} e p = subst (λ (n : ℕ). Put s at xs t n) e p
+
+-- one byte more of some bytes
+pub put-more : {s : List ℕ} {at : ℕ} {t : List ℕ} (bytes : List ℕ) (i : ℕ) → i < length bytes → at + length bytes ≤ length s →
+    Put s at (take i bytes) t (at + i) →
+    Put s at (take (i + 1) bytes) (set t (at + i) (get_or bytes i 0)) (at + (i + 1))
+put-more {s} {at} {t} bytes i h room p =
+    let n : i + 1 ≡ suc i = omega arith in
+    let k : length (take i bytes) ≡ i = length-take-le i bytes (omega arith) in
+    let inside : at + i < length t = omega (arith, p.same_length) in
+    rw n (put_as (sym (take-suc bytes i 0 h)) (put-at (omega arith) (put_both p (put_one t (at + i) (get_or bytes i 0) inside))))
 
 -- text put at the beginning stands there
 pub put_first : {buffer text after : List ℕ} {next : ℕ} → Put buffer 0 text after next → take next after ≡ text
