@@ -6,5 +6,6 @@ pub mod Inside
 pub mod Scanning
 pub mod ScanLaws
 pub mod LineLaws
+pub mod StepLaws
 pub mod WeighLaws
 pub mod LengthLaws

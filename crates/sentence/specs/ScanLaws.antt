@@ -142,7 +142,7 @@ stored-class dues due m few short =
 
 -- numbers are counted
 more-is : (done : ℕ) → done < 100 → one_more done ≡ done + 1
-more-is done h = omega arith
+more-is done h = rw (lt-ltb done 100 h) refl
 
 counted : (value : ℕ) (minus : Bool) (done first : ℕ) (dues : List ℤ) → done < 100 →
     inside value minus (one_more done) first dues ≡ inside value minus (done + 1) first dues

@@ -1,6 +1,6 @@
 -- The numbers in a line, byte by byte, and the reason that they would be of: the first number is a job's, the second, fourth, .. are due
 -- times. What a line reads back to does not rest on this: the reason is only tried.
-use Rattle.std.specs.Prelude.{ℕ, ◌+◌, ◌-◌, ◌*◌, ◌/◌, ◌%◌, min, Bool, true, false, cond, List, [], ◌∷◌, ltb, eqb, ℤ, pos, neg_ℤ, get_or, set}
+use Rattle.std.specs.Prelude.{ℕ, ◌+◌, ◌-◌, ◌*◌, ◌/◌, ◌%◌, Bool, true, false, cond, List, [], ◌∷◌, ltb, eqb, ℤ, pos, neg_ℤ, get_or, set}
 use Rattle.std.specs.declared.option.Option.{Option}
 use Rattle.std.specs.declared.option.Option.TheVariants.{None, Some}
 use Rattle.order.specs.Order.{Order}
@@ -21,9 +21,9 @@ stored_at dues done z = cond (eqb (done % 2) 1) (cond (ltb (done / 2) 16) (set d
 abbrev pub first_of : ℕ → ℕ → ℕ → ℕ
 first_of done value first = cond (eqb done 0) value first
 
--- one number more, as far as a word of 32 bits counts
+-- one number more, counted up to 100: no line has as many
 abbrev pub one_more : ℕ → ℕ
-one_more done = min (done + 1) 4294967295
+one_more done = cond (ltb done 100) (done + 1) done
 
 -- behind a byte that is no digit the number is done, if there was one
 abbrev pub ended : Numbers → Bool → Option ℕ → Numbers

@@ -24,6 +24,7 @@ use Rattle.reason.specs.Matching.{owes_same}
 use Rattle.std.specs.Bool.{then_some}
 use Rattle.sentence.specs.declared.Sums.{Sums}
 use Rattle.sentence.specs.Inside.{owed_to, hand_to, StepsReached, StepsFit, WeighedTold}
+use Rattle.sentence.specs.StepLaws.{steps-chosen, chosen-steps}
 
 -- sums over the classes from one on, as sums over places
 owed-places : (o : Order) (bound : ℤ) (i : ℕ) (dues : List ℤ) →
@@ -133,7 +134,7 @@ module _ (o : Order) (a : Acceptable o) (bound : ℤ)
               (
                 in-time,
                 record {
-                  profile = chosen-profile o bound dues classed (record { never-rise = fit.falls; members = fit.due });
+                  profile = chosen-profile o bound dues classed (steps-chosen o dues fit);
                   exceeds = rw (hand-is, owed-is) ((pos-lt (hand_to t reach dues) (owed_to t dues)).1 (omega (arith, owed, hand, h)));
                 },
               ),
@@ -156,6 +157,4 @@ module _ (o : Order) (a : Acceptable o) (bound : ℤ)
 -- a staircase that stands has its due times fit, of no more classes than there are
 pub stands-fits : (o : Order) (bound : ℤ) (dues : List ℤ) → Stands o bound (stairs dues) →
     StepsFit o dues × (length dues ≤ length (classes o))
-stands-fits o bound dues h =
-    let c = profile-chosen o bound dues h.1.profile in
-    (record { due = c.members; falls = c.never-rise }, h.1.profile.of-classes)
+stands-fits o bound dues h = (chosen-steps o dues (profile-chosen o bound dues h.1.profile), h.1.profile.of-classes)

@@ -25,7 +25,7 @@ fn stored_at(mut dues: [i32; 16], done: u32, number: i32) -> [i32; 16]
     dues
 }
 
-// Behind a byte that is no digit the number is done, if there was one.
+// Behind a byte that is no digit the number is done, if there was one. Numbers are counted up to 100: no line has as many.
 fn other_byte(s: Numbers, b: u8) -> Numbers
     requires { IfSome s.number (λ value. value < 100000000) }
     ensures { result ≡ other_byte s b }
@@ -37,7 +37,7 @@ fn other_byte(s: Numbers, b: u8) -> Numbers
     Numbers {
         number: None,
         minus,
-        done: s.done.saturating_add(1),
+        done: if s.done < 100 { s.done + 1 } else { s.done },
         first: if s.done == 0 { value } else { s.first },
         dues: stored_at(s.dues, s.done, with_sign(value, s.minus)),
     }
