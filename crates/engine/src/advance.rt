@@ -47,6 +47,9 @@ pub fn push(given: &Instance, filling: &mut Filling, j: usize, s: usize, i: usiz
     requires nonzero { 0 < get_or filling.old.left.now j 0 }
     requires able { Able (flow_in given.now) (fill_in given.now filling.old) j i s }
     ensures same_reference { filling.new.w.ghost_name ≡ filling.old.w.ghost_name }
+    ensures same_slack { filling.new.slack.ghost_name ≡ filling.old.slack.ghost_name }
+    ensures same_left { filling.new.left.ghost_name ≡ filling.old.left.ghost_name }
+    ensures same_height { filling.new.height.ghost_name ≡ filling.old.height.ghost_name }
     ensures ready_after { ReadyFor given.now filling.new }
     ensures pushed { Pushed (flow_in given.now) given.now.m
         (fill_in given.now filling.old) (fill_in given.now filling.new) j s }
@@ -74,6 +77,9 @@ pub fn discharge(given: &Instance, filling: &mut Filling, j: usize)
     requires j_lt_n { (j < given.now.n) × (0 < get_or filling.old.left.now j 0)
         × (get_or filling.old.height.now j 0 ≤ given.now.n) }
     ensures same_reference { filling.new.w.ghost_name ≡ filling.old.w.ghost_name }
+    ensures same_slack { filling.new.slack.ghost_name ≡ filling.old.slack.ghost_name }
+    ensures same_left { filling.new.left.ghost_name ≡ filling.old.left.ghost_name }
+    ensures same_height { filling.new.height.ghost_name ≡ filling.old.height.ghost_name }
     ensures ready_after { ReadyFor given.now filling.new }
     ensures advanced { Advanced (flow_in given.now) given.now.m
         (fill_in given.now filling.old) (fill_in given.now filling.new) }

@@ -24,6 +24,9 @@ pub fn idle_row(room: &[u32], w: &mut [u32], n: usize, q: usize, m: usize)
 pub fn fill(given: &Instance, filling: &mut Filling) -> bool
     requires { ReadyFor given.now filling.old }
     ensures same_reference { filling.new.w.ghost_name ≡ filling.old.w.ghost_name }
+    ensures same_slack { filling.new.slack.ghost_name ≡ filling.old.slack.ghost_name }
+    ensures same_left { filling.new.left.ghost_name ≡ filling.old.left.ghost_name }
+    ensures same_height { filling.new.height.ghost_name ≡ filling.old.height.ghost_name }
     ensures answer { Answer (flow_in given.now) given.now.m (grid given.now.q filling.new.w.now) result }
     ensures fill_run { FillRun (flow_in given.now) given.now.m
         (fill_in given.now filling.old) (fill_in given.now filling.new) result }

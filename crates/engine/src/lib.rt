@@ -4,6 +4,6 @@
 
 mod advance; // a job displaces others until nothing of it is left, or it rises
 pub mod filling; // solve
-mod instance; // what amounts are asked for, and a filling under way
+pub mod instance; // what amounts are asked for, and a filling under way
 mod moves; // which job goes on, and whom it displaces
 mod slices; // small work on lent slices

@@ -31,6 +31,16 @@ pub record Going (start end : ℕ) (ps : List ℕ) (job minutes : ℕ) (first : 
   pub few : after.count + first.processor ≤ before.count + place.processor + (1 - left)
   pub room : 4 * (before.count + length (rows_from start end ps first (portion job minutes ++ []))) ≤ length before.buffer
 
+-- no minute, no share
+pub share-none : {start end : ℕ} (ps : List ℕ) {place : Place} (job minutes : ℕ) (b : Sheet) →
+    Inside start end (length ps) place → Good b → minutes ≡ 0 → ShareLaid start end ps place place (portion job minutes) b b
+share-none {start} {end} ps {place} job minutes b i g e =
+    rw e (record {
+      goes_on = λ later. laid_none (rows_from start end ps place later) b g;
+      inside = i;
+      few = omega arith;
+    })
+
 pub going_start : {start end : ℕ} (ps : List ℕ) {place : Place} (job minutes : ℕ) (b : Sheet) →
     Inside start end (length ps) place → Numbering ps → Good b →
     4 * (b.count + length (rows_from start end ps place (portion job minutes))) ≤ length b.buffer →

@@ -15,7 +15,7 @@ pub(crate) struct Stretch {
 
 // Where the next share goes on: the place in the processor order, and the minute.
 #[derive(Clone, Copy)]
-pub(crate) struct Place {
+pub struct Place {
     pub processor: usize,
     pub at: u32,
 }

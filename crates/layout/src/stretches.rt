@@ -42,7 +42,9 @@ fn lay_stretch(
     };
     for &job in jobs {
         let minutes = w[(job - 1) as usize * q + stretch.number];
-        place = lay_share(rows, written, processors, stretch, place, job, minutes);
+        if 0 < minutes {
+            place = lay_share(rows, written, processors, stretch, place, job, minutes);
+        }
     }
 }
 

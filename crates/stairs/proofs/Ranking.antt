@@ -49,7 +49,7 @@ module _ (t : List (List ℕ)) (rooms : List ℕ) (s q k d : ℕ) (c : List (Lis
   find-more h = rw add-one (none_more (cell t) (get_or rooms k 0) 0 0 k d f (omega (arith, at_c)))
 
   -- one does
-  find-can : get_or rooms k 0 < cell t 0 d + cell c k d → get_or rooms k 0 < cell t 0 d + comp (cell t) 1 k (suc d)
+  pub find-can : get_or rooms k 0 < cell t 0 d + cell c k d → get_or rooms k 0 < cell t 0 d + comp (cell t) 1 k (suc d)
   find-can h = omega (arith, at_c)
 
   pub find-hit : get_or rooms k 0 < cell t 0 d + cell c k d → (r : List ℕ) →

@@ -16,4 +16,7 @@ loop-filling-preserved c =
       going-push _ _ _ _ _ _ _ _ _ _ _ _ _ _ _ _ _ c.loop-filling.invariant.0 _ _ _ _ _ _ c.loop-filling-test.true
           c.in-Some.ensures p.pushed p.ready_after p.displaced,
       p.same_reference ∙ c.loop-filling.invariant.1,
+      p.same_slack ∙ c.loop-filling.invariant.2,
+      p.same_left ∙ c.loop-filling.invariant.3,
+      p.same_height ∙ c.loop-filling.invariant.4,
     )

@@ -15,7 +15,7 @@ returns-then-given-h-clause-answer c =
 pub returns-then-given-h-clause-fill_run : goal.returns-then-given-h-clause-fill_run
 returns-then-given-h-clause-fill_run c =
     let v = c.loop-j.invariant in
-    run-high _ _ _ _ _ _ _ _ _ _ _ _ v.2.0 v.2.1 _ c.in-Some.ensures c.if-given-h.true
+    run-high _ _ _ _ _ _ _ _ _ _ _ _ v.5.0 v.5.1 _ c.in-Some.ensures c.if-given-h.true
 
 pub returns-then-not-stands-clause-answer : goal.returns-then-not-stands-clause-answer
 returns-then-not-stands-clause-answer c =
@@ -26,7 +26,7 @@ returns-then-not-stands-clause-answer c =
 pub returns-then-not-stands-clause-fill_run : goal.returns-then-not-stands-clause-fill_run
 returns-then-not-stands-clause-fill_run c =
     let v = c.loop-j.invariant in
-    run-gap _ _ _ _ _ _ _ _ _ _ _ _ v.2.0 v.2.1 _ c.in-Some.ensures (omega arith) c.if-not-stands.ensures
+    run-gap _ _ _ _ _ _ _ _ _ _ _ _ v.5.0 v.5.1 _ c.in-Some.ensures (omega arith) c.if-not-stands.ensures
 
 pub loop-j-preserved : goal.loop-j-preserved
 loop-j-preserved c =
@@ -34,9 +34,12 @@ loop-j-preserved c =
     let a = c.discharge.ensures in (
       a.ready_after,
       a.same_reference ∙ v.1,
+      a.same_slack ∙ v.2,
+      a.same_left ∙ v.3,
+      a.same_height ∙ v.4,
       (
-        suc v.2.0,
-        run-turn _ _ _ _ _ _ _ _ _ _ _ _ v.2.0 v.2.1 _ c.in-Some.ensures _ c.if-given-h.false
+        suc v.5.0,
+        run-turn _ _ _ _ _ _ _ _ _ _ _ _ v.5.0 v.5.1 _ c.in-Some.ensures _ c.if-given-h.false
             (λ h.
             elim c.else-h-gt1.branch [
               | else-h-gt1-via-then-h-gt1+else-not-stands t ↦ t.if-not-stands.ensures

@@ -8,6 +8,9 @@ use Rattle.engine.proofs.filling.fill.Given as goal
 abbrev pub invariant-loop-j : goal.invariant-loop-j
 invariant-loop-j l =
     ReadyFor l.given l.filling × (l.filling.w.ghost_name ≡ l.initial.filling.w.ghost_name)
+    × (l.filling.slack.ghost_name ≡ l.initial.filling.slack.ghost_name)
+    × (l.filling.left.ghost_name ≡ l.initial.filling.left.ghost_name)
+    × (l.filling.height.ghost_name ≡ l.initial.filling.height.ghost_name)
     × ((k : ℕ) × Turns Fill (FillTurn (flow_in l.given) l.given.m) k
     (fill_in l.given l.initial.filling) (fill_in l.given l.filling))
 
