@@ -80,11 +80,11 @@ module _ (e : Estimate) (number : ℤ) where
   pub met-refused : (why : Refusal) → MetSays (Err why) e number → judge (estimate_rows limits e) ≡ refusal_told why
   met-refused why h = verdict-refused _ why nothing (order_met e number) h
 
-  met-nowhere : MetSays (Ok None) e number → (judge (estimate_rows limits e) ≡ accepted) × (nothing ≡ order_met e number)
+  pub met-nowhere : MetSays (Ok None) e number → (judge (estimate_rows limits e) ≡ accepted) × (nothing ≡ order_met e number)
   met-nowhere h = verdict-accepted _ nothing (order_met e number) h
 
   module _ (t : OrderTable) (h : MetSays (Ok (Some t)) e number) where
-    met-order : (judge (estimate_rows limits e) ≡ accepted) × (found (order_of t) ≡ order_met e number)
+    pub met-order : (judge (estimate_rows limits e) ≡ accepted) × (found (order_of t) ≡ order_met e number)
     met-order = verdict-accepted _ (found (order_of t)) (order_met e number) h
 
     -- it is accepted, since its times lie between

@@ -34,7 +34,7 @@ module _ (f g : ℕ → ℕ) where
   unfolding pairs_to
   none-paired s = refl
 
-  paired-length : (s out : List ℕ) (k : ℕ) → out ≡ pairs_to f g k ++ drop (2 * k) s → 2 * k ≤ length s → length out ≡ length s
+  pub paired-length : (s out : List ℕ) (k : ℕ) → out ≡ pairs_to f g k ++ drop (2 * k) s → 2 * k ≤ length s → length out ≡ length s
   paired-length s out k e h =
       ap length e ∙ length-append (pairs_to f g k) (drop (2 * k) s) ∙ omega (arith, pairs-length f g k, length-drop (2 * k) s)
 
@@ -90,7 +90,7 @@ module _ (v : Verdict) (o : Order) (list : List ℕ) (entry : List ℤ) where
       (result ≡ result_of v)
       × ((list' ≡ left_by v (class_pairs o) list) × (exit ≡ left_by v (pos (class_count o) ∷ []) entry))
 
-  classes-refused : (number job : ℕ) → v ≡ refused number job → ClassesEnded (number + 256 * job) list entry
+  pub classes-refused : (number job : ℕ) → v ≡ refused number job → ClassesEnded (number + 256 * job) list entry
   classes-refused number job e = rw e (refl, (refl, refl))
 
   pub classes-why : (why : Refusal) → v ≡ refusal_told why → (result : ℕ) → result ≡ result_of (refusal_told why) →

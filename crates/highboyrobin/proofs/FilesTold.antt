@@ -45,7 +45,7 @@ module _ (memories jobs : List ℕ) (lent answer : ℕ) where
 
   module _ (room : 1 ≤ answer) where
     module _ (whole-jobs : length jobs % 4 ≡ 0) where
-      writer-decides : v ≡ judge (write_rows (order_from memories jobs) lent)
+      pub writer-decides : v ≡ judge (write_rows (order_from memories jobs) lent)
       unfolding judge write_call
       writer-decides = rw (le-ltb answer 1 room, eq-eqb (length jobs % 4) 0 whole-jobs)
 

@@ -23,7 +23,7 @@ module _ (v : Verdict) (text line : List ℕ) (answer : List ℤ) where
   SentenceEnded result line' answer' =
       (result ≡ result_of v) × ((line' ≡ left_by v text line) × (answer' ≡ left_by v (pos (length text) ∷ []) answer))
 
-  sentence-refused : (number job : ℕ) → v ≡ refused number job → (line' : List ℕ) → line' ≡ line →
+  pub sentence-refused : (number job : ℕ) → v ≡ refused number job → (line' : List ℕ) → line' ≡ line →
       SentenceEnded (number + 256 * job) line' answer
   sentence-refused number job e line' k = rw e (refl, (k, refl))
 

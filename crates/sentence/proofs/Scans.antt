@@ -16,7 +16,7 @@ none-under-way : (s : Numbers) (minus : Bool) (number : Option ℕ) → Eight (e
 none-under-way s minus None = tt
 none-under-way s minus (Some value) = tt
 
-other-told : (s : Numbers) (b : ℕ) (r : Numbers) → stepped s b ≡ other_byte s b → r ≡ other_byte s b → (r ≡ stepped s b) × Eight r
+pub other-told : (s : Numbers) (b : ℕ) (r : Numbers) → stepped s b ≡ other_byte s b → r ≡ other_byte s b → (r ≡ stepped s b) × Eight r
 other-told s b r e q = (q ∙ sym e, subst Eight (sym q) (none-under-way s _ s.number))
 
 pub below-told : (s : Numbers) (b : ℕ) (r : Numbers) → b < 48 → r ≡ other_byte s b → (r ≡ stepped s b) × Eight r

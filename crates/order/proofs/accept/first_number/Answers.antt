@@ -1,5 +1,6 @@
-use Rattle.std.proofs.Common.{◌≡◌, false, sym, ◌∙◌, arith, add-one}
+use Rattle.std.proofs.Common.{◌≡◌, false, sym, ◌∙◌, arith, ap}
 use borrow.Author.Count.{below_none, below_more}
+use Rattle.order.specs.Refusals.{holds}
 use Rattle.order.proofs.RefusalLaws.{first-tabulate, none-tabulate}
 use Rattle.order.proofs.accept.first_number.Goals as goal
 
@@ -9,8 +10,8 @@ loop-j-init g c = λ P agree. below_none _
 pub returns-then-test : goal.returns-then-test
 returns-then-test g c = λ P agree.
     let l = c.loop-j in
-    rw add-one (sym (first-tabulate P c.args.n (λ j. j) l.j c.loop-j-test.true (l.invariant P agree)
-    (sym (agree l.j c.test.result c.loop-j-test.true c.test.ensures) ∙ c.if-test.true)))
+    ap holds (omega arith) ∙ sym (first-tabulate P c.args.n (λ j. j) l.j c.loop-j-test.true (l.invariant P agree)
+    (sym (agree l.j c.test.result c.loop-j-test.true c.test.ensures) ∙ c.if-test.true))
 
 pub loop-j-preserved : goal.loop-j-preserved
 loop-j-preserved g c = λ P agree.
