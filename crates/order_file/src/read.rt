@@ -59,13 +59,11 @@ fn column<const PLACES: usize>(list: &[u8], n: usize, width: usize, first: usize
     requires { (n ≤ PLACES) × (first + 4 ≤ width) × (width * n ≤ length list.now) }
     ensures { result ≡ padded_to PLACES n 0 (λ (i : ℕ). number4 list.now (width * i + first)) }
 {
-    std::array::from_fn(|i| {
-        if i < n {
-            read4(list, width * i + first)
-        } else {
-            0
-        }
-    })
+    let mut out = [0; PLACES];
+    for i in 0..n {
+        out[i] = read4(list, width * i + first);
+    }
+    out
 }
 
 // The order of two lists, each a part of the file that begins where the trailer points.
