@@ -13,7 +13,7 @@ count_kinds-counts-requires c =
     let r = c.open_processors-kept.result in
     let e = c.open_processors-kept.ensures in (
       omega (arith, e.0, p.0),
-      open-kinds (take t.m t.by_memory) t.kinds c.args.opens.now c.args.closes.now l.start (get_or c.args.marks.now l.s 0) r.count
+      open-kinds (take t.m t.by_memory) t.kinds c.args.opens.now c.args.closes.now l.start _ r.count
           r.list e.1 t.s p.1 p.4,
     )
 
@@ -26,7 +26,7 @@ put_rooms_row-requires c =
     let e = c.open_processors-kept.ensures in
     let size = place-size l.room l.s (t.s + 1) (omega (arith, row-end l.s (t.s + 1) c.args.q c.loop-s-test.true, p.9, l.auto.room)) in (
       omega (arith, size, p.1),
-      open-counts (take t.m t.by_memory) t.kinds c.args.opens.now c.args.closes.now l.start (get_or c.args.marks.now l.s 0) r.count
+      open-counts (take t.m t.by_memory) t.kinds c.args.opens.now c.args.closes.now l.start _ r.count
           r.list e.1 c.count_kinds-counts.result c.count_kinds-counts.ensures _ (omega (arith, size, p.1))
           (omega (arith, e.0, p.0)),
       omega (arith, c.requires.small l.s c.loop-s-test.true),
