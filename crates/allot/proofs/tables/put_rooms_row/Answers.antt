@@ -25,5 +25,7 @@ loop-k-preserved c =
     let k = c.loop-k.k in
     let size : 16 ≤ length a.counts.now = search rules in
     let e : c.processors_in.result ≡ sum k (count_of a.counts.now) =
-    c.processors_in.ensures ∙ sum-taken a.counts.now k (omega arith) in
+    c.processors_in.ensures
+    ∙ sum-taken a.counts.now _ (omega arith)
+    ∙ ap (λ (n : ℕ). sum n (count_of a.counts.now)) (omega arith) in
     row_more k _ (omega (arith, c.loop-k.auto.row, c.loop-k-test.true)) (ap (λ (p : ℕ). p * a.minutes) e) c.loop-k.invariant
