@@ -37,6 +37,10 @@ sum-taken xs zero l = refl
 sum-taken xs (suc k) l =
     rw (← add-one k) (sum_by_more (λ x. x) xs k 0 l ∙ ap (λ (n : ℕ). n + get_or xs k 0) (sum-taken xs k (omega arith)))
 
+-- they are few where those of more classes are
+pub taken-few : (xs : List ℕ) (k last : ℕ) → k ≤ last → last ≤ length xs → sum last (count_of xs) ≤ 16 → sum_of (take k xs) ≤ 16
+taken-few xs k last l h few = omega (arith, sum-taken xs k (omega arith), sum_mono k last (count_of xs) l)
+
 -- one more at place c, of the first k places
 one_more : (xs : List ℕ) (c : ℕ) → c < length xs → (k : ℕ) →
     sum k (count_of (set xs c (get_or xs c 0 + 1))) ≡ sum k (count_of xs) + only (leb (suc c) k) 1

@@ -39,27 +39,36 @@ rows_as {ys} {n} {q} {m} {f} e R = subst (λ (k : ℕ). Rows ys n k f) e R
 abbrev pub place_of : List ℕ → (j q : ℕ) → List ℕ
 place_of ys j q = take ((j + 1) * q - j * q) (drop (j * q) ys)
 
-module _ (ys : List ℕ) (j q : ℕ) (room : j * q + q ≤ length ys) where
-  pub place-size : length (place_of ys j q) ≡ q
-  place-size =
-      let m : (j + 1) * q ≡ j * q + q = rw add-one (suc-mul j q) in
-      let e : (j + 1) * q - j * q ≡ q = omega (arith, m) in
-      rw e (length-take-le q (drop (j * q) ys) (omega (arith, length-drop (j * q) ys)))
+-- where it ends
+pub row-next : (j q : ℕ) → (j + 1) * q ≡ j * q + q
+row-next j q = rw add-one (suc-mul j q)
 
-  pub rows_more : {row : List ℕ} {f : ℕ → ℕ → ℕ} → length row ≡ length (place_of ys j q) →
-      RowOf (f j) (length (place_of ys j q)) row → Rows ys j q f →
-      Rows (put_mid (j * q) ((j + 1) * q - j * q) ys row) (j + 1) q f
-  rows_more {row} {f} size R G =
-      let k = (j + 1) * q - j * q in
+module _ (ys : List ℕ) (j q : ℕ) (room : j * q + q ≤ length ys) where
+  part-size : {k : ℕ} → k ≡ q → length (take k (drop (j * q) ys)) ≡ q
+  part-size e = rw e (length-take-le q (drop (j * q) ys) (omega (arith, length-drop (j * q) ys)))
+
+  pub place-size : length (place_of ys j q) ≡ q
+  place-size = part-size (omega (arith, row-next j q))
+
+  -- by a part of as many numbers
+  pub rows_part : {k : ℕ} {row : List ℕ} {f : ℕ → ℕ → ℕ} → length row ≡ length (take k (drop (j * q) ys)) →
+      RowOf (f j) (length (take k (drop (j * q) ys))) row → Rows ys j q f → k ≡ q →
+      Rows (put_mid (j * q) k ys row) (j + 1) q f
+  rows_part {k} {row} {f} size R G long =
       record {
         each = λ i s l b.
             elim (ℕ_discrete i j) [
               | yes z ↦
                   rw z
-                  (in-part ys row (j * q) k (omega arith) s (omega (arith, size, place-size))
-                  ∙ R.at s (omega (arith, place-size)))
+                  (in-part ys row (j * q) k (omega arith) s (omega (arith, size, part-size long))
+                  ∙ R.at s (omega (arith, part-size long)))
               | no z ↦
                   let w : i < j = omega arith in
                   before-part ys row (j * q) k (omega arith) (i * q + s) (in_rows i q s j w b) ∙ G.each i s w b
             ];
       }
+
+  pub rows_more : {row : List ℕ} {f : ℕ → ℕ → ℕ} → length row ≡ length (place_of ys j q) →
+      RowOf (f j) (length (place_of ys j q)) row → Rows ys j q f →
+      Rows (put_mid (j * q) ((j + 1) * q - j * q) ys row) (j + 1) q f
+  rows_more size R G = rows_part size R G (omega (arith, row-next j q))

@@ -5,7 +5,7 @@ ghost use Rattle.highboyrobin.specs.Calls.{order_from};
 
 use super::lists::{column_of, number_at};
 use order::Order;
-use order_file::bytes::to_signed;
+use order_file::bytes::all_signed;
 
 // The order of two lists.
 pub fn order_from(memories: &[u32], jobs: &[u32]) -> Order
@@ -19,7 +19,7 @@ pub fn order_from(memories: &[u32], jobs: &[u32]) -> Order
         memories: std::array::from_fn(|i| number_at(memories, i)),
         jobs: n as u32,
         times: column_of(jobs, 4, 0),
-        dues: column_of(jobs, 4, 1).map(to_signed),
+        dues: all_signed(&column_of(jobs, 4, 1)),
         needs: column_of(jobs, 4, 2),
         makers: column_of(jobs, 4, 3),
     }

@@ -21,5 +21,12 @@ pub fn column_of<const N: usize>(list: &[u32], group: usize, place: usize) -> [u
     requires { (N ≤ 48) × (group ≤ 4) × (place ≤ 3) }
     ensures { result ≡ tabulate N (λ (i : ℕ). get_or list.now (group * i + place) 0) }
 {
-    std::array::from_fn(|i| number_at(list, group * i + place))
+    let mut column = [0; N];
+    for i in 0..N {
+        let Some(number) = list.get(group * i + place) else {
+            return column;
+        };
+        column[i] = *number;
+    }
+    column
 }

@@ -1,6 +1,6 @@
 -- How the reader puts its answer together: 12, then the counts, then the whole of acceptance decide.
 use Rattle.std.specs.Prelude.{ℕ, ◌≤◌, ◌≡◌, refl, List, ◌++◌, Option, Some, None, Result, Ok, Err}
-use Rattle.std.proofs.Common.{sym, ap, subst, ◌∙◌, arith}
+use Rattle.std.proofs.Common.{sym, ap, ◌∙◌, arith}
 use Rattle.order.specs.Order.{Order, processor_count, job_count}
 use Rattle.order.specs.Refusals.{limits, TableRow, Verdict, accepted, refused, judge, answer, count_rows, job_rows, order_rows}
 use Rattle.order.proofs.RefusalLaws.{judge-refused-append, counts-in-limits}

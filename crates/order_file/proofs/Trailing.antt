@@ -11,7 +11,7 @@ use Rattle.order_file.specs.File.{processor_place, job_place, processors_of, job
 use Rattle.order_file.proofs.RoundTrip.{Agrees, lists_agree-iff, good_file-iff}
 use Rattle.order_file.specs.Inside.{trailer_of, trailer_by, Placed}
 use Rattle.order_file.specs.declared.Lists.{Lists}
-use Rattle.std.specs.Prelude.{Option, Some, None}
+use Rattle.std.specs.Prelude.{Some, None}
 
 true≢false : true ≡ false → ⊥
 true≢false e = let z : ◌≡◌ {A = ℕ} 0 1 = cc in omega arith

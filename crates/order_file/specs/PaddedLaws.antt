@@ -1,12 +1,13 @@
 -- A column of an array, filled from the front: at first every place holds the same, then one place more is stored.
 use Prim.Native.Nat.{ℕ, zero, suc, ◌+◌, ◌≤◌, ◌<◌}
 use Rattle.std.specs.Prelude.{◌≡◌, set, replicate}
-use Rattle.std.proofs.Math.Path.{refl, ap}
+use Rattle.std.proofs.Math.Path.{refl, sym, ap}
 use Rattle.std.proofs.Common.{◌∙◌, arith, le_of_suc-le-suc, add-one}
 use mathlib.Core.List.{List, ◌∷◌}
-use Rattle.std.proofs.Math.ListN.{get_or}
+use Rattle.std.proofs.Math.Decide.{dec_lt}
+use Rattle.std.proofs.Math.ListN.{get_or, get_or-eq_default}
 use Rattle.sums.specs.Lists.{tabulate}
-use Rattle.sums.specs.Places.{tabulate-cong, get_d_tabulate}
+use Rattle.sums.specs.Places.{length-tabulate, tabulate-cong, get_d_tabulate}
 use Rattle.order_file.specs.Inside.{padded_to}
 
 module _ {A : Type 0} where
@@ -35,3 +36,12 @@ module _ {A : Type 0} where
   pub padded-at : (k n : ℕ) (d : A) (f : ℕ → A) (i : ℕ) → i < n → n ≤ k → get_or (padded_to k n d f) i d ≡ f i
   unfolding padded_to
   padded-at k n d f i l h = get_d_tabulate k _ d i (omega arith) ∙ get_d_tabulate n f d i l
+
+  -- where nothing but d stands behind the first n, the whole list
+  pub padded-whole : (k n : ℕ) (d : A) (f : ℕ → A) → ((i : ℕ) → n ≤ i → i < k → f i ≡ d) → padded_to k n d f ≡ tabulate k f
+  unfolding padded_to
+  padded-whole k n d f behind =
+      tabulate-cong k (λ i. get_or (tabulate n f) i d) f (λ i l. elim (dec_lt i n) [
+        | yes b ↦ get_d_tabulate n f d i b
+        | no b ↦ get_or-eq_default (tabulate n f) d (omega (arith, length-tabulate n f)) ∙ sym (behind i (omega arith) l)
+      ])

@@ -1,6 +1,6 @@
 // Numbers as bytes, little-endian; two's complement for the due time. Each function serves this crate and the programs, and may
 // have a `requires`.
-ghost use Rattle.std.specs.Prelude.{◌≡◌, ◌+◌, ◌<◌, ◌≤◌, ◌++◌, length, take, drop};
+ghost use Rattle.std.specs.Prelude.{◌≡◌, ℕ, ◌+◌, ◌<◌, ◌≤◌, ◌++◌, pos, length, get_or, take, drop};
 ghost use Rattle.order_file.specs.Bytes.{number4, number2, bytes4, bytes2, signed, pattern};
 
 // The number of the four bytes at a place.
@@ -24,6 +24,17 @@ pub fn to_signed(raw: u32) -> i32
     ensures { result ≡ signed raw }
 {
     raw.cast_signed()
+}
+
+// The signed numbers of 48 patterns.
+pub fn all_signed(raw: &[u32; 48]) -> [i32; 48]
+    ensures { (length result ≡ 48) × ((i : ℕ) → i < 48 → get_or result i (pos 0) ≡ signed (get_or raw.now i 0)) }
+{
+    let mut out = [0i32; 48];
+    for i in 0..48 {
+        out[i] = to_signed(raw[i]);
+    }
+    out
 }
 
 // The pattern of a signed number.

@@ -8,7 +8,7 @@ ghost use Rattle.order_file.specs.File.{job_width, lists_agree, order_in, read_r
 ghost use Rattle.order_file.specs.Told.{read_told, ReadBy};
 ghost use Rattle.order_file.specs.Inside.{trailer_of, Within, padded_to, Placed};
 
-use super::bytes::{read2, read4, to_signed};
+use super::bytes::{all_signed, read2, read4};
 use super::{JOB_WIDTH, LONGEST_FILE, Lists, TRAILER_WIDTH};
 use order::accept::{accept, accept_counts};
 use order::{Order, Refusal};
@@ -59,13 +59,11 @@ fn column<const PLACES: usize>(list: &[u8], n: usize, width: usize, first: usize
     requires { (n ≤ PLACES) × (first + 4 ≤ width) × (width * n ≤ length list.now) }
     ensures { result ≡ padded_to PLACES n 0 (λ (i : ℕ). number4 list.now (width * i + first)) }
 {
-    std::array::from_fn(|i| {
-        if i < n {
-            read4(list, width * i + first)
-        } else {
-            0
-        }
-    })
+    let mut out = [0; PLACES];
+    for i in 0..n {
+        out[i] = read4(list, width * i + first);
+    }
+    out
 }
 
 // The order of two lists, each a part of the file that begins where the trailer points.
@@ -83,7 +81,7 @@ fn read_lists(file: &[u8], lists: Lists) -> Order
         memories: column(processor_list, lists.processors, 4, 0),
         jobs: lists.jobs as u32,
         times: column(job_list, lists.jobs, JOB_WIDTH, 0),
-        dues: column(job_list, lists.jobs, JOB_WIDTH, 4).map(to_signed),
+        dues: all_signed(&column(job_list, lists.jobs, JOB_WIDTH, 4)),
         needs: column(job_list, lists.jobs, JOB_WIDTH, 8),
         makers: column(job_list, lists.jobs, JOB_WIDTH, 12),
     }

@@ -23,6 +23,10 @@ ceiling-is a b p =
     let not-below : ¬ (ceiling a b < c) = λ h. omega (arith, (div-lt_iff_lt-mul {k = b} {x = a + (b - 1)} {y = c} p).0 h, t.1) in
     omega arith
 
+-- of a number that is given otherwise
+pub ceiling-as : {a b r : ℕ} → r ≡ a / b + min 1 (a % b) → 0 < b → (c : ℕ) → a ≡ c → r ≡ ceiling c b
+ceiling-as {a} {b} {r} h p c e = h ∙ ceiling-is a b p ∙ ap (λ (x : ℕ). ceiling x b) e
+
 -- a member that passes a test is kept
 filter-keeps : (test : ℕ → Bool) (xs : List ℕ) (j : ℕ) → j < length xs → test (get_or xs j 0) ≡ true →
     (k : ℕ) × (k < length (filter test xs)) × (get_or (filter test xs) k 0 ≡ get_or xs j 0)

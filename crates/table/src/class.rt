@@ -43,11 +43,9 @@ pub fn classes_of_processors(order: Order, classes: Listing) -> [u32; 16]
     requires { Accepted (order_of order) × (classes ≡ listing (order_of order)) }
     ensures { RowOf (λ i. class_for (order_of order) (get_or order.memories i 0)) order.processors result }
 {
-    std::array::from_fn(|i| {
-        if i < order.processors as usize {
-            class_for(classes.memories, classes.count, order.memories[i], 0)
-        } else {
-            0
-        }
-    })
+    let mut r = [0u32; 16];
+    for i in 0..order.processors as usize {
+        r[i] = class_for(classes.memories, classes.count, order.memories[i], 0);
+    }
+    r
 }

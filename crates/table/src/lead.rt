@@ -62,13 +62,11 @@ pub fn leads_of(order: Order) -> [u32; 48]
     requires { Accepted (order_of order) }
     ensures { RowOf (λ j. lead last_due (get_or order.dues j (pos 0))) order.jobs result }
 {
-    std::array::from_fn(|j| {
-        if j < order.jobs as usize {
-            lead_of(order.dues[j])
-        } else {
-            0
-        }
-    })
+    let mut leads = [0u32; 48];
+    for j in 0..order.jobs as usize {
+        leads[j] = lead_of(order.dues[j]);
+    }
+    leads
 }
 
 // The leads of the distinct due times, by rising due time.

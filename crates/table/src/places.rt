@@ -12,13 +12,11 @@ pub fn by_place(values: [u32; 48], numbers: [u32; 48], n: usize) -> [u32; 48]
     requires { (n ≤ 48) × EachOnce n (beside numbers) }
     ensures { RowOf (λ k. nth values (beside numbers k) 0) n result }
 {
-    std::array::from_fn(|k| {
-        if k < n {
-            values[(numbers[k] - 1) as usize]
-        } else {
-            0
-        }
-    })
+    let mut r = [0u32; 48];
+    for k in 0..n {
+        r[k] = values[(numbers[k] - 1) as usize];
+    }
+    r
 }
 
 // What each of n jobs has, by input number, where `values` has it by place.

@@ -2,7 +2,7 @@ use Rattle.std.proofs.Common.{◌+◌, ◌∙◌, refl, sym, add-one, get_or, ta
 use Rattle.engine.specs.View.{row-end}
 use Rattle.allot.proofs.Rooms.{open-kinds, open-counts, room-is}
 use Rattle.allot.proofs.Shares.{next_start}
-use Rattle.allot.proofs.Writing.{place-size, rows_as, rows_more}
+use Rattle.allot.proofs.Writing.{place-size, row-next, rows_as, rows_part}
 use Rattle.allot.proofs.tables.put_rooms.Goals as goal
 
 pub count_kinds-counts-requires : goal.count_kinds-counts-requires
@@ -13,7 +13,7 @@ count_kinds-counts-requires c =
     let r = c.open_processors-kept.result in
     let e = c.open_processors-kept.ensures in (
       omega (arith, e.0, p.0),
-      open-kinds (take t.m t.by_memory) t.kinds c.args.opens.now c.args.closes.now l.start (get_or c.args.marks.now l.s 0) r.count
+      open-kinds (take t.m t.by_memory) t.kinds c.args.opens.now c.args.closes.now l.start _ r.count
           r.list e.1 t.s p.1 p.4,
     )
 
@@ -26,7 +26,7 @@ put_rooms_row-requires c =
     let e = c.open_processors-kept.ensures in
     let size = place-size l.room l.s (t.s + 1) (omega (arith, row-end l.s (t.s + 1) c.args.q c.loop-s-test.true, p.9, l.auto.room)) in (
       omega (arith, size, p.1),
-      open-counts (take t.m t.by_memory) t.kinds c.args.opens.now c.args.closes.now l.start (get_or c.args.marks.now l.s 0) r.count
+      open-counts (take t.m t.by_memory) t.kinds c.args.opens.now c.args.closes.now l.start _ r.count
           r.list e.1 c.count_kinds-counts.result c.count_kinds-counts.ensures _ (omega (arith, size, p.1))
           (omega (arith, e.0, p.0)),
       omega (arith, c.requires.small l.s c.loop-s-test.true),
@@ -43,7 +43,7 @@ loop-s-preserved c =
     let size = place-size l.room l.s (t.s + 1) (omega (arith, row-end l.s (t.s + 1) c.args.q c.loop-s-test.true, p.9, l.auto.room)) in (
       sym (next_start c.args.marks.now l.s),
       rows_as (add-one t.s)
-          (rows_more l.room l.s (t.s + 1) (omega (arith, row-end l.s (t.s + 1) c.args.q c.loop-s-test.true, p.9, l.auto.room)) row.auto.row
+          (rows_part l.room l.s (t.s + 1) (omega (arith, row-end l.s (t.s + 1) c.args.q c.loop-s-test.true, p.9, l.auto.room)) row.auto.row
           (record {
             at = λ k b.
                 row.ensures.at k b
@@ -51,5 +51,6 @@ loop-s-preserved c =
                 r.count r.list e.1 c.count_kinds-counts.result c.count_kinds-counts.ensures k (omega (arith, size, p.1))
                 c.args.marks.now l.s l.invariant.0 refl;
           })
-          (rows_as (sym (add-one t.s)) l.invariant.1)),
+          (rows_as (sym (add-one t.s)) l.invariant.1)
+          (omega (arith, row-next l.s (t.s + 1)))),
     )

@@ -1,5 +1,4 @@
 use Rattle.std.proofs.Common.{rules, ◌/◌, get_or, length, refl, arith}
-use Rattle.std.specs.Prelude.{pos}
 use Rattle.sums.specs.FromFn.{from_fn-list}
 use Rattle.highboyrobin.proofs.Gathered.{gathered}
 use Rattle.highboyrobin.proofs.gathering.order_from.Goals as goal
@@ -11,4 +10,4 @@ returns c =
     (omega (arith, c.requires.1)) refl refl refl refl c.column_of-2.result
     (from_fn-list _ _ (λ i. get_or s.memories.now i 0) _ (λ i y q l k. search rules) c.from_fn.ensures.items)
     c.column_of.ensures c.column_of-2.ensures
-    (λ j l. let k = c.map.ensures.items.at j 0 (pos 0) l in search rules) c.column_of-3.ensures c.column_of-4.ensures
+    c.all_signed.ensures.1 c.column_of-3.ensures c.column_of-4.ensures

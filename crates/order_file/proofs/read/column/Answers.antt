@@ -1,13 +1,10 @@
--- `column`: the places below n hold the numbers at `first` of the parts, the others 0.
-use Rattle.std.proofs.Common.{rules, ℕ, ◌+◌, ◌*◌}
-use Rattle.sums.specs.FromFnFirst.{from_fn-first}
-use Rattle.order_file.specs.Bytes.{number4}
-use Rattle.order_file.specs.Inside.{padded_to}
+-- `column`: at first every place is 0, then one place more is stored.
+use Rattle.std.proofs.Common.{arith}
+use Rattle.order_file.specs.PaddedLaws.{padded-none, padded-more}
 use Rattle.order_file.proofs.read.column.Goals as goal
 
-pub returns : goal.returns
-unfolding padded_to
-returns g c =
-    let a = c.args in
-    from_fn-first _ _ a.n 0 (λ (i : ℕ). number4 a.list.now (a.width * i + a.first)) _
-    (λ i y q l k. (λ b. search rules, λ b. search rules, search rules)) c.from_fn.ensures.items
+pub loop-i-init : goal.loop-i-init
+loop-i-init g c = padded-none g.row.PLACES 0 _
+
+pub loop-i-preserved : goal.loop-i-preserved
+loop-i-preserved g c = padded-more g.row.PLACES _ 0 _ _ _ (omega arith) c.loop-i.invariant c.read4.ensures

@@ -1,9 +1,8 @@
 -- `read_order`: the file, the counts and the whole order are judged one after the other, as the refusal table has them.
-use Rattle.std.proofs.Common.{rules, ◌≡◌, None, Some, Ok, Err, refl, sym, ap, ◌∙◌}
-use Rattle.order.specs.Refusals.{judge}
+use Rattle.std.proofs.Common.{rules, ◌≡◌, None, Some, Ok, Err, refl, ap, ◌∙◌}
 use Rattle.order.specs.Table.{acceptance_told}
 use Rattle.order.specs.declared.Refusal.TheVariants.{BadFile}
-use Rattle.order_file.specs.File.{order_in, read_rows}
+use Rattle.order_file.specs.File.{order_in}
 use Rattle.order_file.proofs.Reading.{refused-read, accepted-read, bad-file, counts-refused, stands-for, stands, verdict}
 use Rattle.order_file.proofs.read.read_order.Goals as goal
 

@@ -9,7 +9,7 @@ use Rattle.stairs.specs.Tables.{cell}
 use Rattle.stairs.specs.CompletionLaws.{best-cong}
 use Rattle.reason.specs.Asked.{weight, procs_to, latest_of, least_for, least_reach_of}
 use Rattle.reason.specs.WeightLaws.{procs-none, procs-suc, procs-le, procs-pos, small-table, reach-most}
-use Rattle.reason.proofs.StdWords.{ceiling-is}
+use Rattle.reason.proofs.StdWords.{ceiling-as}
 use Rattle.reason.proofs.least.least_reach.Goals as goal
 
 pub loop-k-init : goal.loop-k-init
@@ -36,7 +36,7 @@ loop-k-preserved c =
     ∙ best-cong (cell w.result) (weight o) (suc l.k) o.q
     (λ x d h p. (w.ensures x (omega (arith, c.requires.classed))).at d (omega (arith, c.requires.dues))) in
     let some : 0 < l.procs + get_or o.procs l.k 0 = omega (arith, m, procs-pos o c.requires l.k (omega arith)) in
-    let d : c.div_ceil.result ≡ least_for o (suc l.k) = c.div_ceil.ensures ∙ ceiling-is _ _ some ∙ rw (m, b) in
+    let d : c.div_ceil.result ≡ least_for o (suc l.k) = ceiling-as c.div_ceil.ensures some c.heaviest.result (omega arith) ∙ rw (m, b) in
     let f : ℕ → ℕ = λ k. least_for o (suc k) in
     let e : c.max-reach.result ≡ max (latest_of o) (most (suc l.k) f) =
     omega (arith, c.max-reach.ensures, l.invariant.1, d, most-suc l.k f) in

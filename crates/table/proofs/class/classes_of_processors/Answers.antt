@@ -1,26 +1,34 @@
-use Rattle.std.proofs.Common.{rules, ◌∙◌, get_or}
-use Rattle.std.proofs.iter.Serving.{serving}
+use Rattle.std.proofs.Common.{rules, arith, ℕ, ◌≡◌, ◌∙◌, get_or}
+use Rattle.sums.specs.Arrays.{fill-at}
 use Rattle.order.specs.Class.{class_for}
 use Rattle.order.specs.Table.{order_of}
-use Rattle.sums.specs.FromFnFirst.{from_fn-first-row}
 use Rattle.order.proofs.RefusalLaws.{accepted-iff}
 use Rattle.order.proofs.StructLaws.{few-processors}
 use Rattle.table.specs.ClassRows.{few-listed, class-is}
 use Rattle.table.proofs.class.classes_of_processors.Goals as goal
 
-pub from_fn-requires : goal.from_fn-requires
-from_fn-requires c =
-    let few = few-processors c.args.order c.requires.0 in
-    let listed = few-listed (order_of c.args.order) ((accepted-iff (order_of c.args.order)).0 c.requires.0).few-processors c.args.classes c.requires.1 in
-    grind (serving, few, listed)
+pub bounds-order-i : goal.bounds-order-i
+bounds-order-i c = omega (arith, few-processors c.args.order c.requires.0)
 
-pub returns : goal.returns
-returns c =
-    let o = c.args.order in
-    from_fn-first-row _ _ _ (λ i. class_for (order_of o) (get_or o.memories i 0)) _ (few-processors o c.requires.0)
-    (λ i y q l k. (
-      λ b. search rules ∙ class-is (order_of o) ((accepted-iff (order_of o)).0 c.requires.0).few-processors
-          c.args.classes c.requires.1 (get_or o.memories i 0),
-      λ b. search rules,
+pub class_for-requires : goal.class_for-requires
+class_for-requires c = (
+  few-listed (order_of c.args.order) ((accepted-iff (order_of c.args.order)).0 c.requires.0).few-processors c.args.classes c.requires.1,
+  omega arith,
+  λ i l. absurd (omega arith),
+)
+
+pub bounds-r-i : goal.bounds-r-i
+bounds-r-i c = omega (arith, few-processors c.args.order c.requires.0, c.loop-i.invariant.0)
+
+pub loop-i-preserved : goal.loop-i-preserved
+loop-i-preserved c =
+    let l = c.loop-i in
+    let o = c.args.order in (
       search rules,
-    )) c.from_fn.ensures.items
+      record {
+        at = fill-at (λ (k v : ℕ). v ≡ class_for (order_of o) (get_or o.memories k 0)) 0 l.r l.i c.class_for.result
+            (omega (arith, few-processors o c.requires.0, l.invariant.0)) l.invariant.1.at (c.class_for.ensures
+            ∙ class-is (order_of o) ((accepted-iff (order_of o)).0 c.requires.0).few-processors
+            c.args.classes c.requires.1 (get_or o.memories l.i 0));
+      },
+    )

@@ -1,18 +1,25 @@
-use Rattle.std.proofs.Common.{rules, get_or, pos}
-use Rattle.std.proofs.iter.Serving.{serving}
-use Rattle.sums.specs.FromFnFirst.{from_fn-first-row}
+use Rattle.std.proofs.Common.{rules, arith, ℕ, ◌≡◌, get_or, pos}
+use Rattle.sums.specs.Arrays.{fill-at}
 use Rattle.order.specs.Machine.{machine-back}
 use Rattle.order.specs.Lead.{lead, last_due}
 use Rattle.order.proofs.StructLaws.{few-jobs, due-in-range-at}
 use Rattle.table.proofs.lead.leads_of.Goals as goal
 
-pub from_fn-requires : goal.from_fn-requires
-from_fn-requires c =
-    let few = few-jobs c.args.order c.requires in
-    let ranges = due-in-range-at c.args.order c.requires in
-    grind (serving, few, ranges)
+pub bounds-order-j : goal.bounds-order-j
+bounds-order-j c = omega (arith, few-jobs c.args.order c.requires)
 
-pub returns : goal.returns
-returns c =
-    from_fn-first-row _ _ _ (λ j. lead last_due (get_or c.args.order.dues j (pos 0))) _ (few-jobs c.args.order c.requires)
-    (λ i y q l k. (λ b. search (rules, machine-back), λ b. search rules, search rules)) c.from_fn.ensures.items
+pub lead_of-requires : goal.lead_of-requires
+lead_of-requires c = search (rules, machine-back, due-in-range-at c.args.order c.requires c.loop-j.j (omega arith))
+
+pub bounds-leads-j : goal.bounds-leads-j
+bounds-leads-j c = omega (arith, few-jobs c.args.order c.requires, c.loop-j.invariant.0)
+
+pub loop-j-preserved : goal.loop-j-preserved
+loop-j-preserved c =
+    let l = c.loop-j in (
+      search rules,
+      record {
+        at = fill-at (λ (k v : ℕ). v ≡ lead last_due (get_or c.args.order.dues k (pos 0))) 0 l.leads l.j c.lead_of.result
+            (omega (arith, few-jobs c.args.order c.requires, l.invariant.0)) l.invariant.1.at (search (rules, machine-back));
+      },
+    )
