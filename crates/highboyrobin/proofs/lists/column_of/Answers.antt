@@ -16,7 +16,7 @@ returns-in_default g c =
     let i = c.loop-i.i in
     let short : length s.list.now ≤ s.group * i + s.place = search rules in
     c.loop-i.invariant ∙ padded-whole g.row.N i 0 _ (λ j l b.
-      get_or-eq_default s.list.now 0 (omega (arith, mul-le-mul_left s.group l, short)))
+    get_or-eq_default s.list.now 0 (omega (arith, mul-le-mul_left s.group l, short)))
 
 pub returns : goal.returns
 returns g c = c.loop-i.invariant ∙ let e : c.loop-i.i ≡ g.row.N = omega arith in rw e (padded-whole g.row.N g.row.N 0 _ (λ j l b. absurd (omega arith)))
