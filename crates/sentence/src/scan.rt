@@ -26,39 +26,37 @@ fn stored_at(mut dues: [i32; 16], done: u32, number: i32) -> [i32; 16]
 }
 
 // Behind a byte that is no digit the number is done, if there was one. Numbers are counted up to 100: no line has as many.
-fn other_byte(s: Numbers, b: u8) -> Numbers
-    requires { IfSome s.number (λ value. value < 100000000) }
-    ensures { result ≡ other_byte s b }
+fn other_byte(s: &mut Numbers, b: u8)
+    requires { IfSome s.old.number (λ value. value < 100000000) }
+    ensures { s.new ≡ other_byte s.old b }
 {
     let minus = b == b'-';
     let Some(value) = s.number else {
-        return Numbers { minus, ..s };
+        s.minus = minus;
+        return;
     };
-    Numbers {
+    *s = Numbers {
         number: None,
         minus,
         done: if s.done < 100 { s.done + 1 } else { s.done },
         first: if s.done == 0 { value } else { s.first },
         dues: stored_at(s.dues, s.done, with_sign(value, s.minus)),
-    }
+    };
 }
 
 // A digit goes behind the last seven.
-fn with_digit(s: Numbers, digit: u32) -> Numbers
+fn with_digit(s: &mut Numbers, digit: u32)
     requires { digit < 10 }
-    ensures { result ≡ with_digit s digit }
+    ensures { s.new ≡ with_digit s.old digit }
 {
     let last_seven = s.number.unwrap_or(0) % 10000000;
-    Numbers {
-        number: Some(last_seven * 10 + digit),
-        ..s
-    }
+    s.number = Some(last_seven * 10 + digit);
 }
 
 // One byte more.
-fn step(s: Numbers, b: u8) -> Numbers
-    requires { IfSome s.number (λ value. value < 100000000) }
-    ensures { (result ≡ stepped s b) × IfSome result.number (λ value. value < 100000000) }
+fn step(s: &mut Numbers, b: u8)
+    requires { IfSome s.old.number (λ value. value < 100000000) }
+    ensures { (s.new ≡ stepped s.old b) × IfSome s.new.number (λ value. value < 100000000) }
 {
     match b {
         b'0'..=b'9' => with_digit(s, u32::from(b - b'0')),
@@ -78,7 +76,7 @@ pub fn scan(line: &[u8]) -> Numbers
         dues: [0; 16],
     };
     for b in line {
-        s = step(s, *b);
+        step(&mut s, *b);
     }
     s
 }

@@ -5,7 +5,7 @@ use Rattle.sentence.proofs.scan.scan.Goals as goal
 pub loop-b-preserved : goal.loop-b-preserved
 loop-b-preserved c =
     let l = c.loop-b in
-    (c.step-s.ensures.1, scan_step l.s _ _ l.b-index c.step-s.ensures.0 (omega arith) ∙ l.invariant.1)
+    (c.step.ensures.1, scan_step l.s _ _ l.b-index c.step.ensures.0 (omega arith) ∙ l.invariant.1)
 
 pub returns : goal.returns
 returns c =
